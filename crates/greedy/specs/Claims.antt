@@ -1,0 +1,36 @@
+-- Demand 3: what is claimed of every accepted tray, over the definitions alone.
+use mathlib.Core.Path.{_≡_}
+use mathlib.Core.Bool.{Bool, true, false, _&&_}
+use mathlib.Core.List.{List, [], _∷_}
+use Prim.Native.Nat.{ℕ, _+_, _*_, _≤_}
+use lib.ListN.{length}
+use Rattle.words.specs.Words.{standsIn}
+use Rattle.trays.specs.Slips.{slipsOf, slip, numbers, total}
+use Rattle.trays.specs.Aside.{kept}
+use Rattle.trays.specs.Faults.{trayFault}
+use Rattle.greedy.specs.Joins.{plainJoins, saved}
+use Rattle.greedy.specs.Walk.{walkJoins}
+use Rattle.greedy.specs.Legends.{legendOf}
+
+-- Document 01: a text holds a slip whose letters stand in it as one stretch. Here: it holds every slip of K.
+abbrev pub holdsAll : List (List ℕ) → List ℕ → List ℕ → Bool
+holdsAll ss [] t = true
+holdsAll ss (i ∷ is) t = standsIn (slip ss i) t && holdsAll ss is t
+
+-- Document 01: kept letters is the sum of the kept slips' lengths.
+abbrev pub keptLetters : List (List ℕ) → ℕ
+keptLetters ss = total ss (kept ss (numbers ss))
+
+pub record Composed (ss : List (List ℕ)) : Type 0 where
+  -- the walk and the plain rule make one list, join by join and in order
+  pub one-list : walkJoins ss ≡ plainJoins ss
+  -- kept letters = saved + legend length
+  pub saving : keptLetters ss ≡ saved (plainJoins ss) + length (legendOf ss)
+  -- the legend holds every kept slip
+  pub legend-holds : holdsAll ss (kept ss (numbers ss)) (legendOf ss) ≡ true
+  -- any text that holds every kept slip saves at most twice as much
+  pub at-most-twice :
+      (t : List ℕ) → holdsAll ss (kept ss (numbers ss)) t ≡ true → keptLetters ss ≤ length t + 2 * saved (plainJoins ss)
+
+abbrev pub Demand-3 : Type 0
+Demand-3 = (s es : List ℕ) → trayFault s es .number ≡ 0 → Composed (slipsOf s es)

@@ -1,0 +1,80 @@
+-- The legend, laid chain after chain, and the places of the slips in it.
+--   Piece                 == a slip to be laid and its overlap with the slip laid before it in its chain
+--   chainFrom n js i o    == slip i with overlap o, and the pieces of the n - 1 slips to its right, or as many as there are
+--   pieces js K           == the chains one after another, by ascending number of their first slip
+--   spelled ss ps         == the letters of the pieces ps, laid
+--   legendFor counts ss M == the legend of the members M of a tray
+--   placeIn ss i p ps     == where slip i is laid, if the pieces ps are laid from place p on; 0 if it is not among them
+--   lowest p x t          == the lowest place at which x stands in t, counted from p
+--   placeFor counts ss M i == the place of slip i
+use mathlib.Core.Bool.{Bool, true, false, cond}
+use mathlib.Core.List.{List, [], _∷_}
+use Prim.Native.Nat.{ℕ, zero, suc, _+_, _-_}
+use lib.Dec.{eqb}
+use lib.ListN.{length, drop}
+use Rattle.words.specs.Lists.{each}
+use Rattle.words.specs.Words.{begins}
+use Rattle.trays.specs.Slips.{slip, numbers}
+use Rattle.trays.specs.Aside.{isAside, kept, counted}
+use Rattle.greedy.specs.Joins.{Join, rightOf, leftOf, plainFor}
+
+pub record Piece : Type 0 where
+  pub number : ℕ
+  pub overlap : ℕ
+
+abbrev pub piece : ℕ → ℕ → Piece
+piece i o = record { number = i; overlap = o }
+
+-- the overlap of slip i with its right neighbour
+abbrev pub overlapAfter : ℕ → List Join → ℕ
+overlapAfter i [] = 0
+overlapAfter i (j ∷ js) = elim (eqb i (j .left)) [ true ↦ j .overlap | false ↦ overlapAfter i js ]
+
+abbrev pub chainFrom : ℕ → List Join → ℕ → ℕ → List Piece
+chainFrom zero js i o = []
+chainFrom (suc n) js i o =
+    elim (eqb i 0) [ true ↦ [] | false ↦ piece i o ∷ chainFrom n js (rightOf i js) (overlapAfter i js) ]
+
+-- Document 01: a chain runs from a slip without a left neighbour; it has at most one slip more than there are joins.
+abbrev pub chainAt : List Join → ℕ → List Piece
+chainAt js i = elim (eqb (leftOf i js) 0) [ true ↦ chainFrom (suc (length js)) js i 0 | false ↦ [] ]
+
+-- Document 01: chains, single slips included, stand one after another by ascending number of their first slip.
+abbrev pub pieces : List Join → List ℕ → List Piece
+pieces js K = each (chainAt js) K
+
+-- Document 01: each slip adds its letters beyond the overlap.
+abbrev pub added : List (List ℕ) → Piece → List ℕ
+added ss p = drop (p .overlap) (slip ss (p .number))
+
+abbrev pub spelled : List (List ℕ) → List Piece → List ℕ
+spelled ss ps = each (added ss) ps
+
+abbrev pub piecesFor : (List ℕ → Bool) → List (List ℕ) → List ℕ → List Piece
+piecesFor counts ss M = let K = kept ss M in pieces (plainFor counts ss K) K
+
+abbrev pub legendFor : (List ℕ → Bool) → List (List ℕ) → List ℕ → List ℕ
+legendFor counts ss M = spelled ss (piecesFor counts ss M)
+
+-- the legend of a tray
+abbrev pub legendOf : List (List ℕ) → List ℕ
+legendOf ss = legendFor counted ss (numbers ss)
+
+abbrev pub placeIn : List (List ℕ) → ℕ → ℕ → List Piece → ℕ
+placeIn ss i here [] = 0
+placeIn ss i here (p ∷ ps) =
+    elim (eqb i (p .number)) [ true ↦ here - p .overlap | false ↦ placeIn ss i (here + length (added ss p)) ps ]
+
+abbrev pub lowest : ℕ → List ℕ → List ℕ → ℕ
+lowest p x [] = p
+lowest p x (y ∷ ys) = elim (begins x (y ∷ ys)) [ true ↦ p | false ↦ lowest (suc p) x ys ]
+
+-- Document 01, place: for a kept slip, where it was laid; for one set aside, the lowest place at which it stands.
+abbrev pub placeFor : (List ℕ → Bool) → List (List ℕ) → List ℕ → ℕ → ℕ
+placeFor counts ss M i =
+    elim (isAside ss M i)
+    [ true ↦ lowest 1 (slip ss i) (legendFor counts ss M) | false ↦ placeIn ss i 1 (piecesFor counts ss M) ]
+
+-- the place of a slip of a tray
+abbrev pub placeOf : List (List ℕ) → ℕ → ℕ
+placeOf ss i = placeFor counted ss (numbers ss) i

@@ -1,0 +1,5 @@
+-- The plain rule, the walk, the legend, and what is claimed of them.
+pub mod Joins
+pub mod Walk
+pub mod Legends
+pub mod Claims

@@ -1,0 +1,3 @@
+-- Finding: occurrences of slips in a text; states, steps and moves.
+pub mod Moves
+pub mod Occurrences

@@ -1,0 +1,27 @@
+-- What the calls on a tray answer, for every input.
+use mathlib.Core.Path.{_≡_}
+use mathlib.Core.List.{List, []}
+use Prim.Native.Nat.{ℕ, zero, suc}
+use Rattle.words.specs.Words.{overlapFor}
+use Rattle.trays.specs.declared.Refusal.{Refusal}
+use Rattle.trays.specs.declared.Pair.{Pair}
+use Rattle.trays.specs.Slips.{slipsOf, slip}
+use Rattle.trays.specs.Aside.{counted}
+use Rattle.trays.specs.Faults.{slipFault, pairFault}
+
+-- the letters of slip i, none if refused
+abbrev pub stretchOf : List ℕ → List ℕ → ℕ → List ℕ
+stretchOf s es i = elim (slipFault s es i .number) [ zero ↦ slip (slipsOf s es) i | suc n ↦ [] ]
+
+-- slip_letters: the letters handed out, and the refusal in the two lent numbers
+pub record Stretch (s es : List ℕ) (i : ℕ) (letters : List ℕ) (number detail : ℕ) : Type 0 where
+  pub letters-are : letters ≡ stretchOf s es i
+  pub number-is : number ≡ slipFault s es i .number
+  pub detail-is : detail ≡ slipFault s es i .detail
+
+-- pair_overlap: the refusal, and the overlap's letters, 0 if refused
+abbrev pub pairOf : List ℕ → List ℕ → ℕ → ℕ → Pair
+pairOf s es i j =
+    let f = pairFault s es i j in
+    let ss = slipsOf s es in
+    record { number = f .number; detail = f .detail; letters = elim (f .number) [ zero ↦ overlapFor counted (slip ss i) (slip ss j) | suc n ↦ 0 ] }

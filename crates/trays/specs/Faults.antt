@@ -1,0 +1,79 @@
+-- Refusals 1 to 6, 10 and 11 with their details, as the rows of document 01's table.
+--   row n b d     == the row numbered n with detail d if its condition b holds, else no refusal
+--   firstRow rs   == the first refusal of the rows, which are taken top to bottom
+--   trayRows      == place B, tray: 1 to 6
+--   trayFault     == the tray itself is turned back, or 0
+--   slipRow       == place B, request: 10
+--   pairRow       == place B, request: 11
+use mathlib.Core.Bool.{Bool, true, false, cond, _||_, not}
+use mathlib.Core.List.{List, [], _∷_, _++_}
+use Prim.Native.Nat.{ℕ, zero, suc, _+_}
+use lib.Dec.{eqb, ltb, leb}
+use lib.ListN.{length}
+use Rattle.words.specs.Lists.{any}
+use Rattle.trays.specs.declared.Refusal.{Refusal}
+use Rattle.trays.specs.Limits.{maxSlips, maxSlip, maxLetters}
+use Rattle.trays.specs.Slips.{slipsOf, isLetter}
+
+abbrev pub refusal : ℕ → ℕ → Refusal
+refusal n d = record { number = n; detail = d }
+
+abbrev pub accepted : Refusal
+accepted = refusal 0 0
+
+abbrev pub row : ℕ → Bool → ℕ → Refusal
+row n b d = cond b (refusal n d) accepted
+
+abbrev pub orElse : Refusal → Refusal → Refusal
+orElse f g = elim (f .number) [ zero ↦ g | suc n ↦ f ]
+
+abbrev pub firstRow : List Refusal → Refusal
+firstRow [] = accepted
+firstRow (r ∷ rs) = orElse r (firstRow rs)
+
+-- the lowest slip, counted from i, whose end is not above the one before; 0 for none
+abbrev pub notAbove : ℕ → ℕ → List ℕ → ℕ
+notAbove i here [] = 0
+notAbove i here (e ∷ es) = elim (leb e here) [ true ↦ i | false ↦ notAbove (suc i) e es ]
+
+-- the lowest slip over the limit; 0 for none
+abbrev pub tooLong : ℕ → ℕ → List ℕ → ℕ
+tooLong i here [] = 0
+tooLong i here (e ∷ es) = elim (ltb (here + maxSlip) e) [ true ↦ i | false ↦ tooLong (suc i) e es ]
+
+abbrev pub lastOr : ℕ → List ℕ → ℕ
+lastOr d [] = d
+lastOr d (e ∷ es) = lastOr e es
+
+-- the lowest slip with a byte outside the signs; 0 for none
+abbrev pub badSlip : ℕ → List (List ℕ) → ℕ
+badSlip i [] = 0
+badSlip i (x ∷ xs) = elim (any (λ b. not (isLetter b)) x) [ true ↦ i | false ↦ badSlip (suc i) xs ]
+
+-- the row numbered n with the slip d that is at fault, where d is not 0
+abbrev pub slipAt : ℕ → ℕ → Refusal
+slipAt n d = row n (leb 1 d) d
+
+abbrev pub trayRows : List ℕ → List ℕ → List Refusal
+trayRows s es =
+    row 1 (ltb maxSlips (length es)) 0
+    ∷ (slipAt 2 (notAbove 1 0 es)
+    ∷ (slipAt 3 (tooLong 1 0 es)
+    ∷ (row 4 (ltb maxLetters (length s)) 0
+    ∷ (row 5 (not (eqb (lastOr 0 es) (length s))) 0
+    ∷ (slipAt 6 (badSlip 1 (slipsOf s es)) ∷ [])))))
+
+abbrev pub trayFault : List ℕ → List ℕ → Refusal
+trayFault s es = firstRow (trayRows s es)
+
+abbrev pub slipRow : List ℕ → ℕ → Refusal
+slipRow es i = row 10 (eqb i 0 || ltb (length es) i) i
+
+abbrev pub slipFault : List ℕ → List ℕ → ℕ → Refusal
+slipFault s es i = firstRow (trayRows s es ++ (slipRow es i ∷ []))
+
+abbrev pub pairRow : ℕ → ℕ → Refusal
+pairRow i j = row 11 (eqb i j) i
+
+abbrev pub pairFault : List ℕ → List ℕ → ℕ → ℕ → Refusal
+pairFault s es i j = firstRow (trayRows s es ++ (slipRow es i ∷ (slipRow es j ∷ (pairRow i j ∷ []))))

@@ -1,0 +1,30 @@
+-- The limits of document 01, each named once.
+use Prim.Native.Nat.{ℕ}
+
+-- 1: a tray has at most so many slips
+abbrev pub maxSlips : ℕ
+maxSlips = 200
+
+-- 3: a slip has at most so many letters
+abbrev pub maxSlip : ℕ
+maxSlip = 40
+
+-- 4: a tray has at most so many letters
+abbrev pub maxLetters : ℕ
+maxLetters = 2000
+
+-- 12: a text has at most so many letters
+abbrev pub maxText : ℕ
+maxText = 2000
+
+-- 7: the work area has at least so many cells of 16 bits
+abbrev pub workNeed : ℕ
+workNeed = 32000
+
+-- 15, 16: a tray file has at most so many bytes, and the lent letters at least as many
+abbrev pub maxFile : ℕ
+maxFile = 16384
+
+-- 15: the lent ends are at least so many
+abbrev pub endsNeed : ℕ
+endsNeed = 1700

@@ -1,0 +1,44 @@
+-- A tray is a run of letters s and a list of ends es; its slips are numbered from 1.
+--   slipsOf s es   == the slips of a tray, as strings
+--   slip ss i      == the letters of slip i; no letters where there is no such slip
+--   numbers ss     == 1, 2, .. up to the count of slips
+--   isLetter b     == b is one of the 27 signs
+--   startOf es i   == where slip i starts, the end before it
+--   endOf es i     == where slip i ends
+--   total ss K     == the letters of the slips numbered in K, counted together
+use mathlib.Core.Bool.{Bool, _&&_, _||_}
+use mathlib.Core.List.{List, [], _∷_}
+use Prim.Native.Nat.{ℕ, zero, suc, _+_, _-_}
+use lib.Dec.{eqb, leb}
+use lib.ListN.{length, getD, take, drop}
+use Rattle.words.specs.Lists.{upFrom}
+
+-- Document 01: slip 1 runs from the start to the first end, slip i from the end before it to its own.
+abbrev pub slipsFrom : ℕ → List ℕ → List ℕ → List (List ℕ)
+slipsFrom here s [] = []
+slipsFrom here s (e ∷ es) = take (e - here) s ∷ slipsFrom e (drop (e - here) s) es
+
+abbrev pub slipsOf : List ℕ → List ℕ → List (List ℕ)
+slipsOf s es = slipsFrom 0 s es
+
+abbrev pub slip : List (List ℕ) → ℕ → List ℕ
+slip ss zero = []
+slip ss (suc i) = getD ss i []
+
+abbrev pub numbers : List (List ℕ) → List ℕ
+numbers ss = upFrom 1 (length ss)
+
+-- Document 01: capitals A to Z and the full stop.
+abbrev pub isLetter : ℕ → Bool
+isLetter b = eqb b 46 || (leb 65 b && leb b 90)
+
+abbrev pub endOf : List ℕ → ℕ → ℕ
+endOf es zero = 0
+endOf es (suc i) = getD es i 0
+
+abbrev pub startOf : List ℕ → ℕ → ℕ
+startOf es i = endOf es (i - 1)
+
+abbrev pub total : List (List ℕ) → List ℕ → ℕ
+total ss [] = 0
+total ss (i ∷ is) = length (slip ss i) + total ss is
