@@ -10,7 +10,7 @@ use mathlib.Core.List.{List, [], _∷_, _++_}
 use Prim.Native.Nat.{ℕ, zero, suc, _+_}
 use lib.Dec.{eqb, ltb, leb}
 use lib.ListN.{length}
-use Rattle.words.specs.Lists.{any}
+use Rattle.words.specs.Lists.{any, lastOr}
 use Rattle.trays.specs.declared.Refusal.{Refusal}
 use Rattle.trays.specs.Limits.{maxSlips, maxSlip, maxLetters}
 use Rattle.trays.specs.Slips.{slipsOf, isLetter}
@@ -40,10 +40,6 @@ notAbove i here (e ∷ es) = elim (leb e here) [ true ↦ i | false ↦ notAbove
 abbrev pub tooLong : ℕ → ℕ → List ℕ → ℕ
 tooLong i here [] = 0
 tooLong i here (e ∷ es) = elim (ltb (here + maxSlip) e) [ true ↦ i | false ↦ tooLong (suc i) e es ]
-
-abbrev pub lastOr : ℕ → List ℕ → ℕ
-lastOr d [] = d
-lastOr d (e ∷ es) = lastOr e es
 
 -- the lowest slip with a byte outside the signs; 0 for none
 abbrev pub badSlip : ℕ → List (List ℕ) → ℕ

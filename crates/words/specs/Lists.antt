@@ -6,6 +6,7 @@
 --   insert lt x ys  == ys, ascending by lt, with x put into its place unless it is there
 --   inOrder lt xs   == the different members of xs, ascending by lt
 --   headOr, tailOf  == the first member, or the default; the others
+--   lastOr d xs     == the last member, or the default d
 use mathlib.Core.Bool.{Bool, true, false, _||_}
 use mathlib.Core.List.{List, [], _∷_, _++_}
 use Prim.Native.Nat.{ℕ, zero, suc}
@@ -42,3 +43,7 @@ headOr d (x ∷ xs) = x
 abbrev pub tailOf : {A : Type 0} → List A → List A
 tailOf [] = []
 tailOf (x ∷ xs) = xs
+
+abbrev pub lastOr : {A : Type 0} → A → List A → A
+lastOr d [] = d
+lastOr d (x ∷ xs) = lastOr x xs

@@ -1,0 +1,2 @@
+-- Laws of the plain rule, the walk and the legend.
+pub mod Chains
