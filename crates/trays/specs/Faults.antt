@@ -1,6 +1,7 @@
 -- Refusals 1 to 6, 10 and 11 with their details, as the rows of document 01's table.
 --   row n b d     == the row numbered n with detail d if its condition b holds, else no refusal
 --   firstRow rs   == the first refusal of the rows, which are taken top to bottom
+--   badPlace i s  == the place, counted from i, of the first byte outside the signs; 0 for none
 --   trayRows      == place B, tray: 1 to 6
 --   trayFault     == the tray itself is turned back, or 0
 --   slipRow       == place B, request: 10
@@ -45,6 +46,10 @@ tooLong i here (e ∷ es) = elim (ltb (here + maxSlip) e) [ true ↦ i | false �
 abbrev pub badSlip : ℕ → List (List ℕ) → ℕ
 badSlip i [] = 0
 badSlip i (x ∷ xs) = elim (any (λ b. not (isLetter b)) x) [ true ↦ i | false ↦ badSlip (suc i) xs ]
+
+abbrev pub badPlace : ℕ → List ℕ → ℕ
+badPlace i [] = 0
+badPlace i (b ∷ bs) = elim (isLetter b) [ true ↦ badPlace (suc i) bs | false ↦ i ]
 
 -- the row numbered n with the slip d that is at fault, where d is not 0
 abbrev pub slipAt : ℕ → ℕ → Refusal

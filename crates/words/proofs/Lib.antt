@@ -1,5 +1,13 @@
 -- Laws and computed specimens of the definitions.
 pub mod Tests
 pub mod Members
+pub mod Orders
+pub mod Strings
+pub mod CommonPrefix
+pub mod Overlaps
 pub mod Sums
+pub mod Maps
 pub mod Specimens
+pub mod CommonLoop
+pub mod OverlapLoop
+pub mod Picks

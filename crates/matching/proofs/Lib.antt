@@ -1,0 +1,5 @@
+-- The theory of the prefix automaton.
+pub mod Endings
+pub mod States
+pub mod Finds
+pub mod AsideNodes

@@ -1,0 +1,5 @@
+-- Laws of trays.
+pub mod CheckLoops
+pub mod Kept
+pub mod BadSlip
+pub mod Rows

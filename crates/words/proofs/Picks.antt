@@ -1,0 +1,84 @@
+-- Members picked by a test, and members by their place.
+--   getD xs i d   == the member of xs at place i, from 0
+-- Tests that agree on the members of a list pick the same ones. A member stands at some place, and in a list that ascends by an
+-- irreflexive relation at one place only.
+use mathlib.Core.Path.{_≡_, refl, sym, ap, _∙_}
+use mathlib.Core.Bool.{Bool, false}
+use mathlib.Core.List.{List, [], _∷_, List·Memᴰ·head, List·Memᴰ·tail}
+use mathlib.Core.Logic.{inl, inr}
+use Prim.Native.Nat.{ℕ, zero, suc, _<_}
+use native.Mathlib.Decide.{decLt}
+use native.Mathlib.Omega.{arith}
+use lib.ListN.{length, getD}
+use Rattle.words.specs.Lists.{each, those}
+use Rattle.words.proofs.Tests.{tell}
+use Rattle.words.proofs.Members.{In, Asc, those-yes, those-no}
+
+pub those-same : {A : Type 0} (f g : A → Bool) (xs : List A) → ((a : A) → In a xs → f a ≡ g a) → those f xs ≡ those g xs
+those-same f g [] h = refl
+those-same f g (x ∷ xs) h =
+    let e = h x (List·Memᴰ·head refl) in
+    let r = those-same f g xs (λ a m. h a (List·Memᴰ·tail m)) in
+    elim (tell (g x)) [
+      | inl y ↦ those-yes f x xs (e ∙ y) ∙ ap (λ l. x ∷ l) r ∙ sym (those-yes g x xs y)
+      | inr n ↦ those-no f x xs (e ∙ n) ∙ r ∙ sym (those-no g x xs n)
+    ]
+
+pub those-none : {A : Type 0} (t : A → Bool) (xs : List A) → ((a : A) → In a xs → t a ≡ false) → those t xs ≡ []
+those-none t [] h = refl
+those-none t (x ∷ xs) h = those-no t x xs (h x (List·Memᴰ·head refl)) ∙ those-none t xs (λ a m. h a (List·Memᴰ·tail m))
+
+-- what a test leaves out may be left out before
+pub those-twice : {A : Type 0} (f g : A → Bool) (xs : List A) → ((a : A) → g a ≡ false → f a ≡ false) → those f (those g xs) ≡ those f xs
+those-twice f g [] h = refl
+those-twice f g (x ∷ xs) h =
+    let r = those-twice f g xs h in
+    elim (tell (g x)) [
+      | inl y ↦ rw (those-yes g x xs y) (elim (tell (f x)) [
+        | inl t ↦ those-yes f x (those g xs) t ∙ ap (λ l. x ∷ l) r ∙ sym (those-yes f x xs t)
+        | inr t ↦ those-no f x (those g xs) t ∙ r ∙ sym (those-no f x xs t)
+      ])
+      | inr n ↦ rw (those-no g x xs n, those-no f x xs (h x n)) r
+    ]
+
+pub each-those : {A B : Type 0} (f : A → List B) (t : A → Bool) (xs : List A) → ((a : A) → t a ≡ false → f a ≡ []) → each f (those t xs) ≡ each f xs
+each-those f t [] h = refl
+each-those f t (x ∷ xs) h =
+    let r = each-those f t xs h in
+    elim (tell (t x)) [ inl y ↦ rw (those-yes t x xs y, r) | inr n ↦ rw (those-no t x xs n, h x n) r ]
+
+-- an ascending list ascends by any relation that follows between its members
+pub asc-turn : {A : Type 0} (R S : A → A → Type 0) (xs : List A) → ((a b : A) → In a xs → In b xs → R a b → S a b) → Asc R xs → Asc S xs
+asc-turn R S [] f p = tt
+asc-turn R S (x ∷ xs) f p = (
+  λ y m. f x y (List·Memᴰ·head refl) (List·Memᴰ·tail m) (p .0 y m),
+  asc-turn R S xs (λ a b i j. f a b (List·Memᴰ·tail i) (List·Memᴰ·tail j)) (p .1),
+)
+
+module _ {A : Type 0} (d : A) where
+  pub getD-in : (xs : List A) (i : ℕ) → i < length xs → In (getD xs i d) xs
+  getD-in [] i h = absurd (omega arith)
+  getD-in (x ∷ xs) zero h = List·Memᴰ·head refl
+  getD-in (x ∷ xs) (suc i) h = List·Memᴰ·tail (getD-in xs i (omega arith))
+
+  pub in-getD : {a : A} {xs : List A} → In a xs → (i : ℕ) × (i < length xs) × (getD xs i d ≡ a)
+  in-getD (List·Memᴰ·head e) = (0, omega arith, sym e)
+  in-getD (List·Memᴰ·tail m) = let r = in-getD m in (suc (r .0), let h = r .1 in omega arith, r .2)
+
+  pub asc-getD : (R : A → A → Type 0) (xs : List A) (i k : ℕ) → Asc R xs → i < k → k < length xs → R (getD xs i d) (getD xs k d)
+  asc-getD R [] i k p h l = absurd (omega arith)
+  asc-getD R (x ∷ xs) i zero p h l = absurd (omega arith)
+  asc-getD R (x ∷ xs) zero (suc k) p h l = p .0 (getD xs k d) (getD-in xs k (omega arith))
+  asc-getD R (x ∷ xs) (suc i) (suc k) p h l = asc-getD R xs i k (p .1) (omega arith) (omega arith)
+
+  pub asc-differ :
+      (R : A → A → Type 0) → ((a : A) → R a a → ⊥) → (xs : List A) (i k : ℕ)
+      → Asc R xs → i < length xs → k < length xs → getD xs i d ≡ getD xs k d → i ≡ k
+  asc-differ R irr xs i k p h l e =
+      elim (decLt i k) [
+        | yes q ↦ absurd (irr (getD xs k d) (rw e at (asc-getD R xs i k p q l)))
+        | no q ↦ elim (decLt k i) [
+          | yes r ↦ absurd (irr (getD xs k d) (rw e at (asc-getD R xs k i p r h)))
+          | no r ↦ omega arith
+        ]
+      ]
