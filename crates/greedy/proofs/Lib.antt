@@ -4,3 +4,11 @@ pub mod Relabel
 pub mod Letters
 pub mod Takes
 pub mod Visits
+pub mod Arcs
+pub mod OneList
+pub mod Nodes
+pub mod Scans
+pub mod Represent
+pub mod Links
+pub mod TextOrder
+pub mod Bound

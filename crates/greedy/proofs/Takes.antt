@@ -1,12 +1,13 @@
 -- Taking arcs one after another.
 --   by-zero, some-eqb    == cases on whether there is a neighbour, and the test that there is one
+--   in-cond              == what a member of `cond b (a ∷ []) []` tells
 --   Sound js             == every left slip of js is numbered from 1
 --   free l r js ≡ false  == the pair l, r is refused
 --   Cover R xs js c      == the pair of c is refused, or xs has an arc of that pair that c does not precede by R
 -- A pair that is refused stays refused: a neighbour stays, and so does the last slip of a chain until it gets a neighbour. After an
 -- arc has been considered its pair is refused. So arcs may be left out that follow another one of the same pair (take-thin).
 use mathlib.Core.Path.{_≡_, refl, sym, _∙_}
-use mathlib.Core.Bool.{false, and-false}
+use mathlib.Core.Bool.{Bool, true, false, cond, and-false}
 use mathlib.Core.List.{List, [], _∷_, _++_, List·Memᴰ·head as here, List·Memᴰ·tail as there, List·Memᴰ·not-nil, List·Memᴰ·append-cases, List·Memᴰ·eq-of-singleton}
 use mathlib.Core.Logic.{_⊎_, inl, inr}
 use Prim.Native.Nat.{ℕ, zero, suc, _≤_}
@@ -27,6 +28,10 @@ by-zero (suc n) z s = s (omega arith)
 
 pub some-eqb : (n : ℕ) → 1 ≤ n → eqb n 0 ≡ false
 some-eqb n h = ne-eqb n 0 (λ e. omega arith)
+
+pub in-cond : {A : Type 0} {a c : A} (b : Bool) → In c (cond b (a ∷ []) []) → (b ≡ true) × (c ≡ a)
+in-cond true m = (refl, List·Memᴰ·eq-of-singleton m)
+in-cond false m = absurd (List·Memᴰ·not-nil m)
 
 pub rightOf-append : (i : ℕ) (js ks : List Join) → 1 ≤ rightOf i js → rightOf i (js ++ ks) ≡ rightOf i js
 rightOf-append i [] ks h = absurd (omega arith)
@@ -112,6 +117,9 @@ pub take-none :
     (xs js : List Join) → ((x : Join) → In x xs → free (x .left) (x .right) js ≡ false) → takeArcs xs js ≡ js
 take-none [] js f = refl
 take-none (x ∷ xs) js f = rw (f x (here refl)) (take-none xs js (λ y m. f y (there m)))
+
+pub sound-nil : Sound []
+sound-nil j m = absurd (List·Memᴰ·not-nil m)
 
 pub sound-arc : (a : Join) (js : List Join) → 1 ≤ a .left → Sound js → Sound (takeArc a js)
 sound-arc a js h s =

@@ -50,8 +50,7 @@ module _ (ps : List (List ℕ)) where
       end-cases (longest-most ps x t e n)
       (λ w. (a, t, b, sym w))
       (λ c v w r.
-      let node : beginsSome (c ∷ v) ps ≡ true =
-      elim (longest-node ps t) [ inl z ↦ absurd (omega (arith, ap length (sym z ∙ w))) | inr z ↦ rw w at z ] in
+      let node : beginsSome (c ∷ v) ps ≡ true = elim (longest-node ps t) [ inl z ↦ absurd (omega (arith, ap length (sym z ∙ w))) | inr z ↦ rw w at z ] in
       end-fail f c v x (omega (arith, longest-length ps t, ap length w)) node n r)
 
   pub stands-inner : (x y : List ℕ) → Node ps x → beginsSome y ps ≡ true → length x < length y → standsIn x y ≡ true → Inner ps x
@@ -88,7 +87,7 @@ module _ (ss : List (List ℕ)) (i : ℕ) where
           | inr l ↦ let b = both (ltb k i) _ l in inr (k, p, ltb-true k i (b .0), same-is (slip ss i) (slip ss k) (b .1))
         ]
 
-    -- a node longer than the slip, in every string that begins with which the slip stands
+    -- a longer node in which the slip stands
     longer-aside : (y : List ℕ) → beginsSome y ps ≡ true → length (slip ss i) < length y → standsIn (slip ss i) y ≡ true → isAside ss M i ≡ true
     longer-aside y n h s =
         let (k, m, b) = some-slip ss M y n in

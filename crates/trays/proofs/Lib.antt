@@ -3,3 +3,5 @@ pub mod CheckLoops
 pub mod Kept
 pub mod BadSlip
 pub mod Rows
+pub mod Accepted
+pub mod Requests

@@ -1,5 +1,5 @@
 -- Rows of the table: the first one that holds, and what the tray check finds row by row.
---   or-zero, or-some   == the two cases of orElse
+--   or-zero, or-some   == the two cases of orElse; both-silent, if neither speaks
 --   rows-append        == rows are taken top to bottom, one part after another
 --   check-..           == the ways through check_tray
 use mathlib.Core.Path.{_≡_, refl, sym, _∙_, ap}
@@ -28,14 +28,23 @@ or-some f g h = go (f .number) refl
     go zero e = absurd (omega arith)
     go (suc n) e = ap {B = Refusal} (λ (m : ℕ). elim m [ zero ↦ g | suc k ↦ f ]) e
 
-by-number : {P : Type 0} (f : Refusal) → (f .number ≡ 0 → P) → (1 ≤ f .number → P) → P
+pub by-number : {P : Type 0} (f : Refusal) → (f .number ≡ 0 → P) → (1 ≤ f .number → P) → P
 by-number {P} f z s = go (f .number) refl
   where
     go : (n : ℕ) → f .number ≡ n → P
     go zero e = z e
     go (suc n) e = s (omega arith)
 
-or-assoc : (f g h : Refusal) → orElse (orElse f g) h ≡ orElse f (orElse g h)
+pub both-silent : (f g : Refusal) → orElse f g .number ≡ 0 → (f .number ≡ 0) × (g .number ≡ 0)
+both-silent f g h =
+    by-number f
+    (λ z. (z, rw (or-zero f g z) at h))
+    (λ p. absurd (no (f .number) p (rw (or-some f g p) at h)))
+  where
+    no : (n : ℕ) → 1 ≤ n → n ≡ 0 → ⊥
+    no n a b = omega arith
+
+pub or-assoc : (f g h : Refusal) → orElse (orElse f g) h ≡ orElse f (orElse g h)
 or-assoc f g h = by-number f (λ e. rw (or-zero f g e, or-zero f (orElse g h) e)) (λ e. rw (or-some f g e, or-some f h e, or-some f (orElse g h) e))
 
 pub rows-append : (xs ys : List Refusal) → firstRow (xs ++ ys) ≡ orElse (firstRow xs) (firstRow ys)
@@ -43,7 +52,7 @@ rows-append [] ys = refl
 rows-append (x ∷ xs) ys = rw (rows-append xs ys) (sym (or-assoc x (firstRow xs) (firstRow ys)))
 
 -- rows 2 and 3 are silent: the ends rise, and no slip is too long
-slip-zero : (n d : ℕ) → slipAt (suc n) d .number ≡ 0 → d ≡ 0
+pub slip-zero : (n d : ℕ) → slipAt (suc n) d .number ≡ 0 → d ≡ 0
 slip-zero n zero h = refl
 slip-zero n (suc d) h = absurd (no (rw (le-leb 1 (suc d) (omega arith)) at h))
   where
@@ -63,9 +72,11 @@ module _ (s es : List ℕ) where
       orElse (row 4 (ltb maxLetters (length s)) 0) (orElse (row 5 (not (eqb (lastOr 0 es) (length s))) 0) (orElse (slipAt 6 (badSlip 1 (slipsOf s es))) accepted))
 
   pub check-many : maxSlips < length es → refusal 1 0 ≡ trayFault s es
+  unfolding trayFault
   check-many h = rw (lt-ltb maxSlips (length es) h)
 
   few : length es ≤ maxSlips → trayFault s es ≡ orElse (endsFault es) rest
+  unfolding trayFault
   few h =
       rw (le-ltb maxSlips (length es) h)
       (rows-append (slipAt 2 (notAbove 1 0 es) ∷ (slipAt 3 (tooLong 1 0 es) ∷ []))

@@ -2,12 +2,15 @@
 --   noteLong     == the first slip that is too long, after one more slip
 --   endsFault    == rows 2 and 3
 --   slipHolding  == the slip, counted from i, that holds a place of the letters
+--   spanOf       == where a slip starts and ends
 use mathlib.Core.Bool.{true, false, cond}
 use mathlib.Core.List.{List, [], _∷_}
 use Prim.Native.Nat.{ℕ, zero, suc, _+_}
 use lib.Dec.{ltb, leb}
 use Rattle.trays.specs.declared.Refusal.{Refusal}
+use Rattle.trays.specs.declared.Span.{Span}
 use Rattle.trays.specs.Limits.{maxSlip}
+use Rattle.trays.specs.Slips.{startOf, endOf}
 use Rattle.trays.specs.Faults.{firstRow, slipAt, notAbove, tooLong}
 
 abbrev pub firstOf : ℕ → ℕ → ℕ
@@ -23,3 +26,6 @@ endsFault es = firstRow (slipAt 2 (notAbove 1 0 es) ∷ (slipAt 3 (tooLong 1 0 e
 abbrev pub slipHolding : ℕ → ℕ → List ℕ → ℕ
 slipHolding i p [] = 0
 slipHolding i p (e ∷ es) = elim (leb p e) [ true ↦ i | false ↦ slipHolding (suc i) p es ]
+
+abbrev pub spanOf : List ℕ → ℕ → Span
+spanOf es i = record { start = startOf es i; end = endOf es i }

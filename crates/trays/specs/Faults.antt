@@ -64,17 +64,17 @@ trayRows s es =
     ∷ (row 5 (not (eqb (lastOr 0 es) (length s))) 0
     ∷ (slipAt 6 (badSlip 1 (slipsOf s es)) ∷ [])))))
 
-abbrev pub trayFault : List ℕ → List ℕ → Refusal
+unfoldable pub trayFault : List ℕ → List ℕ → Refusal
 trayFault s es = firstRow (trayRows s es)
 
 abbrev pub slipRow : List ℕ → ℕ → Refusal
 slipRow es i = row 10 (eqb i 0 || ltb (length es) i) i
 
-abbrev pub slipFault : List ℕ → List ℕ → ℕ → Refusal
+unfoldable pub slipFault : List ℕ → List ℕ → ℕ → Refusal
 slipFault s es i = firstRow (trayRows s es ++ (slipRow es i ∷ []))
 
 abbrev pub pairRow : ℕ → ℕ → Refusal
 pairRow i j = row 11 (eqb i j) i
 
-abbrev pub pairFault : List ℕ → List ℕ → ℕ → ℕ → Refusal
+unfoldable pub pairFault : List ℕ → List ℕ → ℕ → ℕ → Refusal
 pairFault s es i j = firstRow (trayRows s es ++ (slipRow es i ∷ (slipRow es j ∷ (pairRow i j ∷ []))))

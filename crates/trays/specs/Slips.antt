@@ -37,7 +37,8 @@ endOf es zero = 0
 endOf es (suc i) = getD es i 0
 
 abbrev pub startOf : List ℕ → ℕ → ℕ
-startOf es i = endOf es (i - 1)
+startOf es zero = 0
+startOf es (suc i) = endOf es i
 
 abbrev pub total : List (List ℕ) → List ℕ → ℕ
 total ss [] = 0

@@ -3,7 +3,7 @@
 -- Tests that agree on the members of a list pick the same ones. A member stands at some place, and in a list that ascends by an
 -- irreflexive relation at one place only.
 use mathlib.Core.Path.{_≡_, refl, sym, ap, _∙_}
-use mathlib.Core.Bool.{Bool, false}
+use mathlib.Core.Bool.{Bool, true, false, _&&_}
 use mathlib.Core.List.{List, [], _∷_, List·Memᴰ·head, List·Memᴰ·tail}
 use mathlib.Core.Logic.{inl, inr}
 use Prim.Native.Nat.{ℕ, zero, suc, _<_}
@@ -28,6 +28,22 @@ pub those-none : {A : Type 0} (t : A → Bool) (xs : List A) → ((a : A) → In
 those-none t [] h = refl
 those-none t (x ∷ xs) h = those-no t x xs (h x (List·Memᴰ·head refl)) ∙ those-none t xs (λ a m. h a (List·Memᴰ·tail m))
 
+pub those-all : {A : Type 0} (t : A → Bool) (xs : List A) → ((a : A) → In a xs → t a ≡ true) → those t xs ≡ xs
+those-all t [] h = refl
+those-all t (x ∷ xs) h = those-yes t x xs (h x (List·Memᴰ·head refl)) ∙ ap (λ l. x ∷ l) (those-all t xs (λ a m. h a (List·Memᴰ·tail m)))
+
+pub those-and : {A : Type 0} (f g : A → Bool) (xs : List A) → those (λ a. f a && g a) xs ≡ those g (those f xs)
+those-and f g [] = refl
+those-and f g (x ∷ xs) =
+    let r = those-and f g xs in
+    elim (tell (f x)) [
+      | inl y ↦ rw (those-yes f x xs y) (elim (tell (g x)) [
+        | inl t ↦ those-yes (λ a. f a && g a) x xs (rw (y, t)) ∙ ap (λ l. x ∷ l) r ∙ sym (those-yes g x (those f xs) t)
+        | inr t ↦ those-no (λ a. f a && g a) x xs (rw (y, t)) ∙ r ∙ sym (those-no g x (those f xs) t)
+      ])
+      | inr n ↦ rw (those-no f x xs n) (those-no (λ a. f a && g a) x xs (rw n) ∙ r)
+    ]
+
 -- what a test leaves out may be left out before
 pub those-twice : {A : Type 0} (f g : A → Bool) (xs : List A) → ((a : A) → g a ≡ false → f a ≡ false) → those f (those g xs) ≡ those f xs
 those-twice f g [] h = refl
@@ -41,7 +57,8 @@ those-twice f g (x ∷ xs) h =
       | inr n ↦ rw (those-no g x xs n, those-no f x xs (h x n)) r
     ]
 
-pub each-those : {A B : Type 0} (f : A → List B) (t : A → Bool) (xs : List A) → ((a : A) → t a ≡ false → f a ≡ []) → each f (those t xs) ≡ each f xs
+pub each-those : {A B : Type 0} (f : A → List B) (t : A → Bool) (xs : List A) → ((a : A) → t a ≡ false → f a ≡ [])
+    → each f (those t xs) ≡ each f xs
 each-those f t [] h = refl
 each-those f t (x ∷ xs) h =
     let r = each-those f t xs h in

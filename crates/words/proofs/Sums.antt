@@ -5,17 +5,17 @@
 --   held x ys   == how often x is in ys
 -- Two lists with equal sums for every f are orders of one another, and a number is a member where it is held at least once: so
 -- membership and order are arithmetic.
-use mathlib.Core.Path.{_≡_, refl, ap, sym, subst}
-use mathlib.Core.Bool.{Bool, true, false, cond}
-use mathlib.Core.List.{List, [], _∷_, _++_, List·Memᴰ·head, List·Memᴰ·tail, List·Memᴰ·cases-cons, List·Memᴰ·not-nil}
-use mathlib.Core.Logic.{_⊎_, inl, inr}
-use Prim.Native.Nat.{ℕ, zero, suc, _+_, _≤_, _<_}
+use mathlib.Core.Path.{_≡_, refl, ap, sym}
+use mathlib.Core.Bool.{cond}
+use mathlib.Core.List.{List, [], _∷_, _++_, List·Memᴰ·head, List·Memᴰ·tail, List·Memᴰ·not-nil}
+use mathlib.Core.Logic.{inl, inr}
+use Prim.Native.Nat.{ℕ, _+_, _≤_, _<_}
 use native.Mathlib.Omega.{arith}
 use lib.Dec.{eqb}
 use borrow.Author.Tests.{eqb-true, eqb-false, eq-eqb, ne-eqb}
 use Rattle.words.specs.Lists.{lastOr}
-use Rattle.words.proofs.Tests.{by-test, tell}
-use Rattle.words.proofs.Members.{In, Asc}
+use Rattle.words.proofs.Tests.{tell}
+use Rattle.words.proofs.Members.{In, Asc, by-in}
 
 abbrev pub sum : {A : Type 0} → (A → ℕ) → List A → ℕ
 sum f [] = 0
@@ -55,6 +55,13 @@ pub all-split : {A : Type 0} (P : A → Type 0) (X Y : List A) → All P (X ++ Y
 all-split P [] Y p = (tt, p)
 all-split P (x ∷ X) Y p = let r = all-split P X Y (p .1) in ((p .0, r .0), r .1)
 
+-- a positive sum has a positive summand, of which holds what holds of all
+pub all-cut : {A : Type 0} (P : A → Type 0) (f : A → ℕ) (X : List A) → All P X → 1 ≤ sum f X
+    → (U : List A) × (x : A) × (W : List A) × (X ≡ U ++ (x ∷ W)) × P x × (1 ≤ f x)
+all-cut P f X p h =
+    let r = sum-cut f X h in
+    (r .0, r .1, r .2, r .3, all-split P (r .0) (r .1 ∷ r .2) (rw (r .3) at p) .1 .0, r .4)
+
 -- what holds where two sums have no summand
 pub all-where : {A : Type 0} {P Q : A → Type 0} (f g : A → ℕ) → ((x : A) → P x → f x ≡ 0 → g x ≡ 0 → Q x) → (X : List A)
     → All P X → sum f X ≡ 0 → sum g X ≡ 0 → All Q X
@@ -68,8 +75,7 @@ all-in P (x ∷ X) h = (h x (List·Memᴰ·head refl), all-in P X (λ y m. h y (
 
 pub all-at : {A : Type 0} (P : A → Type 0) (X : List A) (x : A) → All P X → In x X → P x
 all-at P [] x p m = absurd (List·Memᴰ·not-nil m)
-all-at P (y ∷ X) x p m =
-    elim (List·Memᴰ·cases-cons m) [ inl e ↦ subst P (sym e) (p .0) | inr n ↦ all-at P X x (p .1) n ]
+all-at P (y ∷ X) x p m = by-in m (λ e. rw e (p .0)) (λ n. all-at P X x (p .1) n)
 
 -- a member is held, and what is held is a member
 is-same : (x y : ℕ) → x ≡ y → is x y ≡ 1
@@ -80,8 +86,7 @@ is-other x y e = rw (ne-eqb x y e)
 
 pub in-held : (x : ℕ) (X : List ℕ) → In x X → 1 ≤ held x X
 in-held x [] m = absurd (List·Memᴰ·not-nil m)
-in-held x (y ∷ X) m =
-    elim (List·Memᴰ·cases-cons m) [ inl e ↦ omega (arith, is-same x y e) | inr n ↦ omega (arith, in-held x X n) ]
+in-held x (y ∷ X) m = by-in m (λ e. omega (arith, is-same x y e)) (λ n. omega (arith, in-held x X n))
 
 pub held-in : (x : ℕ) (X : List ℕ) → 1 ≤ held x X → In x X
 held-in x [] h = absurd (omega arith)
