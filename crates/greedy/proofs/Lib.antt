@@ -12,3 +12,4 @@ pub mod Represent
 pub mod Links
 pub mod TextOrder
 pub mod Bound
+pub mod Demand3

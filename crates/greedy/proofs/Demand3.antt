@@ -1,0 +1,32 @@
+-- Demand 3, whole: the statement is Claims.Demand-3; it holds for every list of slips, accepted or not.
+use mathlib.Core.List.{List}
+use Prim.Native.Nat.{ℕ, _≤_, _<_}
+use lib.ListN.{length}
+use Rattle.words.specs.Lists.{upFrom}
+use Rattle.words.proofs.Members.{In, Asc, in-upFrom, asc-upFrom}
+use Rattle.trays.specs.Slips.{numbers, slipsOf}
+use Rattle.trays.specs.Aside.{counted}
+use Rattle.greedy.specs.Claims.{Composed, Demand-3}
+use Rattle.greedy.proofs.OneList.{walk-is-plain}
+use Rattle.greedy.proofs.Letters.{saving-of, holds-of}
+use Rattle.greedy.proofs.Bound.{kept-rep, kept-at-most-twice}
+
+-- the numbers of a tray's slips rise from 1
+pub numbers-rise : (ss : List (List ℕ)) → Asc _<_ (numbers ss)
+numbers-rise ss = asc-upFrom 1 (length ss)
+
+pub numbers-positive : (ss : List (List ℕ)) (i : ℕ) → In i (numbers ss) → 1 ≤ i
+numbers-positive ss i h = in-upFrom 1 (length ss) h .0
+
+pub composed : (ss : List (List ℕ)) → Composed ss
+composed ss =
+    let r = kept-rep ss (numbers ss) (numbers-rise ss) (numbers-positive ss) counted in
+    record {
+      one-list = walk-is-plain ss;
+      saving = saving-of counted ss (r .1);
+      legend-holds = holds-of counted ss (r .1);
+      at-most-twice = kept-at-most-twice ss (numbers ss) (numbers-rise ss) (numbers-positive ss);
+    }
+
+pub demand-3 : Demand-3
+demand-3 s es accepted = composed (slipsOf s es)

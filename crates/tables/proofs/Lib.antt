@@ -1,0 +1,2 @@
+-- Laws of tables, and the proofs of the functions on them.
+pub mod Tables

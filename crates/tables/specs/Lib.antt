@@ -1,0 +1,2 @@
+-- Tables in a lent work area.
+pub mod Tables

@@ -1,0 +1,47 @@
+// Tables of 16-bit cells at offsets of one lent work area: a cell is read by `at` and written by `put`.
+ghost use mathlib.Core.Path.{_≡_};
+ghost use Prim.Native.Nat.{_+_, _<_, _≤_};
+ghost use lib.ListN.{length, replicate};
+ghost use Rattle.tables.specs.Tables.{Got, Put, Room, Filled};
+
+// A cell as a number, and a number as a cell.
+pub fn wide(x: u16) -> usize
+    ensures { λ r. ⌜ (r ≡ x) × (r < 65536) ⌝ }
+{
+    x as usize
+}
+
+pub fn narrow(x: usize) -> u16
+    requires { ⌜ x < 65536 ⌝ }
+    ensures { λ r. ⌜ r ≡ x ⌝ }
+{
+    x as u16
+}
+
+// What stands in cell `i` of the table at `base`.
+pub fn at(work: &[u16], base: usize, i: usize) -> usize
+    requires { ⌜ base + i < length (now work) ⌝ }
+    ensures { λ r. ⌜ Got (now (work .entry)) base i r ⌝ }
+{
+    wide(work[base + i])
+}
+
+// Puts `x` into cell `i` of the table at `base`.
+pub fn put(work: &mut [u16], base: usize, i: usize, x: usize)
+    requires { ⌜ Room (now work) base i x ⌝ }
+    ensures { λ _. ⌜ Put (now (work .entry)) base i x (now (work .exit)) ⌝ }
+{
+    work[base + i] = narrow(x);
+}
+
+// Puts 0 into the `n` cells of the table at `base`.
+pub fn clear(work: &mut [u16], base: usize, n: usize)
+    requires { ⌜ base + n ≤ length (now work) ⌝ }
+    ensures { λ _. ⌜ Filled base n (replicate n 0) (now (work .entry)) (now (work .exit)) ⌝ }
+{
+    let mut i = 0;
+    while i < n {
+        put(work, base, i, 0);
+        i += 1;
+    }
+}
