@@ -1,0 +1,90 @@
+-- What the cells of each table mean, over the slips ss of a tray with ends es and its members M. A table is read as a function of its index:
+-- `cell w BASE` of the work area w.
+--   cell w base i         == cell i of the table at base
+--   patterns ss M         == the letters of the members
+--   AtIs, OwnIs, ..       == the meaning of the table AT, OWN, .. (see Layout)
+--   FailUpTo ps k fail    == the failure links of the nodes up to k are right
+--   Linked next i xs      == from i along next run the numbers xs, then 0
+use mathlib.Core.Path.{_≡_}
+use mathlib.Core.Bool.{Bool, _&&_}
+use mathlib.Core.List.{List, [], _∷_, _++_, map}
+use Prim.Native.Nat.{ℕ, suc, _+_, _≤_, _<_}
+use lib.Dec.{ltb}
+use lib.ListN.{length, getD, take}
+use Rattle.words.specs.Lists.{those, headOr, tailOf}
+use Rattle.words.specs.Words.{same, begins, endsProperly}
+use Rattle.words.proofs.Members.{In}
+use Rattle.trays.specs.Slips.{slip, startOf, endOf}
+use Rattle.matching.specs.Moves.{longestEnding}
+use Rattle.matching.specs.Nodes.{nodes, string, IsNode, Num}
+
+abbrev pub cell : List ℕ → ℕ → ℕ → ℕ
+cell w base i = getD w (base + i) 0
+
+abbrev pub patterns : List (List ℕ) → List ℕ → List (List ℕ)
+patterns ss M = map (slip ss) M
+
+-- AT: the cell of letter c of member i is the node of the beginning of c + 1 letters
+abbrev pub AtIs : List (List ℕ) → List ℕ → List ℕ → (ℕ → ℕ) → Type 0
+AtIs ss es M at =
+    (i c : ℕ) → In i M → c < length (slip ss i) → IsNode (patterns ss M) (at (startOf es i + c)) (take (suc c) (slip ss i))
+
+-- OWN: the position of a node's last letter in a member that has it
+pub record Owned (ss : List (List ℕ)) (es M : List ℕ) (p : ℕ) (x : List ℕ) : Type 0 where
+  pub member : ℕ
+  pub letter : ℕ
+  pub among : In member M
+  pub within : letter < length (slip ss member)
+  pub place : p ≡ startOf es member + letter
+  pub beginning : take (suc letter) (slip ss member) ≡ x
+
+abbrev pub OwnIs : List (List ℕ) → List ℕ → List ℕ → (ℕ → ℕ) → Type 0
+OwnIs ss es M own = (v : ℕ) → Num (patterns ss M) v → Owned ss es M (own v) (string (patterns ss M) v)
+
+-- LEVEL: the nodes of d letters or more are those from `level d` on
+pub record LevelIs (ps : List (List ℕ)) (level : ℕ → ℕ) (top : ℕ) : Type 0 where
+  pub some : (d : ℕ) → 1 ≤ d → d ≤ suc top → (1 ≤ level d) × (level d ≤ length (nodes ps))
+  pub from : (d v : ℕ) → 1 ≤ d → d ≤ suc top → Num ps v → d ≤ length (string ps v) → level d ≤ v
+  pub back : (d v : ℕ) → 1 ≤ d → d ≤ suc top → Num ps v → level d ≤ v → d ≤ length (string ps v)
+  pub all : (v : ℕ) → Num ps v → length (string ps v) ≤ top
+
+-- KID: the children of v are the numbers from `kid v` up to `kid (v + 1)`
+pub record KidIs (ps : List (List ℕ)) (kid : ℕ → ℕ) : Type 0 where
+  pub some : (v : ℕ) → v ≤ length (nodes ps) → (1 ≤ kid v) × (kid v ≤ length (nodes ps))
+  pub into : (v u c : ℕ) → v < length (nodes ps) → Num ps u → string ps u ≡ string ps v ++ (c ∷ []) → (kid v ≤ u) × (u < kid (suc v))
+  pub back : (v u : ℕ) → v < length (nodes ps) → Num ps u → kid v ≤ u → u < kid (suc v) → (c : ℕ) × (string ps u ≡ string ps v ++ (c ∷ []))
+
+-- FAIL: the failure link of a node is the longest proper ending of its string that begins a member
+abbrev pub FailUpTo : List (List ℕ) → ℕ → (ℕ → ℕ) → Type 0
+FailUpTo ps k fail = (v : ℕ) → Num ps v → v ≤ k → IsNode ps (fail v) (longestEnding (tailOf (string ps v)) ps)
+
+abbrev pub FailIs : List (List ℕ) → (ℕ → ℕ) → Type 0
+FailIs ps fail = (v : ℕ) → Num ps v → IsNode ps (fail v) (longestEnding (tailOf (string ps v)) ps)
+
+-- HEAD, TWIN: the members whose letters a node is, ascending
+abbrev pub owners : List (List ℕ) → List ℕ → List ℕ → List ℕ
+owners ss M x = those (λ i. same (slip ss i) x) M
+
+abbrev pub Linked : (ℕ → ℕ) → ℕ → List ℕ → Type 0
+Linked next i [] = i ≡ 0
+Linked next i (x ∷ xs) = (i ≡ x) × Linked next (next x) xs
+
+abbrev pub HeadIs : List (List ℕ) → List ℕ → (ℕ → ℕ) → (ℕ → ℕ) → Type 0
+HeadIs ss M head twin = (v : ℕ) → Num (patterns ss M) v → Linked twin (head v) (owners ss M (string (patterns ss M) v))
+
+-- STARTS, ENDS: the kept members K that begin with a node, and those that properly end with it, ascending
+abbrev pub starters : List (List ℕ) → List ℕ → List ℕ → List ℕ
+starters ss K x = those (λ r. begins x (slip ss r)) K
+
+abbrev pub enders : List (List ℕ) → List ℕ → List ℕ → List ℕ
+enders ss K x = those (λ l. endsProperly x (slip ss l)) K
+
+abbrev pub StartsIs : List (List ℕ) → List ℕ → List ℕ → List ℕ → (ℕ → ℕ) → (ℕ → ℕ) → Type 0
+StartsIs ss es M K starts next =
+    (v d : ℕ) → Num (patterns ss M) v → length (string (patterns ss M) v) ≡ suc d → Linked (λ r. next (startOf es r + d)) (starts v) (starters ss K (string (patterns ss M) v))
+
+abbrev pub EndsIs : List (List ℕ) → List ℕ → List ℕ → List ℕ → (ℕ → ℕ) → (ℕ → ℕ) → Type 0
+EndsIs ss es M K ends next =
+    (v : ℕ) (from : ℕ → ℕ) → Num (patterns ss M) v
+    → ((l : ℕ) → In l K → from l + length (string (patterns ss M) v) ≡ endOf es l)
+    → Linked (λ l. next (from l)) (ends v) (enders ss K (string (patterns ss M) v))

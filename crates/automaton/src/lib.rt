@@ -1,0 +1,1 @@
+// The prefix automaton in the lent work area.
