@@ -6,10 +6,8 @@
 --   FailUpTo ps k fail    == the failure links of the nodes up to k are right
 --   Linked next i xs      == from i along next run the numbers xs, then 0
 use mathlib.Core.Path.{_≡_}
-use mathlib.Core.Bool.{Bool, _&&_}
 use mathlib.Core.List.{List, [], _∷_, _++_, map}
-use Prim.Native.Nat.{ℕ, suc, _+_, _≤_, _<_}
-use lib.Dec.{ltb}
+use Prim.Native.Nat.{ℕ, suc, _+_, _-_, _≤_, _<_}
 use lib.ListN.{length, getD, take}
 use Rattle.words.specs.Lists.{those, headOr, tailOf}
 use Rattle.words.specs.Words.{same, begins, endsProperly}
@@ -85,6 +83,5 @@ StartsIs ss es M K starts next =
 
 abbrev pub EndsIs : List (List ℕ) → List ℕ → List ℕ → List ℕ → (ℕ → ℕ) → (ℕ → ℕ) → Type 0
 EndsIs ss es M K ends next =
-    (v : ℕ) (from : ℕ → ℕ) → Num (patterns ss M) v
-    → ((l : ℕ) → In l K → from l + length (string (patterns ss M) v) ≡ endOf es l)
-    → Linked (λ l. next (from l)) (ends v) (enders ss K (string (patterns ss M) v))
+    (v : ℕ) → Num (patterns ss M) v
+    → Linked (λ l. next (endOf es l - length (string (patterns ss M) v))) (ends v) (enders ss K (string (patterns ss M) v))

@@ -1,3 +1,0 @@
--- The prefix automaton in the lent work area: where its tables stand and what their cells mean.
-pub mod Layout
-pub mod Tables

@@ -1,1 +1,0 @@
-// The prefix automaton in the lent work area.

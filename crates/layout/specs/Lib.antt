@@ -1,0 +1,3 @@
+-- The lent work area: where its tables stand and what their cells mean.
+pub mod Layout
+pub mod Tables
