@@ -1,94 +1,98 @@
 -- Where the tables stand in the work area, and how many cells each has.
 use Prim.Native.Nat.{ℕ}
 
+-- 200 cells: the members, ascending
+abbrev pub MEMBERS : ℕ
+MEMBERS = 0
+
 -- 200 cells: the members by letters, a beginning before its longer slips, equals by number
 abbrev pub ORDER : ℕ
-ORDER = 0
+ORDER = 200
 
 -- 200 cells: for each of these the length of its common beginning with the one before
 abbrev pub COMMON : ℕ
-COMMON = 200
+COMMON = 400
 
 -- 42 cells: for each length its first node
 abbrev pub LEVEL : ℕ
-LEVEL = 400
+LEVEL = 600
 
 -- 2000 cells: for each letter of a member the node of the beginning that ends there
 abbrev pub AT : ℕ
-AT = 442
+AT = 642
 
 -- 2001 cells: for each node the position of its last letter in one member that has it
 abbrev pub OWN : ℕ
-OWN = 2442
+OWN = 2642
 
 -- 2002 cells: for each node its first child; the children of v are KID v up to KID (v + 1)
 abbrev pub KID : ℕ
-KID = 4443
+KID = 4643
 
 -- 2001 cells: for each node its failure link
 abbrev pub FAIL : ℕ
-FAIL = 6445
+FAIL = 6645
 
 -- 2001 cells: for each node the lowest member whose letters it is, 0 for none
 abbrev pub HEAD : ℕ
-HEAD = 8446
+HEAD = 8646
 
 -- 201 cells: for each member the next higher one of the same letters, 0 for none
 abbrev pub TWIN : ℕ
-TWIN = 10447
+TWIN = 10647
 
 -- 2001 cells: 1 for a node that is some node's failure link
 abbrev pub MARK : ℕ
-MARK = 10648
+MARK = 10848
 
 -- 200 cells: the kept members, ascending
 abbrev pub KEPT : ℕ
-KEPT = 12649
+KEPT = 12849
 
 -- 2001 cells: for each node the lowest kept member that begins with it, 0 for none
 abbrev pub STARTS : ℕ
-STARTS = 12849
+STARTS = 13049
 
 -- 2000 cells: the next such member, at the position of the node's last letter in the one before
 abbrev pub STARTS-NEXT : ℕ
-STARTS-NEXT = 14850
+STARTS-NEXT = 15050
 
 -- 2001 cells: for each node the lowest kept member that properly ends with it, 0 for none
 abbrev pub ENDS : ℕ
-ENDS = 16850
+ENDS = 17050
 
 -- 2000 cells: the next such member, at the position of the node's first letter in the one before
 abbrev pub ENDS-NEXT : ℕ
-ENDS-NEXT = 18851
+ENDS-NEXT = 19051
 
 -- 201 cells: for the last slip of a chain its first
 abbrev pub FIRST : ℕ
-FIRST = 20851
+FIRST = 21051
 
 -- 201 cells: for the first slip of a chain its last
 abbrev pub LAST : ℕ
-LAST = 21052
+LAST = 21252
 
 -- 201 cells: for a slip its overlap with its right neighbour
 abbrev pub OVER : ℕ
-OVER = 21253
+OVER = 21453
 
 -- 600 cells: the joins in the order made: left slip, right slip, overlap
 abbrev pub JOINS : ℕ
-JOINS = 21454
+JOINS = 21654
 
 -- 400 cells: the pieces of the legend: slip, overlap
 abbrev pub PIECES : ℕ
-PIECES = 22054
+PIECES = 22254
 
 -- 400 cells: for each slip its place, and 1 if it is kept
 abbrev pub PLACES : ℕ
-PLACES = 22454
+PLACES = 22654
 
 -- 2001 cells: for each node the next node on its failure path that is a member, 0 for none
 abbrev pub OUT : ℕ
-OUT = 22854
+OUT = 23054
 
 -- 2001 cells: for each node how many members end it
 abbrev pub TALLY : ℕ
-TALLY = 24855
+TALLY = 25055

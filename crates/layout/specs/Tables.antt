@@ -1,6 +1,7 @@
 -- What the cells of each table mean, over the slips ss of a tray with ends es and its members M. A table is read as a function of its index:
 -- `cell w BASE` of the work area w.
 --   cell w base i         == cell i of the table at base
+--   members w n           == the members, n of them
 --   patterns ss M         == the letters of the members
 --   AtIs, OwnIs, ..       == the meaning of the table AT, OWN, .. (see Layout)
 --   FailUpTo ps k fail    == the failure links of the nodes up to k are right
@@ -13,11 +14,17 @@ use Rattle.words.specs.Lists.{those, headOr, tailOf}
 use Rattle.words.specs.Words.{same, begins, endsProperly}
 use Rattle.words.proofs.Members.{In}
 use Rattle.trays.specs.Slips.{slip, startOf, endOf}
+use Rattle.tables.specs.Tables.{table}
 use Rattle.matching.specs.Moves.{longestEnding}
 use Rattle.matching.specs.Nodes.{nodes, string, IsNode, Num}
+use Rattle.layout.specs.Layout.{MEMBERS}
 
 abbrev pub cell : List ℕ → ℕ → ℕ → ℕ
 cell w base i = getD w (base + i) 0
+
+-- the members of the automaton in w, and those in the order of their letters
+abbrev pub members : List ℕ → ℕ → List ℕ
+members w n = table w MEMBERS n
 
 abbrev pub patterns : List (List ℕ) → List ℕ → List (List ℕ)
 patterns ss M = map (slip ss) M
