@@ -1,4 +1,5 @@
 -- Laws of the plain rule, the walk and the legend.
+pub mod AllSpecimens
 pub mod Chains
 pub mod Relabel
 pub mod Letters

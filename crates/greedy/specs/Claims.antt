@@ -21,6 +21,10 @@ holdsAll ss (i ∷ is) t = standsIn (slip ss i) t && holdsAll ss is t
 abbrev pub keptLetters : List (List ℕ) → ℕ
 keptLetters ss = total ss (kept ss (numbers ss))
 
+-- Document 01: a text's length + 2 × saved.
+abbrev pub bound : List (List ℕ) → List ℕ → ℕ
+bound ss t = length t + 2 * saved (plainJoins ss)
+
 pub record Composed (ss : List (List ℕ)) : Type 0 where
   -- the walk and the plain rule make one list, join by join and in order
   pub one-list : walkJoins ss ≡ plainJoins ss
@@ -29,8 +33,7 @@ pub record Composed (ss : List (List ℕ)) : Type 0 where
   -- the legend holds every kept slip
   pub legend-holds : holdsAll ss (kept ss (numbers ss)) (legendOf ss) ≡ true
   -- any text that holds every kept slip saves at most twice as much
-  pub at-most-twice :
-      (t : List ℕ) → holdsAll ss (kept ss (numbers ss)) t ≡ true → keptLetters ss ≤ length t + 2 * saved (plainJoins ss)
+  pub at-most-twice : (t : List ℕ) → holdsAll ss (kept ss (numbers ss)) t ≡ true → keptLetters ss ≤ bound ss t
 
 abbrev pub Demand-3 : Type 0
 Demand-3 = (s es : List ℕ) → trayFault s es .number ≡ 0 → Composed (slipsOf s es)

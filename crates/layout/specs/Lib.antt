@@ -1,3 +1,4 @@
 -- The lent work area: where its tables stand and what their cells mean.
 pub mod Layout
 pub mod Tables
+pub mod Numbered

@@ -11,3 +11,4 @@ pub mod Specimens
 pub mod CommonLoop
 pub mod OverlapLoop
 pub mod Picks
+pub mod Buffers

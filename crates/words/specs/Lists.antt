@@ -7,9 +7,11 @@
 --   inOrder lt xs   == the different members of xs, ascending by lt
 --   headOr, tailOf  == the first member, or the default; the others
 --   lastOr d xs     == the last member, or the default d
+--   over xs old     == a lent buffer that held old, with xs written over its first part
 use mathlib.Core.Bool.{Bool, true, false, _||_}
 use mathlib.Core.List.{List, [], _∷_, _++_}
 use Prim.Native.Nat.{ℕ, zero, suc}
+use lib.ListN.{length, drop}
 
 abbrev pub each : {A B : Type 0} → (A → List B) → List A → List B
 each f [] = []
@@ -47,3 +49,6 @@ tailOf (x ∷ xs) = xs
 abbrev pub lastOr : {A : Type 0} → A → List A → A
 lastOr d [] = d
 lastOr d (x ∷ xs) = lastOr x xs
+
+abbrev pub over : {A : Type 0} → List A → List A → List A
+over xs old = xs ++ drop (length xs) old

@@ -1,0 +1,127 @@
+-- Computed specimens of the definitions on composing. The outcomes are worked out by hand from document 01's sentences and computed here
+-- from the definitions. Modules are checked in the order of their names: an edited definition is refused here first.
+--   Outcome        == all that the definitions say of one tray
+--   outcomeOf ss   == the outcome of the slips ss
+--   Specimen       == a tray, written as words, and the outcome that document 01 gives
+--   starred        == the trays that document 01 marks for proof
+--   telling        == trays at which a misread rule has another outcome
+--   tight          == a tray and a text that holds it, at which the bound of demand 3 is met with equality
+use mathlib.Core.Path.{_≡_, refl}
+use mathlib.Core.Bool.{true}
+use mathlib.Core.List.{List, [], _∷_, map}
+use Prim.Native.Nat.{ℕ}
+use Prim.Native.String.{String}
+use Rattle.words.specs.Quoted.{word}
+use Rattle.trays.specs.Slips.{numbers}
+use Rattle.trays.specs.Aside.{kept}
+use Rattle.greedy.specs.Joins.{Join, join, plainJoins, saved}
+use Rattle.greedy.specs.Walk.{walkJoins}
+use Rattle.greedy.specs.Legends.{legendOf, placeOf}
+use Rattle.greedy.specs.Claims.{holdsAll, keptLetters, bound}
+
+pub record Outcome : Type 0 where
+  pub kept-slips : List ℕ
+  pub by-plain-rule : List Join
+  pub by-walk : List Join
+  pub legend : List ℕ
+  pub places : List ℕ
+  pub saving : ℕ
+  pub letters : ℕ
+
+abbrev pub outcomeOf : List (List ℕ) → Outcome
+outcomeOf ss =
+    record {
+      kept-slips = kept ss (numbers ss);
+      by-plain-rule = plainJoins ss;
+      by-walk = walkJoins ss;
+      legend = legendOf ss;
+      places = map (placeOf ss) (numbers ss);
+      saving = saved (plainJoins ss);
+      letters = keptLetters ss;
+    }
+
+pub record Specimen : Type 0 where
+  pub tray : List String
+  pub outcome : Outcome
+
+-- a tray with its kept slips, joins (one list for both rules), legend, places of all slips, saved, kept letters
+abbrev pub specimen : List String → List ℕ → List Join → String → List ℕ → ℕ → ℕ → Specimen
+specimen ws K js t ps n m =
+    record {
+      tray = ws;
+      outcome = record { kept-slips = K; by-plain-rule = js; by-walk = js; legend = word t; places = ps; saving = n; letters = m };
+    }
+
+pub starred : List Specimen
+starred =
+    specimen [] [] [] "" [] 0 0
+    ∷ specimen ("AVG" ∷ []) (1 ∷ []) [] "AVG" (1 ∷ []) 0 3
+    ∷ specimen ("AVG" ∷ "AVG" ∷ []) (1 ∷ []) [] "AVG" (1 ∷ 1 ∷ []) 0 3
+    ∷ specimen ("AVG" ∷ "CAESAVG" ∷ []) (2 ∷ []) [] "CAESAVG" (5 ∷ 1 ∷ []) 0 7
+    ∷ specimen ("ANNA" ∷ []) (1 ∷ []) [] "ANNA" (1 ∷ []) 0 4
+    ∷ specimen ("AB" ∷ "BA" ∷ []) (1 ∷ 2 ∷ []) (join 2 1 1 ∷ []) "BAB" (2 ∷ 1 ∷ []) 1 4
+    ∷ specimen ("CD" ∷ "AB" ∷ []) (1 ∷ 2 ∷ []) [] "CDAB" (1 ∷ 3 ∷ []) 0 4
+    ∷ specimen
+    ("AKI" ∷ "ELE" ∷ "KIKI" ∷ "KIRA" ∷ "LEA" ∷ [])
+    (1 ∷ 2 ∷ 3 ∷ 4 ∷ 5 ∷ [])
+    (join 1 3 2 ∷ join 3 4 2 ∷ join 2 5 2 ∷ join 5 1 1 ∷ [])
+    "ELEAKIKIRA"
+    (4 ∷ 1 ∷ 5 ∷ 7 ∷ 2 ∷ [])
+    7
+    17
+    ∷ specimen
+    ("IMPCAES" ∷ "AES" ∷ "CAESAVG" ∷ "VGPIVS" ∷ "SIMP" ∷ [])
+    (1 ∷ 3 ∷ 4 ∷ 5 ∷ [])
+    (join 1 3 4 ∷ join 5 1 3 ∷ join 3 4 2 ∷ [])
+    "SIMPCAESAVGPIVS"
+    (2 ∷ 6 ∷ 5 ∷ 10 ∷ 1 ∷ [])
+    9
+    24
+    ∷ []
+
+pub telling : List Specimen
+telling =
+    -- a slip that has a right neighbour waits no more
+    specimen ("AB" ∷ "BC" ∷ "BD" ∷ []) (1 ∷ 2 ∷ 3 ∷ []) (join 1 2 1 ∷ []) "ABCBD" (1 ∷ 2 ∷ 4 ∷ []) 1 6
+    -- the lowest waiting slip would close a ring, the second lowest is taken
+    ∷ specimen ("ANA" ∷ "CA" ∷ []) (1 ∷ 2 ∷ []) (join 2 1 1 ∷ []) "CANA" (2 ∷ 1 ∷ []) 1 5
+    -- of arcs with one overlap string the lower right slip goes first
+    ∷ specimen ("ABA" ∷ "ACA" ∷ []) (1 ∷ 2 ∷ []) (join 2 1 1 ∷ []) "ACABA" (3 ∷ 1 ∷ []) 1 6
+    -- a ring of three does not close
+    ∷ specimen ("AB" ∷ "BC" ∷ "CA" ∷ []) (1 ∷ 2 ∷ 3 ∷ []) (join 3 1 1 ∷ join 1 2 1 ∷ []) "CABC" (2 ∷ 3 ∷ 1 ∷ []) 2 6
+    -- chains stand by their first slip, not in the order of their joins
+    ∷ specimen
+    ("AB" ∷ "BC" ∷ "DEF" ∷ "EFG" ∷ [])
+    (1 ∷ 2 ∷ 3 ∷ 4 ∷ [])
+    (join 3 4 2 ∷ join 1 2 1 ∷ [])
+    "ABCDEFG"
+    (1 ∷ 2 ∷ 4 ∷ 5 ∷ [])
+    3
+    10
+    -- of two equal slips the lower one is kept
+    ∷ specimen ("AB" ∷ "AB" ∷ "BC" ∷ []) (1 ∷ 3 ∷ []) (join 1 3 1 ∷ []) "ABC" (1 ∷ 1 ∷ 2 ∷ []) 1 4
+    -- a slip that neither begins nor ends the longer one is set aside; its place may lie across two chains
+    ∷ specimen ("AB" ∷ "CD" ∷ "XBCY" ∷ "BC" ∷ []) (1 ∷ 2 ∷ 3 ∷ []) [] "ABCDXBCY" (1 ∷ 3 ∷ 5 ∷ 2 ∷ []) 0 8
+    -- the full stop is a letter, and smaller than the others
+    ∷ specimen ("BA" ∷ "A." ∷ ".B" ∷ []) (1 ∷ 2 ∷ 3 ∷ []) (join 2 3 1 ∷ join 1 2 1 ∷ []) "BA.B" (1 ∷ 2 ∷ 3 ∷ []) 2 6
+    -- the greedy legend saves 1, where the text CADAB saves 2
+    ∷ specimen ("CA" ∷ "AB" ∷ "ADA" ∷ []) (1 ∷ 2 ∷ 3 ∷ []) (join 1 2 1 ∷ []) "CABADA" (1 ∷ 2 ∷ 4 ∷ []) 1 7
+    ∷ []
+
+abbrev pub computed : Specimen → Outcome
+computed s = outcomeOf (map word (s .tray))
+
+pub starred-computed : map computed starred ≡ map (λ s. s .outcome) starred
+unfolding starred
+starred-computed = refl
+
+pub telling-computed : map computed telling ≡ map (λ s. s .outcome) telling
+unfolding telling
+telling-computed = refl
+
+abbrev pub tightTray : List (List ℕ)
+tightTray = map word ("CA" ∷ "AB" ∷ "ADA" ∷ [])
+
+pub tight :
+    (holdsAll tightTray (kept tightTray (numbers tightTray)) (word "CADAB") ≡ true) × (keptLetters tightTray ≡ bound tightTray (word "CADAB"))
+tight = (refl, refl)

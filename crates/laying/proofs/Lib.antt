@@ -1,0 +1,4 @@
+-- Laws of laying.
+pub mod CopyLoop
+pub mod PlaceLoop
+pub mod LayStep

@@ -1,0 +1,2 @@
+-- Laying pieces into a legend.
+pub mod Laying

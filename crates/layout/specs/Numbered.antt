@@ -1,0 +1,44 @@
+-- What the work area w of a tray with letters s and ends es holds, one stage after another; the n members are those of its table.
+--   patternsIn s es n w         == the letters of the members
+--   Numbered s es n count w     == the tray is accepted, and the nodes of the members' letters are numbered up to count
+--   Branched s es n count w     == and the children of each node are known
+--   Automaton s es n count w    == and its failure link
+--   Kept b w w′                 == w′ is as long as w, and has its cells below b
+use mathlib.Core.Path.{_≡_}
+use mathlib.Core.List.{List}
+use Prim.Native.Nat.{ℕ, suc, _≤_, _<_}
+use lib.ListN.{length, getD}
+use Rattle.words.proofs.Members.{In, Asc}
+use Rattle.trays.specs.Limits.{maxSlips, maxSlip, maxLetters, workNeed}
+use Rattle.trays.specs.Slips.{slipsOf}
+use Rattle.trays.specs.Faults.{trayFault}
+use Rattle.matching.specs.Nodes.{nodes}
+use Rattle.layout.specs.Layout.{AT, OWN, LEVEL, KID, FAIL}
+use Rattle.layout.specs.Tables.{cell, members, patterns, AtIs, OwnIs, LevelIs, KidIs, FailIs}
+
+abbrev pub patternsIn : List ℕ → List ℕ → ℕ → List ℕ → List (List ℕ)
+patternsIn s es n w = patterns (slipsOf s es) (members w n)
+
+pub record Numbered (s es : List ℕ) (n count : ℕ) (w : List ℕ) : Type 0 where
+  pub room : workNeed ≤ length w
+  pub accepted : trayFault s es .number ≡ 0
+  pub few-members : n ≤ maxSlips
+  pub ascending : Asc _<_ (members w n)
+  pub real : (i : ℕ) → In i (members w n) → (1 ≤ i) × (i ≤ length es)
+  pub all-nodes : length (nodes (patternsIn s es n w)) ≡ suc count
+  pub few-nodes : count ≤ maxLetters
+  pub at : AtIs (slipsOf s es) es (members w n) (cell w AT)
+  pub own : OwnIs (slipsOf s es) es (members w n) (cell w OWN)
+  pub level : LevelIs (patternsIn s es n w) (cell w LEVEL) maxSlip
+
+pub record Branched (s es : List ℕ) (n count : ℕ) (w : List ℕ) : Type 0 where
+  pub numbered : Numbered s es n count w
+  pub kids : KidIs (patternsIn s es n w) (cell w KID)
+
+pub record Automaton (s es : List ℕ) (n count : ℕ) (w : List ℕ) : Type 0 where
+  pub branched : Branched s es n count w
+  pub fails : FailIs (patternsIn s es n w) (cell w FAIL)
+
+pub record Kept (b : ℕ) (w w′ : List ℕ) : Type 0 where
+  pub same : length w′ ≡ length w
+  pub cells : (p : ℕ) → p < b → getD w′ p 0 ≡ getD w p 0
