@@ -2,3 +2,4 @@
 pub mod Layout
 pub mod Tables
 pub mod Numbered
+pub mod Staging

@@ -1,6 +1,7 @@
 -- Refusals 1 to 6, 10 and 11 with their details, as the rows of document 01's table.
 --   row n b d     == the row numbered n with detail d if its condition b holds, else no refusal
 --   firstRow rs   == the first refusal of the rows, which are taken top to bottom
+--   written f xs old == a lent buffer afterwards: xs written over its first part, unless f turns the call back
 --   badPlace i s  == the place, counted from i, of the first byte outside the signs; 0 for none
 --   trayRows      == place B, tray: 1 to 6
 --   trayFault     == the tray itself is turned back, or 0
@@ -11,7 +12,7 @@ use mathlib.Core.List.{List, [], _∷_, _++_}
 use Prim.Native.Nat.{ℕ, zero, suc, _+_}
 use lib.Dec.{eqb, ltb, leb}
 use lib.ListN.{length}
-use Rattle.words.specs.Lists.{any, lastOr}
+use Rattle.words.specs.Lists.{any, lastOr, over}
 use Rattle.trays.specs.declared.Refusal.{Refusal}
 use Rattle.trays.specs.Limits.{maxSlips, maxSlip, maxLetters}
 use Rattle.trays.specs.Slips.{slipsOf, isLetter}
@@ -31,6 +32,9 @@ orElse f g = elim (f .number) [ zero ↦ g | suc n ↦ f ]
 abbrev pub firstRow : List Refusal → Refusal
 firstRow [] = accepted
 firstRow (r ∷ rs) = orElse r (firstRow rs)
+
+abbrev pub written : {A : Type 0} → Refusal → List A → List A → List A
+written f xs old = elim (f .number) [ zero ↦ over xs old | suc n ↦ old ]
 
 -- the lowest slip, counted from i, whose end is not above the one before; 0 for none
 abbrev pub notAbove : ℕ → ℕ → List ℕ → ℕ

@@ -1,0 +1,3 @@
+-- The demands and the starred specimens, proved.
+pub mod Demands
+pub mod Starred

@@ -1,0 +1,9 @@
+-- Every specimen that document 01 marks with * holds of the definitions: its tray is accepted, and the answer computed is the one written.
+use mathlib.Core.Path.{_≡_, refl}
+use mathlib.Core.List.{map}
+use Rattle.trays.specs.Faults.{trayFault, pairFault}
+use Rattle.claims.specs.Starred.{starred, computed, expected}
+
+pub starred-hold : map computed starred ≡ map expected starred
+unfolding starred trayFault pairFault
+starred-hold = refl

@@ -1,0 +1,9 @@
+-- The demands that speak of the definitions alone, for every accepted tray.
+use Rattle.greedy.specs.Claims.{Demand-3}
+use Rattle.matching.specs.Moves.{Few-moves}
+
+pub record Demands : Type 0 where
+  -- one list by both rules; kept letters = saved + legend length; the legend holds every kept slip; at most twice
+  pub third : Demand-3
+  -- moves are at most 2 × the letters
+  pub few-moves : Few-moves

@@ -1,0 +1,81 @@
+-- Composing: refusals 7, 8 and 9 behind those of the tray, the answer, and what each buffer holds afterwards.
+--   workRow w             == place B, work area: 7
+--   beforeC s es w        == what turns composing back before place C
+--   composeFault          == what turns composing back: legend room l, room for j joins and p places
+--   composedOf            == the answer
+--   flatJoins js          == the joins as numbers: left slip, right slip, overlap
+--   flatPlaces ss         == the places as numbers: for each slip its place, and 1 if it is kept
+--   Staged                == what the core leaves: the answer, the legend, and joins and places in the work area
+use mathlib.Core.Path.{_≡_}
+use mathlib.Core.Bool.{Bool, true, false, cond, _||_}
+use mathlib.Core.List.{List, [], _∷_, _++_}
+use Prim.Native.Nat.{ℕ, zero, suc, _*_, _≤_}
+use lib.Dec.{ltb}
+use lib.ListN.{length}
+use Rattle.words.specs.Lists.{each}
+use Rattle.tables.specs.Tables.{table}
+use Rattle.trays.specs.declared.Refusal.{Refusal}
+use Rattle.trays.specs.Limits.{workNeed}
+use Rattle.trays.specs.Slips.{slipsOf, numbers}
+use Rattle.trays.specs.Aside.{isAside, kept}
+use Rattle.trays.specs.Faults.{row, firstRow, trayRows, written}
+use Rattle.greedy.specs.Joins.{Join, plainJoins, saved}
+use Rattle.greedy.specs.Legends.{legendOf, placeOf}
+use Rattle.greedy.specs.Claims.{keptLetters}
+use Rattle.layout.specs.Layout.{JOINS, PLACES}
+use Rattle.composing.specs.declared.Composed.{Composed}
+
+abbrev pub workRow : ℕ → Refusal
+workRow w = row 7 (ltb w workNeed) 0
+
+unfoldable pub beforeC : List ℕ → List ℕ → ℕ → Refusal
+beforeC s es w = firstRow (trayRows s es ++ (workRow w ∷ []))
+
+-- Document 01, place C: the legend is longer than its buffer; more joins than the list takes, or fewer than one record of places a slip.
+unfoldable pub composeFault : List ℕ → List ℕ → ℕ → ℕ → ℕ → ℕ → Refusal
+composeFault s es w l j p =
+    let ss = slipsOf s es in
+    let need = length (legendOf ss) in
+    let joins = length (plainJoins ss) in
+    firstRow (trayRows s es
+    ++ (workRow w ∷ (row 8 (ltb l need) need ∷ (row 9 (ltb j joins || ltb p (length ss)) joins ∷ []))))
+
+-- the answer to a tray that is composed
+abbrev pub outcomeOf : List (List ℕ) → Composed
+outcomeOf ss =
+    record {
+      number = 0;
+      detail = 0;
+      slips = length ss;
+      kept = length (kept ss (numbers ss));
+      letters = keptLetters ss;
+      saved = saved (plainJoins ss);
+      legend = length (legendOf ss);
+      joins = length (plainJoins ss)
+    }
+
+abbrev pub refusedBy : Refusal → Composed
+refusedBy f = record { number = f .number; detail = f .detail; slips = 0; kept = 0; letters = 0; saved = 0; legend = 0; joins = 0 }
+
+unfoldable pub composedOf : List ℕ → List ℕ → ℕ → ℕ → ℕ → ℕ → Composed
+composedOf s es w l j p =
+    let f = composeFault s es w l j p in
+    elim (f .number) [ zero ↦ outcomeOf (slipsOf s es) | suc n ↦ refusedBy f ]
+
+abbrev pub flatJoins : List Join → List ℕ
+flatJoins js = each (λ j. j .left ∷ (j .right ∷ (j .overlap ∷ []))) js
+
+abbrev pub flatPlaces : List (List ℕ) → List ℕ
+flatPlaces ss = each (λ i. placeOf ss i ∷ (cond (isAside ss (numbers ss) i) 0 1 ∷ [])) (numbers ss)
+
+-- the work area: untouched before place C, and of the same length after
+pub record WorkKept (f : Refusal) (w w′ : List ℕ) : Type 0 where
+  pub same : length w′ ≡ length w
+  pub untouched : 1 ≤ f .number → w′ ≡ w
+
+pub record Staged (s es w w′ l l′ : List ℕ) (j p : ℕ) (r : Composed) : Type 0 where
+  pub answer-is : r ≡ composedOf s es (length w) (length l) j p
+  pub legend-is : l′ ≡ written (composeFault s es (length w) (length l) j p) (legendOf (slipsOf s es)) l
+  pub work-is : WorkKept (beforeC s es (length w)) w w′
+  pub joins-are : r .number ≡ 0 → table w′ JOINS (3 * r .joins) ≡ flatJoins (plainJoins (slipsOf s es))
+  pub places-are : r .number ≡ 0 → table w′ PLACES (2 * r .slips) ≡ flatPlaces (slipsOf s es)

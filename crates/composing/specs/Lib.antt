@@ -1,0 +1,2 @@
+-- What composing answers and leaves in the lent buffers, for every input.
+pub mod Answers
