@@ -51,7 +51,7 @@ outcomeOf ss =
       letters = keptLetters ss;
       saved = saved (plainJoins ss);
       legend = length (legendOf ss);
-      joins = length (plainJoins ss)
+      joins = length (plainJoins ss);
     }
 
 abbrev pub refusedBy : Refusal → Composed

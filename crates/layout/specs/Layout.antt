@@ -65,34 +65,18 @@ ENDS = 17050
 abbrev pub ENDS-NEXT : ℕ
 ENDS-NEXT = 19051
 
--- 201 cells: for the last slip of a chain its first
-abbrev pub FIRST : ℕ
-FIRST = 21051
-
--- 201 cells: for the first slip of a chain its last
-abbrev pub LAST : ℕ
-LAST = 21252
-
--- 201 cells: for a slip its overlap with its right neighbour
-abbrev pub OVER : ℕ
-OVER = 21453
-
 -- 600 cells: the joins in the order made: left slip, right slip, overlap
 abbrev pub JOINS : ℕ
-JOINS = 21654
-
--- 400 cells: the pieces of the legend: slip, overlap
-abbrev pub PIECES : ℕ
-PIECES = 22254
+JOINS = 21051
 
 -- 400 cells: for each slip its place, and 1 if it is kept
 abbrev pub PLACES : ℕ
-PLACES = 22654
+PLACES = 21651
 
 -- 2001 cells: for each node the next node on its failure path that is a member, 0 for none
 abbrev pub OUT : ℕ
-OUT = 23054
+OUT = 22051
 
 -- 2001 cells: for each node how many members end it
 abbrev pub TALLY : ℕ
-TALLY = 25055
+TALLY = 24052

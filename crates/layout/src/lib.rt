@@ -31,18 +31,10 @@ pub const ENDS: usize = 17050;
 
 pub const ENDS_NEXT: usize = 19051;
 
-pub const FIRST: usize = 21051;
+pub const JOINS: usize = 21051;
 
-pub const LAST: usize = 21252;
+pub const PLACES: usize = 21651;
 
-pub const OVER: usize = 21453;
+pub const OUT: usize = 22051;
 
-pub const JOINS: usize = 21654;
-
-pub const PIECES: usize = 22254;
-
-pub const PLACES: usize = 22654;
-
-pub const OUT: usize = 23054;
-
-pub const TALLY: usize = 25055;
+pub const TALLY: usize = 24052;
