@@ -14,3 +14,5 @@ pub mod Links
 pub mod TextOrder
 pub mod Bound
 pub mod Demand3
+pub mod Linked
+pub mod Threads

@@ -2,3 +2,5 @@
 pub mod CopyLoop
 pub mod PlaceLoop
 pub mod LayStep
+pub mod ChainLoop
+pub mod PiecesLoop

@@ -1,2 +1,3 @@
--- Laying pieces into a legend.
+-- Chains flattened into pieces, pieces laid into a legend, and places.
 pub mod Laying
+pub mod Chains

@@ -1,4 +1,5 @@
 -- Laws of trays.
+pub mod AllSpecimens
 pub mod CheckLoops
 pub mod Kept
 pub mod BadSlip

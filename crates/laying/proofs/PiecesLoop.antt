@@ -1,0 +1,93 @@
+-- All chains written one after another; and that the lists of neighbours give the pieces of the joins.
+use mathlib.Core.Path.{_≡_, refl, sym, _∙_, ap}
+use mathlib.Core.Bool.{true, false}
+use mathlib.Core.List.{List, [], _∷_, _++_, append-assoc, append-nil}
+use Prim.Native.Nat.{ℕ, zero, suc, _+_, _-_, _≤_, _<_}
+use borrow.Author.Tests.{eq-eqb, ne-eqb}
+use native.Mathlib.Numerals.{add-one, sub-one}
+use native.Mathlib.Omega.{arith}
+use lib.Dec.{eqb}
+use lib.ListN.{length, getD, take, drop, length-append, take-append-drop}
+use lib.Seq.{take-suc, take-take}
+use Rattle.words.specs.Lists.{each}
+use Rattle.words.proofs.Members.{each-append}
+use Rattle.trays.specs.Limits.{maxSlips}
+use Rattle.greedy.specs.Legends.{Piece, piece}
+use Rattle.laying.specs.Laying.{staged}
+use Rattle.laying.specs.Chains.{chainBy, chainOf, piecesBy, PiecesAsk, AddAsks, ChainAsks, Flattened}
+
+-- one slip: its chain, if it begins one
+module _ (left right overs : List ℕ) (n i : ℕ) (xs : List ℕ) (m mark : ℕ) (a : AddAsks left right overs n i xs m) (w : (mark ≡ getD left (i - 1) 0) × (mark < 65536)) where
+  pub add-none : (mark ≡ 0 → ⊥) → Flattened (chainOf left right overs n i) m xs xs m
+  add-none z =
+      let e : chainOf left right overs n i ≡ [] = rw (ne-eqb (getD left (i - 1) 0) 0 (λ q. z (w .0 ∙ q)), chainOf) in
+      rw e (record { count-is = omega arith; pieces-are = sym (append-nil (staged xs 0 m)); same = refl })
+
+  module _ (z : mark ≡ 0) where
+    chain-is : chainOf left right overs n i ≡ chainBy right overs n i 0
+    chain-is = rw (eq-eqb (getD left (i - 1) 0) 0 (sym (w .0) ∙ z), chainOf)
+
+    pub add-asks : ChainAsks right overs n i xs m
+    add-asks =
+        record {
+          rights = a .rights;
+          over-all = a .over-all;
+          right-small = a .right-small;
+          small = a .small;
+          cells = a .cells;
+          room = rw chain-is at (a .room)
+        }
+
+    pub add-some : (xs′ : List ℕ) (r : ℕ) → Flattened (chainBy right overs n i 0) m xs xs′ r → Flattened (chainOf left right overs n i) m xs xs′ r
+    add-some xs′ r f = rw chain-is f
+
+-- all slips, one after another
+module _ (kept : List ℕ) (n : ℕ) (left right overs : List ℕ) (turns : ℕ) (xs₀ : List ℕ) (a : PiecesAsk kept n left right overs turns xs₀) where
+  abbrev by : List ℕ → List Piece
+  by K = piecesBy left right overs turns K
+
+  pub pieces-start : Flattened (by (take 0 kept)) 0 xs₀ xs₀ 0
+  pieces-start = record { count-is = refl; pieces-are = refl; same = refl }
+
+  module _ (k count slip : ℕ) (xs : List ℕ) (l : k < n) (f : Flattened (by (take k kept)) 0 xs₀ xs count) (v : (slip ≡ getD kept k 0) × (slip < 65536)) where
+    more : by (take (suc k) kept) ≡ by (take k kept) ++ chainOf left right overs turns slip
+    more =
+        let h : k < length kept = omega (arith, a .enough) in
+        rw (take-suc kept k 0 h, ← (v .0)) (each-append (chainOf left right overs turns) (take k kept) (slip ∷ []) ∙ rw append-nil)
+
+    count-more : length (by (take (suc k) kept)) ≡ length (by (take k kept)) + length (chainOf left right overs turns slip)
+    count-more = rw more (length-append (by (take k kept)) (chainOf left right overs turns slip))
+
+    -- what is written so far is a first part of the whole
+    fits : length (by (take (suc k) kept)) ≤ maxSlips
+    fits =
+        let e : length (by (take n kept)) ≡ length (by (take (suc k) kept)) + length (by (drop (suc k) (take n kept))) =
+            ap (λ (K : List ℕ). length (by K)) (sym (take-append-drop (suc k) (take n kept)))
+            ∙ rw (each-append (chainOf left right overs turns) (take (suc k) (take n kept)) (drop (suc k) (take n kept)), length-append, take-take (suc k) n kept l) in
+        omega (arith, a .room)
+
+    pub pieces-asks : AddAsks left right overs turns slip xs count
+    pieces-asks =
+        let r = a .real k l in
+        record {
+          lefts = a .lefts;
+          rights = a .rights;
+          over-all = a .over-all;
+          right-small = a .right-small;
+          some = rw (v .0) (r .0);
+          small = rw (v .0) (r .1);
+          cells = omega (arith, a .cells, f .same);
+          room = omega (arith, fits, count-more, f .count-is)
+        }
+
+    pub pieces-turn : (xs′ : List ℕ) (r : ℕ) → Flattened (chainOf left right overs turns slip) count xs xs′ r → Flattened (by (take (k + 1) kept)) 0 xs₀ xs′ r
+    pieces-turn xs′ r g =
+        rw (add-one k)
+        (record {
+          count-is = omega (arith, g .count-is, f .count-is, count-more);
+          pieces-are = g .pieces-are ∙ ap (λ (q : List Piece). q ++ chainOf left right overs turns slip) (f .pieces-are) ∙ sym more;
+          same = g .same ∙ f .same
+        })
+
+  pub pieces-end : (k count : ℕ) (xs : List ℕ) → k ≤ n → n ≤ k → Flattened (by (take k kept)) 0 xs₀ xs count → Flattened (by (take n kept)) 0 xs₀ xs count
+  pieces-end k count xs l m f = let e : k ≡ n = omega arith in rw (← e) f

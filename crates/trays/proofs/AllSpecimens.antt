@@ -1,0 +1,97 @@
+-- Computed specimens of the definitions on trays. The values are worked out by hand from document 01's sentences and computed here from
+-- the definitions. Modules are checked in the order of their names: an edited definition of set aside is refused here first.
+--   Specimen A B   == an input of type A and its value of type B
+--   keptOf ws      == the kept slips of a tray that is written as words
+--   rows n k       == a tray of n slips of k letters
+--   faultOf t      == the refusal of a tray
+use mathlib.Core.Path.{_≡_, refl}
+use mathlib.Core.List.{List, [], _∷_, map}
+use Prim.Native.Nat.{ℕ, _*_}
+use Prim.Native.String.{String}
+use Rattle.words.specs.Lists.{upFrom}
+use Rattle.words.specs.Quoted.{word}
+use Rattle.trays.specs.declared.Refusal.{Refusal}
+use Rattle.trays.specs.declared.Pair.{Pair}
+use Rattle.trays.specs.Slips.{numbers}
+use Rattle.trays.specs.Aside.{kept}
+use Rattle.trays.specs.Faults.{trayFault, slipFault, pairFault, refusal}
+use Rattle.trays.specs.Answers.{stretchOf, pairOf}
+
+pub record Specimen (A B : Type 0) : Type 0 where
+  pub given : A
+  pub value : B
+
+abbrev specimen : {A B : Type 0} → A → B → Specimen A B
+specimen x y = record { given = x; value = y }
+
+abbrev pub keptOf : List String → List ℕ
+keptOf ws = let ss = map word ws in kept ss (numbers ss)
+
+pub kept-specimens : List (Specimen (List String) (List ℕ))
+kept-specimens =
+    specimen [] []
+    ∷ specimen ("AVG" ∷ "AVG" ∷ []) (1 ∷ [])
+    ∷ specimen ("AVG" ∷ "CAESAVG" ∷ []) (2 ∷ [])
+    ∷ specimen ("ANNA" ∷ "AN" ∷ "NN" ∷ "NA" ∷ "ANA" ∷ []) (1 ∷ 5 ∷ [])
+    ∷ specimen ("A" ∷ "A" ∷ "B" ∷ "A" ∷ []) (1 ∷ 3 ∷ [])
+    ∷ []
+
+pub kept-computed : map (λ s. keptOf (s .given)) kept-specimens ≡ map (λ s. s .value) kept-specimens
+unfolding kept-specimens
+kept-computed = refl
+
+-- only members set a slip aside
+pub kept-members : kept (map word ("AB" ∷ "AB" ∷ "ABC" ∷ [])) (2 ∷ []) ≡ (2 ∷ [])
+kept-members = refl
+
+pub record Tray : Type 0 where
+  pub letters : List ℕ
+  pub ends : List ℕ
+
+abbrev tray : String → List ℕ → Tray
+tray s es = record { letters = word s; ends = es }
+
+abbrev rows : ℕ → ℕ → Tray
+rows n k = record { letters = map (λ i. 65) (upFrom 1 (n * k)); ends = map (λ i. i * k) (upFrom 1 n) }
+
+abbrev pub faultOf : Tray → Refusal
+faultOf t = trayFault (t .letters) (t .ends)
+
+-- the limits, each row, and several faults at once
+pub fault-specimens : List (Specimen Tray Refusal)
+fault-specimens =
+    specimen (tray "" []) (refusal 0 0)
+    ∷ specimen (tray "A.Z" (1 ∷ 3 ∷ [])) (refusal 0 0)
+    ∷ specimen (rows 50 40) (refusal 0 0)
+    ∷ specimen (rows 200 1) (refusal 0 0)
+    ∷ specimen (rows 201 1) (refusal 1 0)
+    ∷ specimen (tray "" (0 ∷ [])) (refusal 2 1)
+    ∷ specimen (tray "ab" (2 ∷ 1 ∷ [])) (refusal 2 2)
+    ∷ specimen (rows 60 41) (refusal 3 1)
+    ∷ specimen (rows 51 40) (refusal 4 0)
+    ∷ specimen (tray "ab" (1 ∷ [])) (refusal 5 0)
+    ∷ specimen (tray "AbC[" (1 ∷ 3 ∷ 4 ∷ [])) (refusal 6 2)
+    ∷ []
+
+pub faults-computed : map (λ s. faultOf (s .given)) fault-specimens ≡ map (λ s. s .value) fault-specimens
+unfolding fault-specimens trayFault
+faults-computed = refl
+
+-- requests on the tray AVG, CAESAVG
+abbrev pub stretchAt : ℕ → List ℕ
+stretchAt i = stretchOf (word "AVGCAESAVG") (3 ∷ 10 ∷ []) i
+
+abbrev pub pairAt : ℕ → ℕ → Pair
+pairAt i j = pairOf (word "AVGCAESAVG") (3 ∷ 10 ∷ []) i j
+
+abbrev pair : ℕ → ℕ → ℕ → Pair
+pair n d k = record { number = n; detail = d; letters = k }
+
+pub stretches : map stretchAt (0 ∷ 1 ∷ 2 ∷ 3 ∷ []) ≡ ([] ∷ word "AVG" ∷ word "CAESAVG" ∷ [] ∷ [])
+unfolding slipFault
+stretches = refl
+
+pub pairs :
+    (pairAt 1 2 ∷ pairAt 2 1 ∷ pairAt 0 3 ∷ pairAt 1 3 ∷ pairAt 2 2 ∷ []) ≡ (pair 0 0 0 ∷ pair 0 0 3 ∷ pair 10 0 0 ∷ pair 10 3 0 ∷ pair 11 2 0 ∷ [])
+unfolding pairFault
+pairs = refl
