@@ -33,10 +33,10 @@ piece-put xs m i o h =
     let a : getD ys (2 * m) 0 ≡ i = getD-set-other (set xs (2 * m) i) (2 * m + 1) (2 * m) o 0 (λ q. omega arith) ∙ getD-set-same xs (2 * m) i 0 (omega arith) in
     let b : getD ys (2 * m + 1) 0 ≡ o = getD-set-same (set xs (2 * m) i) (2 * m + 1) o 0 (rw length-set h) in
     let old : (j : ℕ) → j < 2 * (0 + m) → getD ys j 0 ≡ getD xs j 0 =
-        λ j l. getD-set-other (set xs (2 * m) i) (2 * m + 1) j o 0 (λ q. omega arith) ∙ getD-set-other xs (2 * m) j i 0 (λ q. omega arith) in
+    λ j l. getD-set-other (set xs (2 * m) i) (2 * m + 1) j o 0 (λ q. omega arith) ∙ getD-set-other xs (2 * m) j i 0 (λ q. omega arith) in
     record {
       pieces-are = staged-more ys 0 m ∙ rw (zero-add m, a, b, staged-same ys xs 0 m old);
-      same = simp length-set
+      same = simp length-set;
     }
 
 -- the loop: what is written, and what is left of the chain
@@ -67,7 +67,7 @@ module _ (right overs : List ℕ) (n i : ℕ) (xs₀ : List ℕ) (m : ℕ) (a : 
       record {
         count-is = omega (arith, w .count-is, ap length e);
         pieces-are = sym (append-nil (staged xs 0 count)) ∙ rw (← e) (w .pieces-are);
-        same = w .same
+        same = w .same;
       }
 
   pub writing-end : left ≤ 0 → Flattened (chainBy right overs n i 0) m xs₀ xs count
@@ -77,7 +77,7 @@ module _ (right overs : List ℕ) (n i : ℕ) (xs₀ : List ℕ) (m : ℕ) (a : 
       record {
         count-is = omega (arith, w .count-is, ap length e);
         pieces-are = sym (append-nil (staged xs 0 count)) ∙ rw (← e) (w .pieces-are);
-        same = w .same
+        same = w .same;
       }
 
   module _ (l : 0 < left) (z : slip ≡ 0 → ⊥) where
@@ -95,13 +95,13 @@ module _ (right overs : List ℕ) (n i : ℕ) (xs₀ : List ℕ) (m : ℕ) (a : 
         let e : chainBy right overs left slip shared ≡ piece slip shared ∷ chainBy right overs (left - 1) slip′ shared′ = next ∙ rw (o .0, r .0) in
         record {
           pieces-are =
-            ap (λ (k : ℕ). staged xs′ 0 k ++ chainBy right overs (left - 1) slip′ shared′) (add-one count)
-            ∙ ap (λ (l : List Piece). l ++ chainBy right overs (left - 1) slip′ shared′) (p .pieces-are)
-            ∙ append-assoc (staged xs 0 count) (piece slip shared ∷ []) (chainBy right overs (left - 1) slip′ shared′)
-            ∙ ap (λ (l : List Piece). staged xs 0 count ++ l) (sym e)
-            ∙ w .pieces-are;
+              ap (λ (k : ℕ). staged xs′ 0 k ++ chainBy right overs (left - 1) slip′ shared′) (add-one count)
+              ∙ ap (λ (l : List Piece). l ++ chainBy right overs (left - 1) slip′ shared′) (p .pieces-are)
+              ∙ append-assoc (staged xs 0 count) (piece slip shared ∷ []) (chainBy right overs (left - 1) slip′ shared′)
+              ∙ ap (λ (l : List Piece). staged xs 0 count ++ l) (sym e)
+              ∙ w .pieces-are;
           count-is = omega (arith, w .count-is, ap length e);
           small = rw (r .0) (a .right-small (slip - 1) (omega (arith, w .small)));
           over-small = o .1;
-          same = p .same ∙ w .same
+          same = p .same ∙ w .same;
         }

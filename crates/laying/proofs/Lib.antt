@@ -4,3 +4,4 @@ pub mod PlaceLoop
 pub mod LayStep
 pub mod ChainLoop
 pub mod PiecesLoop
+pub mod NeighbourPieces

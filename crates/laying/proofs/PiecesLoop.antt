@@ -35,7 +35,7 @@ module _ (left right overs : List ℕ) (n i : ℕ) (xs : List ℕ) (m mark : ℕ
           right-small = a .right-small;
           small = a .small;
           cells = a .cells;
-          room = rw chain-is at (a .room)
+          room = rw chain-is at (a .room);
         }
 
     pub add-some : (xs′ : List ℕ) (r : ℕ) → Flattened (chainBy right overs n i 0) m xs xs′ r → Flattened (chainOf left right overs n i) m xs xs′ r
@@ -62,8 +62,8 @@ module _ (kept : List ℕ) (n : ℕ) (left right overs : List ℕ) (turns : ℕ)
     fits : length (by (take (suc k) kept)) ≤ maxSlips
     fits =
         let e : length (by (take n kept)) ≡ length (by (take (suc k) kept)) + length (by (drop (suc k) (take n kept))) =
-            ap (λ (K : List ℕ). length (by K)) (sym (take-append-drop (suc k) (take n kept)))
-            ∙ rw (each-append (chainOf left right overs turns) (take (suc k) (take n kept)) (drop (suc k) (take n kept)), length-append, take-take (suc k) n kept l) in
+        ap (λ (K : List ℕ). length (by K)) (sym (take-append-drop (suc k) (take n kept)))
+        ∙ rw (each-append (chainOf left right overs turns) (take (suc k) (take n kept)) (drop (suc k) (take n kept)), length-append, take-take (suc k) n kept l) in
         omega (arith, a .room)
 
     pub pieces-asks : AddAsks left right overs turns slip xs count
@@ -77,7 +77,7 @@ module _ (kept : List ℕ) (n : ℕ) (left right overs : List ℕ) (turns : ℕ)
           some = rw (v .0) (r .0);
           small = rw (v .0) (r .1);
           cells = omega (arith, a .cells, f .same);
-          room = omega (arith, fits, count-more, f .count-is)
+          room = omega (arith, fits, count-more, f .count-is);
         }
 
     pub pieces-turn : (xs′ : List ℕ) (r : ℕ) → Flattened (chainOf left right overs turns slip) count xs xs′ r → Flattened (by (take (k + 1) kept)) 0 xs₀ xs′ r
@@ -86,7 +86,7 @@ module _ (kept : List ℕ) (n : ℕ) (left right overs : List ℕ) (turns : ℕ)
         (record {
           count-is = omega (arith, g .count-is, f .count-is, count-more);
           pieces-are = g .pieces-are ∙ ap (λ (q : List Piece). q ++ chainOf left right overs turns slip) (f .pieces-are) ∙ sym more;
-          same = g .same ∙ f .same
+          same = g .same ∙ f .same;
         })
 
   pub pieces-end : (k count : ℕ) (xs : List ℕ) → k ≤ n → n ≤ k → Flattened (by (take k kept)) 0 xs₀ xs count → Flattened (by (take n kept)) 0 xs₀ xs count

@@ -38,7 +38,14 @@ fn put_piece(pieces: &mut [u16], m: usize, slip: usize, shared: usize)
 }
 
 // Writes the chain that `first` begins behind the first `m` pieces: at most `turns` slips. Answers how many pieces there are then.
-fn chain_pieces(right: &[u16], overs: &[u16], turns: usize, first: usize, pieces: &mut [u16], m: usize) -> usize
+fn chain_pieces(
+    right: &[u16],
+    overs: &[u16],
+    turns: usize,
+    first: usize,
+    pieces: &mut [u16],
+    m: usize,
+) -> usize
     requires { ⌜ ChainAsks (now right) (now overs) turns first (now pieces) m ⌝ }
     ensures { λ r. ⌜ Flattened (chainBy (now (right .entry)) (now (overs .entry)) turns first 0) m (now (pieces .entry)) (now (pieces .exit)) r ⌝ }
 {
@@ -60,7 +67,15 @@ fn chain_pieces(right: &[u16], overs: &[u16], turns: usize, first: usize, pieces
 }
 
 // The same if `slip` has no left neighbour; nothing otherwise.
-fn add_chain(left: &[u16], right: &[u16], overs: &[u16], turns: usize, slip: usize, pieces: &mut [u16], m: usize) -> usize
+fn add_chain(
+    left: &[u16],
+    right: &[u16],
+    overs: &[u16],
+    turns: usize,
+    slip: usize,
+    pieces: &mut [u16],
+    m: usize,
+) -> usize
     requires { ⌜ AddAsks (now left) (now right) (now overs) turns slip (now pieces) m ⌝ }
     ensures { λ r. ⌜ Flattened (chainOf (now (left .entry)) (now (right .entry)) (now (overs .entry)) turns slip) m (now (pieces .entry)) (now (pieces .exit)) r ⌝ }
 {
@@ -72,7 +87,15 @@ fn add_chain(left: &[u16], right: &[u16], overs: &[u16], turns: usize, slip: usi
 }
 
 // Writes the chains of the first `n` slips of `kept` that have no left neighbour, one after another: at most `turns` slips each.
-pub fn all_pieces(kept: &[u16], n: usize, left: &[u16], right: &[u16], overs: &[u16], turns: usize, pieces: &mut [u16]) -> usize
+pub fn all_pieces(
+    kept: &[u16],
+    n: usize,
+    left: &[u16],
+    right: &[u16],
+    overs: &[u16],
+    turns: usize,
+    pieces: &mut [u16],
+) -> usize
     requires { ⌜ PiecesAsk (now kept) n (now left) (now right) (now overs) turns (now pieces) ⌝ }
     ensures { λ r. ⌜ Flattened (piecesBy (now (left .entry)) (now (right .entry)) (now (overs .entry)) turns (take n (now (kept .entry)))) 0 (now (pieces .entry)) (now (pieces .exit)) r ⌝ }
 {
