@@ -5,3 +5,4 @@ pub mod LayStep
 pub mod ChainLoop
 pub mod PiecesLoop
 pub mod NeighbourPieces
+pub mod PlacesLoop

@@ -12,3 +12,4 @@ pub mod Numbered
 pub mod LevelNodes
 pub mod Marks
 pub mod Paths
+pub mod NodeLaws

@@ -1,0 +1,2 @@
+-- Laws of the work area.
+pub mod Frames
