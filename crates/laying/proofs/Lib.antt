@@ -6,3 +6,4 @@ pub mod ChainLoop
 pub mod PiecesLoop
 pub mod NeighbourPieces
 pub mod PlacesLoop
+pub mod PlacesAre
