@@ -23,11 +23,9 @@ use Rattle.words.proofs.Members.{In, Asc, Less, asc-append}
 use Rattle.words.proofs.Orders.{up, down, strings, lex-first, lex-then, lex-irr, lex-tr}
 use Rattle.words.proofs.Strings.{begins-take, begins-prefix, begins-length}
 use Rattle.words.proofs.Picks.{asc-turn}
+pub use Rattle.matching.specs.Nodes.{lower}
 use Rattle.matching.proofs.Levels.{NotAfter, Before, notAfter-nil, level, level-asc, level-length, level-some, in-level}
 use Rattle.matching.proofs.Ranks.{level-node, rank-some, rank-fits}
-
-abbrev pub lower : List ℕ → List ℕ → Bool
-lower x y = ltb (length x) (length y) || (eqb (length x) (length y) && before x y)
 
 -- longest first: the walk's order of visits
 abbrev pub higher : List ℕ → List ℕ → Bool

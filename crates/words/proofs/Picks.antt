@@ -4,7 +4,7 @@
 -- irreflexive relation at one place only.
 use mathlib.Core.Path.{_≡_, refl, sym, ap, _∙_}
 use mathlib.Core.Bool.{Bool, true, false, _&&_}
-use mathlib.Core.List.{List, [], _∷_, List·Memᴰ·head, List·Memᴰ·tail}
+use mathlib.Core.List.{List, [], _∷_, _++_, List·Memᴰ·head, List·Memᴰ·tail, List·Memᴰ·append-cases, Memᴰ·append-left, Memᴰ·append-right}
 use mathlib.Core.Logic.{inl, inr}
 use Prim.Native.Nat.{ℕ, zero, suc, _<_}
 use native.Mathlib.Decide.{decLt}
@@ -12,7 +12,7 @@ use native.Mathlib.Omega.{arith}
 use lib.ListN.{length, getD}
 use Rattle.words.specs.Lists.{each, those}
 use Rattle.words.proofs.Tests.{tell}
-use Rattle.words.proofs.Members.{In, Asc, those-yes, those-no}
+use Rattle.words.proofs.Members.{In, by-in, Asc, those-yes, those-no}
 
 pub those-same : {A : Type 0} (f g : A → Bool) (xs : List A) → ((a : A) → In a xs → f a ≡ g a) → those f xs ≡ those g xs
 those-same f g [] h = refl
@@ -70,6 +70,19 @@ asc-turn R S [] f p = tt
 asc-turn R S (x ∷ xs) f p = (
   λ y m. f x y (List·Memᴰ·head refl) (List·Memᴰ·tail m) (p .0 y m),
   asc-turn R S xs (λ a b i j. f a b (List·Memᴰ·tail i) (List·Memᴰ·tail j)) (p .1),
+)
+
+-- one more member, behind those that stand in R to it and before those that it stands in R to
+pub asc-insert :
+    {A : Type 0} (R : A → A → Type 0) (fs : List A) (a : A) (bs : List A)
+    → Asc R (fs ++ bs) → ((b : A) → In b fs → R b a) → ((b : A) → In b bs → R a b) → Asc R (fs ++ (a ∷ bs))
+asc-insert R [] a bs p f g = (g, p)
+asc-insert R (x ∷ fs) a bs p f g = (
+  (λ y m. elim (List·Memᴰ·append-cases fs m) [
+    | inl i ↦ p .0 y (Memᴰ·append-left bs i)
+    | inr i ↦ by-in i (λ e. rw e (f x (List·Memᴰ·head refl))) (λ k. p .0 y (Memᴰ·append-right fs k))
+  ]),
+  asc-insert R fs a bs (p .1) (λ b i. f b (List·Memᴰ·tail i)) g,
 )
 
 module _ {A : Type 0} (d : A) where

@@ -1,0 +1,93 @@
+-- The places, slip by slip, are those of document 01.
+--   twos a b ns  == a and b of each of the numbers ns, one after another
+use mathlib.Core.Path.{_≡_, refl, sym, _∙_, ap}
+use mathlib.Core.Bool.{true, false, cond, not}
+use mathlib.Core.List.{List, [], _∷_}
+use Prim.Native.Nat.{ℕ, zero, suc, _+_, _*_, _/_, _%_, _≤_, _<_}
+use mathlib.Core.Logic.{_⊎_, inl, inr}
+use borrow.Author.Tests.{eqb-true, eqb-false}
+use native.Mathlib.Nat.{add-zero}
+use native.Mathlib.Numerals.{one-add}
+use native.Mathlib.Omega.{arith}
+use lib.Dec.{eqb}
+use lib.ListN.{length, getD, take}
+use lib.Seq.{ext-getD, getD-take, length-take-le}
+use Rattle.words.specs.Lists.{each, upFrom}
+use Rattle.words.proofs.Tests.{by-test}
+use Rattle.trays.specs.Slips.{slip, numbers}
+use Rattle.trays.specs.Aside.{isAside, counted}
+use Rattle.greedy.specs.Legends.{Piece, piecesFor, legendOf, placeIn, placeOf, placeFor, lowest}
+use Rattle.laying.specs.Places.{placedBy, asideBy}
+use Rattle.laying.proofs.PlacesAre.{laid, Once, placed-here, placed-other, aside-mark, aside-cell}
+use Rattle.composing.specs.Answers.{flatPlaces}
+
+module _ (a b : ℕ → ℕ) where
+  abbrev twos : List ℕ → List ℕ
+  twos ns = each (λ i. a i ∷ (b i ∷ [])) ns
+
+  twos-length : (m n : ℕ) → length (twos (upFrom m n)) ≡ 2 * n
+  twos-length m zero = refl
+  twos-length m (suc n) = omega (arith, twos-length (suc m) n)
+
+  twos-at : (m n k : ℕ) → k < n → (getD (twos (upFrom m n)) (2 * k) 0 ≡ a (m + k)) × (getD (twos (upFrom m n)) (2 * k + 1) 0 ≡ b (m + k))
+  twos-at m zero k h = absurd (omega arith)
+  twos-at m (suc n) zero h = (ap a (sym (add-zero m)), ap b (sym (add-zero m)))
+  twos-at m (suc n) (suc k) h =
+      let e : 2 * suc k ≡ suc (suc (2 * k)) = omega arith in
+      let f : 2 * suc k + 1 ≡ suc (suc (2 * k + 1)) = omega arith in
+      let g : suc m + k ≡ m + suc k = omega arith in
+      let r = twos-at (suc m) n k (omega arith) in
+      (rw (e, ← g) (r .0), rw (f, ← g) (r .1))
+
+flat-at : (ss : List (List ℕ)) (k : ℕ) → k < length ss → (getD (flatPlaces ss) (2 * k) 0 ≡ placeOf ss (suc k)) × (getD (flatPlaces ss) (2 * k + 1) 0 ≡ cond (isAside ss (numbers ss) (suc k)) 0 1)
+flat-at ss k h =
+    let r = twos-at (placeOf ss) (λ i. cond (isAside ss (numbers ss) i) 0 1) 1 (length ss) k h in
+    rw (← (one-add k)) r
+
+-- a number below 2 * n is 2 * k or 2 * k + 1, for k below n
+half : (j n : ℕ) → j < 2 * n → ((k : ℕ) × (k < n) × (j ≡ 2 * k)) ⊎ ((k : ℕ) × (k < n) × (j ≡ 2 * k + 1))
+half j n h =
+    by-test (eqb (j % 2) 0)
+    (λ t. let e : j % 2 ≡ 0 = eqb-true (j % 2) 0 t in inl (j / 2, omega arith, omega arith))
+    (λ t. let e : j % 2 ≡ 0 → ⊥ = eqb-false (j % 2) 0 t in inr (j / 2, omega arith, omega arith))
+
+module _ (ss : List (List ℕ)) (xs : List ℕ) (room : 2 * length ss ≤ length xs) (blank : (k : ℕ) → k < length ss → getD xs (2 * k + 1) 0 ≡ 0) where
+  abbrev ps : List Piece
+  ps = piecesFor counted ss (numbers ss)
+
+  abbrev after : List ℕ
+  after = asideBy ss (legendOf ss) (placedBy ss xs 1 ps) (length ss)
+
+  module _ (once : Once ps) (which : (k : ℕ) → k < length ss → laid (suc k) ps ≡ not (isAside ss (numbers ss) (suc k))) (longer : length (placedBy ss xs 1 ps) ≡ length xs) where
+    cells : (k : ℕ) → k < length ss → (getD after (2 * k) 0 ≡ placeOf ss (suc k)) × (getD after (2 * k + 1) 0 ≡ cond (isAside ss (numbers ss) (suc k)) 0 1)
+    cells k h =
+        by-test (isAside ss (numbers ss) (suc k))
+        (λ t.
+          let l : laid (suc k) ps ≡ false = which k h ∙ rw t in
+          let o = placed-other ss ps xs 1 k (2 * k) once l refl in
+          let z : getD (placedBy ss xs 1 ps) (2 * k + 1) 0 ≡ 0 = o .1 ∙ blank k h in
+          (aside-cell ss (legendOf ss) (placedBy ss xs 1 ps) (length ss) k h (omega arith) ∙ rw (z, t, placeFor),
+          aside-mark ss (legendOf ss) (placedBy ss xs 1 ps) (length ss) k ∙ z ∙ rw t))
+        (λ t.
+          let l : laid (suc k) ps ≡ true = which k h ∙ rw t in
+          let o = placed-here ss ps xs 1 k (2 * k) once l refl (omega arith) in
+          (aside-cell ss (legendOf ss) (placedBy ss xs 1 ps) (length ss) k h (omega arith) ∙ rw (o .1, t, placeFor) (o .0),
+          aside-mark ss (legendOf ss) (placedBy ss xs 1 ps) (length ss) k ∙ o .1 ∙ rw t))
+
+    pub places-flat : 2 * length ss ≤ length after → take (2 * length ss) after ≡ flatPlaces ss
+    places-flat l =
+        let size : length (take (2 * length ss) after) ≡ 2 * length ss = length-take-le (2 * length ss) after l in
+        ext-getD 0 (take (2 * length ss) after) (flatPlaces ss) (size ∙ sym (twos-length (placeOf ss) (λ i. cond (isAside ss (numbers ss) i) 0 1) 1 (length ss)))
+        (λ j h.
+          elim (half j (length ss) (omega arith)) [
+            | inl r ↦
+                getD-take (2 * length ss) after j 0 (omega arith)
+                ∙ ap (λ (i : ℕ). getD after i 0) (r .2)
+                ∙ cells (r .0) (r .1) .0
+                ∙ sym (ap (λ (i : ℕ). getD (flatPlaces ss) i 0) (r .2) ∙ flat-at ss (r .0) (r .1) .0)
+            | inr r ↦
+                getD-take (2 * length ss) after j 0 (omega arith)
+                ∙ ap (λ (i : ℕ). getD after i 0) (r .2)
+                ∙ cells (r .0) (r .1) .1
+                ∙ sym (ap (λ (i : ℕ). getD (flatPlaces ss) i 0) (r .2) ∙ flat-at ss (r .0) (r .1) .1)
+          ])

@@ -1,0 +1,2 @@
+-- Laws of composing.
+pub mod FlatPlaces
