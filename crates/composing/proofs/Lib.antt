@@ -1,2 +1,3 @@
 -- Laws of composing.
 pub mod FlatPlaces
+pub mod PiecesFit
