@@ -1,3 +1,5 @@
 -- Laws of composing.
 pub mod FlatPlaces
 pub mod PiecesFit
+pub mod SumLoops
+pub mod StageSteps

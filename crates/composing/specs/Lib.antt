@@ -1,2 +1,3 @@
 -- What composing answers and leaves in the lent buffers, for every input.
 pub mod Answers
+pub mod Steps

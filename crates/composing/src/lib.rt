@@ -1,4 +1,11 @@
 // Composing, over number slices: the walk over the automaton, the legend, joins and places.
+ghost use mathlib.Core.Path.{_≡_};
+ghost use Prim.Native.Nat.{_+_, _*_, _≤_, _<_};
+ghost use lib.ListN.{length, take};
+ghost use Rattle.trays.specs.Slips.{slipsOf, total};
+ghost use Rattle.layout.specs.Layout as L;
+ghost use Rattle.composing.specs.Steps.{thirds, KeptReal, StageAsks, PiecesStaged, PlacingAsks, Placed};
+use layout::{JOINS, KEPT, PLACES};
 
 // The answer: number and detail of the refusal, or the counts of what was composed: slips, kept slips, kept letters, saved letters, legend letters, joins.
 pub struct Composed {
@@ -10,4 +17,54 @@ pub struct Composed {
     pub saved: u32,
     pub legend: u32,
     pub joins: u32,
+}
+
+// The letters of the first `k` slips of `kept`, counted together.
+fn kept_letters(letters: &[u8], ends: &[u16], kept: &[u16], k: usize) -> usize
+    requires { ⌜ KeptReal (now letters) (now ends) (now kept) k ⌝ }
+    ensures { λ r. ⌜ r ≡ total (slipsOf (now (letters .entry)) (now (ends .entry))) (take k (now (kept .entry))) ⌝ }
+{
+    let mut sum: usize = 0;
+    let mut i: usize = 0;
+    while i < k {
+        let slip = tables::wide(kept[i]);
+        let part = trays::slip_part(letters, ends, slip);
+        sum += part.len();
+        i += 1;
+    }
+    sum
+}
+
+// The overlaps of the first `n` joins, summed.
+fn saved_letters(joins: &[u16], n: usize) -> usize
+    requires { ⌜ (n ≤ 200) × (3 * n ≤ length (now joins)) ⌝ }
+    ensures { λ r. ⌜ r ≡ thirds (now (joins .entry)) n ⌝ }
+{
+    let mut sum: usize = 0;
+    let mut i: usize = 0;
+    while i < n {
+        sum += tables::wide(joins[3 * i + 2]);
+        i += 1;
+    }
+    sum
+}
+
+// The pieces of the legend, slip and overlap of each.
+fn pieces_of(work: &[u16], left: &[u16], right: &[u16], overs: &[u16], k: usize, joins: usize) -> [u16; 400]
+    requires { ⌜ StageAsks (now work) k joins (now left) (now right) (now overs) ⌝ }
+    ensures { λ r. ⌜ PiecesStaged (now (work .entry)) k joins (now (left .entry)) (now (right .entry)) (now (overs .entry)) r ⌝ }
+{
+    let mut pieces = [0u16; 400];
+    laying::all_pieces(&work[KEPT..KEPT + 200], k, left, right, overs, joins + 1, &mut pieces);
+    pieces
+}
+
+// The places of all slips, in the work area: those of the pieces, then those of the slips set aside.
+fn write_places(letters: &[u8], ends: &[u16], work: &mut [u16], legend: &[u8], pieces: &[u16], k: usize)
+    requires { ⌜ PlacingAsks (now letters) (now ends) (now work) (now legend) (now pieces) k ⌝ }
+    ensures { λ _. ⌜ Placed (now (letters .entry)) (now (ends .entry)) (now (work .entry)) (now (work .exit)) ⌝ }
+{
+    tables::clear(work, PLACES, 400);
+    laying::kept_places(letters, ends, pieces, k, &mut work[PLACES..PLACES + 400]);
+    laying::aside_places(letters, ends, legend, &mut work[PLACES..PLACES + 400]);
 }

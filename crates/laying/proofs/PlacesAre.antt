@@ -48,6 +48,10 @@ module _ (ss : List (List ℕ)) where
   put-length : (xs : List ℕ) (p : Piece) (here : ℕ) → length (putPlace xs p here) ≡ length xs
   put-length xs p here = simp length-set
 
+  pub placed-length : (ps : List Piece) (xs : List ℕ) (here : ℕ) → length (placedBy ss xs here ps) ≡ length xs
+  placed-length [] xs here = refl
+  placed-length (p ∷ ps) xs here = placed-length ps (putPlace xs p here) (here + length (added ss p)) ∙ put-length xs p here
+
   -- slip k + 1 is not among the pieces: its cells are kept
   pub placed-other : (ps : List Piece) (xs : List ℕ) (here k j : ℕ) → Once ps → laid (suc k) ps ≡ false → j ≡ 2 * k → (getD (placedBy ss xs here ps) j 0 ≡ getD xs j 0) × (getD (placedBy ss xs here ps) (j + 1) 0 ≡ getD xs (j + 1) 0)
   placed-other [] xs here k j o h e = (refl, refl)
@@ -79,9 +83,9 @@ module _ (ss : List (List ℕ)) where
     at-length : (xs : List ℕ) (i : ℕ) → length (asideAt ss t xs i) ≡ length xs
     at-length xs i = by-test (eqb (getD xs (2 * i + 1) 0) 0) (λ e. rw e (length-set xs (2 * i) _)) (λ e. rw e)
 
-    by-length : (xs : List ℕ) (n : ℕ) → length (asideBy ss t xs n) ≡ length xs
-    by-length xs zero = refl
-    by-length xs (suc n) = at-length (asideBy ss t xs n) n ∙ by-length xs n
+    pub aside-length : (xs : List ℕ) (n : ℕ) → length (asideBy ss t xs n) ≡ length xs
+    aside-length xs zero = refl
+    aside-length xs (suc n) = at-length (asideBy ss t xs n) n ∙ aside-length xs n
 
     at-other : (xs : List ℕ) (i j : ℕ) → (j ≡ 2 * i → ⊥) → getD (asideAt ss t xs i) j 0 ≡ getD xs j 0
     at-other xs i j ne = by-test (eqb (getD xs (2 * i + 1) 0) 0) (λ e. rw e (getD-set-other xs (2 * i) j _ 0 ne)) (λ e. rw e)
@@ -103,7 +107,7 @@ module _ (ss : List (List ℕ)) where
         elim (ℕ-discrete n k) [
           | yes e ↦
               rw e
-              (here-now (asideBy ss t xs k) k (rw by-length l)
+              (here-now (asideBy ss t xs k) k (rw aside-length l)
               ∙ rw (aside-mark xs k k, not-yet xs k k (omega arith)))
           | no ne ↦ at-other (asideBy ss t xs n) n (2 * k) (λ q. ne (omega arith)) ∙ aside-cell xs n k (omega arith) l
         ]

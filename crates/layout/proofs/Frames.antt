@@ -10,7 +10,7 @@ use native.Mathlib.Omega.{arith}
 use lib.ListN.{length, getD, drop, length-take, length-drop}
 use lib.Seq.{getD-take, getD-drop}
 use Rattle.words.proofs.Members.{In}
-use Rattle.trays.specs.Limits.{maxLetters}
+use Rattle.trays.specs.Limits.{maxSlips, maxLetters}
 use Rattle.trays.specs.Slips.{slipsOf, slip, startOf, endOf}
 use Rattle.trays.specs.Faults.{trayFault}
 use Rattle.trays.proofs.Accepted.{accepted-tells, span-fits, span-slip}
@@ -68,7 +68,7 @@ module _ {w w′ : List ℕ} where
   members-kept n h k = table-same w w′ MEMBERS n (k .same) (λ i l. k .cells (MEMBERS + i) (omega arith))
 
   module _ {s es : List ℕ} {n count : ℕ} where
-    pub patterns-kept : {b : ℕ} → Numbered s es n count w → 200 ≤ b → Kept b w w′ → patternsIn s es n w′ ≡ patternsIn s es n w
+    pub patterns-kept : {b : ℕ} → Numbered s es n count w → maxSlips ≤ b → Kept b w w′ → patternsIn s es n w′ ≡ patternsIn s es n w
     patterns-kept N h k = ap (patterns (slipsOf s es)) (members-kept n (omega (arith, N .few-members)) k)
 
     pub numbered-kept : Kept KID w w′ → Numbered s es n count w → Numbered s es n count w′

@@ -1,6 +1,6 @@
 -- The nodes of the patterns, as `specs/Nodes.antt` defines them, are a numbering: what `Numbered` says of any numbering holds of them.
 --   nodes-numbered   == the nodes ascend by `lower` and have exactly the empty string and the prefixes of the patterns
---   node-root        == node 0 is the empty string
+--   node-root, is-root == node 0 is the empty string
 --   node-some        == a node with a number from 1 on has a letter and begins a pattern
 --   node-of          == a string with a letter that begins a pattern is a node
 --   node-one         == one string has one number
@@ -61,8 +61,15 @@ module _ (ps : List (List ℕ)) where
       node zero n = absurd (omega arith)
       node (suc v) n = let l = inOrder lower (prefixes ps) in in-prefixes (getD l v []) (sorts .back _ (getD-in [] l v (omega arith)))
 
+  pub nodes-some : 0 < length (nodes ps)
+  unfolding nodes
+  nodes-some = omega arith
+
   pub node-root : string ps 0 ≡ []
   node-root = nodes-numbered .root
+
+  pub is-root : IsNode ps 0 []
+  is-root = record { inside = nodes-some; is = node-root }
 
   pub node-some : (v : ℕ) → Num ps v → (1 ≤ length (string ps v)) × (beginsSome (string ps v) ps ≡ true)
   node-some v n = nodes-numbered .node v (n .some, n .inside)

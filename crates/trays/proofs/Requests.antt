@@ -145,7 +145,7 @@ module _ (s es : List ℕ) (i : ℕ) (f : Refusal) (e : f ≡ slipFault s es i) 
     pub stretch-good : (x : List ℕ) → x ≡ slip (slipsOf s es) i → Stretch s es i x (f .number) (f .detail)
     stretch-good x h = record { letters-are = h ∙ rw (rw e at z, stretchOf); number-is = rw e; detail-is = rw e }
 
-slip-small : (s es : List ℕ) (i : ℕ) → trayFault s es .number ≡ 0 → 1 ≤ i → i ≤ length es → length (slip (slipsOf s es) i) ≤ 2000
+pub slip-small : (s es : List ℕ) (i : ℕ) → trayFault s es .number ≡ 0 → 1 ≤ i → i ≤ length es → length (slip (slipsOf s es) i) ≤ 2000
 slip-small s es i acc one most =
     rw (span-slip s es acc i one most, length-take)
     (omega (arith, accepted-tells s es acc .small, length-drop (startOf es i) s))

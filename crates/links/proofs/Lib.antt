@@ -1,0 +1,6 @@
+-- Laws of children, steps and failure links, and the proofs of the functions on them.
+pub mod Parents
+pub mod Kids
+pub mod Children
+pub mod Steps
+pub mod Fails

@@ -1,0 +1,2 @@
+-- Children, steps and failure links by node numbers.
+pub mod Links

@@ -1,0 +1,74 @@
+-- Children, steps and failure links by node numbers, in the work area w of a tray with letters s and ends es.
+--   parentOf w u          == the node of the string of node u without its last letter
+--   letterOf s w u        == its last letter
+--   Placed w u            == the cells that tell the parent of u are there
+--   Lettered s w u        == those that tell its letter
+--   Child ps v c r        == r is the node of the string of v with the letter c, 0 if that is no node
+--   StepIs ps v c u d     == one letter c read in the state of node v leads to the state of node u by d drops
+--   LinkIs ps v r         == r is the failure link of node v
+--   CanStep .. v          == the children are known, and the failure links of the nodes up to v
+--   CanLink .. v          == the children are known, and the failure links of the nodes below v
+--   KidsFilled, FailsFilled, LinksFilled == only the table KID, or FAIL, or both were written, and they are right
+use mathlib.Core.Path.{_≡_}
+use mathlib.Core.Bool.{false, cond}
+use mathlib.Core.List.{List, [], _∷_, _++_}
+use Prim.Native.Nat.{ℕ, _+_, _-_, _≤_, _<_}
+use lib.Dec.{ltb}
+use lib.ListN.{length, getD}
+use Rattle.words.specs.Lists.{tailOf}
+use Rattle.tables.specs.Tables.{Cells, Only}
+use Rattle.matching.specs.Moves.{beginsSome, longestEnding, step}
+use Rattle.matching.specs.Nodes.{string, IsNode}
+use Rattle.layout.specs.Layout.{AT, OWN, LEVEL, KID, FAIL}
+use Rattle.layout.specs.Tables.{cell, FailUpTo}
+use Rattle.layout.specs.Numbered.{patternsIn, Branched, Automaton}
+
+-- a string of one letter has the empty string before it; the last letter of any other stands behind its parent's
+abbrev pub parentOf : List ℕ → ℕ → ℕ
+parentOf w u = cond (ltb u (cell w LEVEL 2)) 0 (cell w AT (cell w OWN u - 1))
+
+abbrev pub letterOf : List ℕ → List ℕ → ℕ → ℕ
+letterOf s w u = getD s (cell w OWN u) 0
+
+pub record Placed (w : List ℕ) (u : ℕ) : Type 0 where
+  pub levels : LEVEL + 2 < length w
+  pub own : OWN + u < length w
+  pub before : cell w LEVEL 2 ≤ u → (1 ≤ cell w OWN u) × (AT + cell w OWN u ≤ length w)
+
+pub record Lettered (s w : List ℕ) (u : ℕ) : Type 0 where
+  pub own : OWN + u < length w
+  pub within : cell w OWN u < length s
+
+pub record Child (ps : List (List ℕ)) (v c r : ℕ) : Type 0 where
+  pub node : (r ≡ 0 → ⊥) → IsNode ps r (string ps v ++ (c ∷ []))
+  pub none : r ≡ 0 → beginsSome (string ps v ++ (c ∷ [])) ps ≡ false
+
+pub record StepIs (ps : List (List ℕ)) (v c u d : ℕ) : Type 0 where
+  pub state : IsNode ps u (step ps (string ps v) c .state)
+  pub drops : d ≡ step ps (string ps v) c .drops
+
+abbrev pub LinkIs : List (List ℕ) → ℕ → ℕ → Type 0
+LinkIs ps v r = IsNode ps r (longestEnding (tailOf (string ps v)) ps)
+
+pub record CanStep (s es : List ℕ) (n count : ℕ) (w : List ℕ) (v : ℕ) : Type 0 where
+  pub branched : Branched s es n count w
+  pub node : v ≤ count
+  pub links : FailUpTo (patternsIn s es n w) v (cell w FAIL)
+
+pub record CanLink (s es : List ℕ) (n count : ℕ) (w : List ℕ) (v : ℕ) : Type 0 where
+  pub branched : Branched s es n count w
+  pub some : 1 ≤ v
+  pub node : v ≤ count
+  pub links : (k : ℕ) → k < v → FailUpTo (patternsIn s es n w) k (cell w FAIL)
+
+pub record KidsFilled (s es : List ℕ) (n count : ℕ) (w w′ : List ℕ) : Type 0 where
+  pub branched : Branched s es n count w′
+  pub only : Only (Cells KID 2002) w w′
+
+pub record FailsFilled (s es : List ℕ) (n count : ℕ) (w w′ : List ℕ) : Type 0 where
+  pub automaton : Automaton s es n count w′
+  pub only : Only (Cells FAIL 2001) w w′
+
+pub record LinksFilled (s es : List ℕ) (n count : ℕ) (w w′ : List ℕ) : Type 0 where
+  pub automaton : Automaton s es n count w′
+  pub only : Only (Cells KID 4003) w w′
