@@ -3,3 +3,5 @@ pub mod FlatPlaces
 pub mod PiecesFit
 pub mod SumLoops
 pub mod StageSteps
+pub mod CountSteps
+pub mod WriteSteps

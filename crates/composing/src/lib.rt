@@ -4,7 +4,7 @@ ghost use Prim.Native.Nat.{_+_, _*_, _≤_, _<_};
 ghost use lib.ListN.{length, take};
 ghost use Rattle.trays.specs.Slips.{slipsOf, total};
 ghost use Rattle.layout.specs.Layout as L;
-ghost use Rattle.composing.specs.Steps.{thirds, KeptReal, StageAsks, PiecesStaged, PlacingAsks, Placed};
+ghost use Rattle.composing.specs.Steps.{thirds, KeptReal, StageAsks, PiecesStaged, Walked, CountsAre, PlacingAsks, Placed, WritingAsks, Written};
 use layout::{JOINS, KEPT, PLACES};
 
 // The answer: number and detail of the refusal, or the counts of what was composed: slips, kept slips, kept letters, saved letters, legend letters, joins.
@@ -17,6 +17,13 @@ pub struct Composed {
     pub saved: u32,
     pub legend: u32,
     pub joins: u32,
+}
+
+// Kept letters, saved letters, and the letters that the legend needs.
+pub struct Counts {
+    pub letters: usize,
+    pub saved: usize,
+    pub need: usize,
 }
 
 // The letters of the first `k` slips of `kept`, counted together.
@@ -67,4 +74,27 @@ fn write_places(letters: &[u8], ends: &[u16], work: &mut [u16], legend: &[u8], p
     tables::clear(work, PLACES, 400);
     laying::kept_places(letters, ends, pieces, k, &mut work[PLACES..PLACES + 400]);
     laying::aside_places(letters, ends, legend, &mut work[PLACES..PLACES + 400]);
+}
+
+// What is counted before anything is written.
+fn count_letters(letters: &[u8], ends: &[u16], work: &[u16], k: usize, joins: usize) -> Counts
+    requires { ⌜ Walked (now letters) (now ends) (now work) k joins ⌝ }
+    ensures { λ r. ⌜ CountsAre (now (letters .entry)) (now (ends .entry)) r ⌝ }
+{
+    let all = kept_letters(letters, ends, &work[KEPT..KEPT + 200], k);
+    let saved = saved_letters(&work[JOINS..JOINS + 600], joins);
+    Counts {
+        letters: all,
+        saved,
+        need: all - saved,
+    }
+}
+
+// The legend, then the places.
+fn write_out(letters: &[u8], ends: &[u16], work: &mut [u16], legend: &mut [u8], pieces: &[u16], k: usize, need: usize)
+    requires { ⌜ WritingAsks (now letters) (now ends) (now work) (now legend) (now pieces) k need ⌝ }
+    ensures { λ _. ⌜ Written (now (letters .entry)) (now (ends .entry)) (now (work .entry)) (now (work .exit)) (now (legend .entry)) (now (legend .exit)) ⌝ }
+{
+    laying::lay(letters, ends, pieces, 0, k, legend);
+    write_places(letters, ends, work, &legend[..need], pieces, k);
 }

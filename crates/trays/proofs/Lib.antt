@@ -6,3 +6,4 @@ pub mod BadSlip
 pub mod Rows
 pub mod Accepted
 pub mod Requests
+pub mod Specimens

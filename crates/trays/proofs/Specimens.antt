@@ -1,0 +1,95 @@
+-- Computed specimens of the definitions that AllSpecimens leaves: limits, signs, the slips of a tray, the order of the rows, what the
+-- loops of the tray check compute. An edited definition computes another value.
+--   letters, bounds  == the letters and the ends of document 01's `compose` tray, whose slips are `slips`
+use mathlib.Core.Path.{_≡_, refl}
+use mathlib.Core.List.{List, [], _∷_, map}
+use Prim.Native.Nat.{ℕ}
+use Rattle.words.specs.Lists.{those, upFrom}
+use Rattle.words.specs.Words.{overlapFor}
+use Rattle.words.specs.Quoted.{word}
+use Rattle.trays.specs.Limits.{maxSlips, maxSlip, maxLetters, maxText, workNeed, maxFile, endsNeed}
+use Rattle.trays.specs.Slips.{slipsOf, slip, numbers, isLetter, total}
+use Rattle.trays.specs.Aside.{counted}
+use Rattle.trays.specs.Faults.{refusal, written, badPlace, trayFault, slipFault}
+use Rattle.trays.specs.Answers.{Stretch}
+use Rattle.trays.specs.Checks.{noteLong, endsFault, slipHolding, spanOf}
+
+limits :
+    _≡_ {A = List ℕ}
+    (maxSlips ∷ maxSlip ∷ maxLetters ∷ maxText ∷ workNeed ∷ maxFile ∷ endsNeed ∷ [])
+    (200 ∷ 40 ∷ 2000 ∷ 2000 ∷ 32000 ∷ 16384 ∷ 1700 ∷ [])
+limits = refl
+
+-- 27 signs: the full stop, and A to Z
+signs : those isLetter (upFrom 0 256) ≡ 46 ∷ upFrom 65 26
+signs = refl
+
+abbrev letters : List ℕ
+letters = word "IMPCAESAESCAESAVGVGPIVSSIMP"
+
+abbrev bounds : List ℕ
+bounds = 7 ∷ 10 ∷ 17 ∷ 23 ∷ 27 ∷ []
+
+abbrev slips : List (List ℕ)
+slips = map word ("IMPCAES" ∷ "AES" ∷ "CAESAVG" ∷ "VGPIVS" ∷ "SIMP" ∷ [])
+
+parts : slipsOf letters bounds ≡ slips
+parts = refl
+
+numbered : map (slip slips) (0 ∷ 1 ∷ 5 ∷ 6 ∷ []) ≡ map word ("" ∷ "IMPCAES" ∷ "SIMP" ∷ "" ∷ [])
+numbered = refl
+
+counting : (numbers slips ∷ (total slips (1 ∷ 3 ∷ 4 ∷ 5 ∷ []) ∷ []) ∷ []) ≡ ((1 ∷ 2 ∷ 3 ∷ 4 ∷ 5 ∷ []) ∷ (24 ∷ []) ∷ [])
+counting = refl
+
+spans :
+    map (spanOf bounds) (0 ∷ 1 ∷ 2 ∷ 5 ∷ [])
+    ≡ (record { start = 0; end = 0 } ∷ record { start = 0; end = 7 } ∷ record { start = 7; end = 10 } ∷ record { start = 23; end = 27 } ∷ [])
+spans = refl
+
+-- the full stop counts as a letter like the rest
+overlaps :
+    (overlapFor counted (word "AVG") (word "AVG") ∷ overlapFor counted (word "A.") (word ".B") ∷ overlapFor counted (word "AVG") (word "CAES") ∷ [])
+    ≡ (3 ∷ 1 ∷ 0 ∷ [])
+overlaps = refl
+
+-- bad letters, and one row fewer at fault each time: the first row wins; its detail is the lowest slip at fault
+first-rows :
+    (trayFault (upFrom 1 2001) (upFrom 0 201)
+    ∷ trayFault (upFrom 1 2001) (41 ∷ 50 ∷ 49 ∷ 48 ∷ [])
+    ∷ trayFault (upFrom 1 2001) (40 ∷ 81 ∷ 122 ∷ [])
+    ∷ trayFault (upFrom 1 2001) (40 ∷ [])
+    ∷ trayFault (upFrom 1 2000) (40 ∷ [])
+    ∷ trayFault (word "AB--E") (3 ∷ 5 ∷ [])
+    ∷ trayFault (word "ABC-E") (3 ∷ 5 ∷ [])
+    ∷ [])
+    ≡ (refusal 1 0 ∷ refusal 2 3 ∷ refusal 3 2 ∷ refusal 4 0 ∷ refusal 5 0 ∷ refusal 6 1 ∷ refusal 6 2 ∷ [])
+unfolding trayFault
+first-rows = refl
+
+requests : map (slipFault letters bounds) (0 ∷ 1 ∷ 5 ∷ 6 ∷ []) ≡ (refusal 10 0 ∷ refusal 0 0 ∷ refusal 0 0 ∷ refusal 10 6 ∷ [])
+unfolding slipFault
+requests = refl
+
+refused : Stretch letters bounds 6 [] 10 6
+unfolding slipFault
+refused = record { letters-are = refl; number-is = refl; detail-is = refl }
+
+-- a buffer of three: two letters over its first part, or what it held before
+buffers :
+    map (λ f. written {A = ℕ} f (65 ∷ 66 ∷ []) (7 ∷ 8 ∷ 9 ∷ [])) (refusal 0 0 ∷ refusal 8 15 ∷ [])
+    ≡ ((65 ∷ 66 ∷ 9 ∷ []) ∷ (7 ∷ 8 ∷ 9 ∷ []) ∷ [])
+buffers = refl
+
+-- the first slip that is too long; the slip that holds a place; the first bad byte
+loops :
+    ((noteLong 0 2 40 80 ∷ noteLong 0 2 40 81 ∷ noteLong 1 2 40 81 ∷ [])
+    ∷ map (λ p. slipHolding 1 p (3 ∷ 5 ∷ [])) (1 ∷ 3 ∷ 4 ∷ 6 ∷ [])
+    ∷ map (badPlace 1) (word "AB" ∷ word "A--" ∷ [])
+    ∷ [])
+    ≡ ((0 ∷ 2 ∷ 1 ∷ []) ∷ (1 ∷ 1 ∷ 2 ∷ 0 ∷ []) ∷ (0 ∷ 2 ∷ []) ∷ [])
+loops = refl
+
+-- rows 2 and 3
+end-rows : map endsFault ((40 ∷ 80 ∷ []) ∷ (41 ∷ 41 ∷ []) ∷ (41 ∷ 82 ∷ []) ∷ []) ≡ (refusal 0 0 ∷ refusal 2 2 ∷ refusal 3 1 ∷ [])
+end-rows = refl
