@@ -45,14 +45,14 @@ module _ (w : List ℕ) (room : workNeed ≤ length w) where
       let c : getD (table w JOINS 600) (3 * n + 2) 0 ≡ cell w JOINS (3 * n + 2) = table-at w JOINS 600 (3 * n + 2) (omega arith) in
       rw (thirds-saved n (omega arith), c) (sym (ap saved (joins-more w 0 n) ∙ saved-more (joinsIn w n) (joinIn w (0 + n)) ∙ rw e))
 
-abbrev keptPart : List ℕ → List ℕ
+abbrev pub keptPart : List ℕ → List ℕ
 keptPart w = take (KEPT + 200 - KEPT) (drop KEPT w)
 
 abbrev joinsPart : List ℕ → List ℕ
 joinsPart w = take (JOINS + 600 - JOINS) (drop JOINS w)
 
 module _ (s es w : List ℕ) (k j : ℕ) (a : Walked s es w k j) where
-  kept-part : keptPart w ≡ table w KEPT maxSlips
+  pub kept-part : keptPart w ≡ table w KEPT maxSlips
   kept-part = part-table w KEPT maxSlips (KEPT + 200) refl
 
   joins-part : joinsPart w ≡ table w JOINS 600

@@ -5,3 +5,5 @@ pub mod SumLoops
 pub mod StageSteps
 pub mod CountSteps
 pub mod WriteSteps
+pub mod FinishSteps
+pub mod LastSteps

@@ -7,7 +7,7 @@
 --   Finished        == what the last step leaves
 use mathlib.Core.Path.{_≡_}
 use mathlib.Core.List.{List}
-use Prim.Native.Nat.{ℕ, zero, suc, _+_, _*_, _≤_, _<_}
+use Prim.Native.Nat.{ℕ, zero, suc, _+_, _*_, _^_, _≤_, _<_}
 use lib.ListN.{length, getD, take, replicate}
 use Rattle.words.specs.Lists.{over}
 use Rattle.tables.specs.Tables.{table}
@@ -72,6 +72,19 @@ pub record CountsAre (s es : List ℕ) (c : Counts) : Type 0 where
   pub letters-are : c .letters ≡ keptLetters (slipsOf s es)
   pub saved-are : c .saved ≡ saved (plainJoins (slipsOf s es))
   pub need-is : c .need ≡ length (legendOf (slipsOf s es))
+
+-- the answer made of the counts
+abbrev pub outcomeBy : ℕ → ℕ → Counts → ℕ → Composed
+outcomeBy slips k c j =
+    record { number = 0; detail = 0; slips = slips; kept = k; letters = c .letters; saved = c .saved; legend = c .need; joins = j }
+
+pub record OutcomeAsks (slips k : ℕ) (c : Counts) (j : ℕ) : Type 0 where
+  pub slips-fit : slips < 2 ^ 32
+  pub kept-fit : k < 2 ^ 32
+  pub letters-fit : c .letters < 2 ^ 32
+  pub saved-fit : c .saved < 2 ^ 32
+  pub need-fit : c .need < 2 ^ 32
+  pub joins-fit : j < 2 ^ 32
 
 pub record WritingAsks (s es w l xs : List ℕ) (k need : ℕ) : Type 0 where
   pub room : workNeed ≤ length w

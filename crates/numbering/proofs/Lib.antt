@@ -1,0 +1,8 @@
+-- Laws of the numbering, and the proofs of its functions.
+pub mod Spans
+pub mod Ranked
+pub mod LevelParts
+pub mod Turns
+pub mod StageTurns
+pub mod AllNumbered
+pub mod StageLoops
