@@ -1,0 +1,2 @@
+-- Laws of building.
+pub mod BuildSteps
