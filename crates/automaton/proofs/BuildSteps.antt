@@ -50,10 +50,11 @@ module _ (s es w : List ℕ) (a : Buildable s es w) where
         long₃ = f₃ .only .same ∙ long₂
 
         pub common-asks : (Members s es (table w₃ ORDER n)) × (ORDER + n ≤ COMMON) × (COMMON + n ≤ length w₃)
-        common-asks =
-            (rw (f₃ .cells) (order-members s es (table w₂ ORDER n) (rw (f₂ .cells) (all-sortable s es (a .tray) .members))),
-            omega (arith, few),
-            omega (arith, few, a .room, long₃))
+        common-asks = (
+          rw (f₃ .cells) (order-members s es (table w₂ ORDER n) (rw (f₂ .cells) (all-sortable s es (a .tray) .members))),
+          omega (arith, few),
+          omega (arith, few, a .room, long₃),
+        )
 
         module _ (w₄ : List ℕ) (f₄ : Filled COMMON n (commons (slipsOf s es) 0 (table w₃ ORDER n)) w₃ w₄) where
           pub sorted-same : length w₄ ≡ length w
@@ -73,17 +74,17 @@ module _ (s es w : List ℕ) (a : Buildable s es w) where
           slips-sorted =
               record {
                 sorted =
-                  record {
-                    room = omega (arith, a .room, sorted-same);
-                    accepted = a .tray;
-                    few-members = few;
-                    ascending = rw members-are (asc-upFrom 1 n);
-                    real = λ i h. let r = in-upFrom 1 n (rw members-are at h) in (r .0, omega (arith, r .1));
-                    order = order-is ∙ f₃ .cells ∙ rw (f₂ .cells, members-are);
-                    common = f₄ .cells ∙ rw order-is
-                  };
+                    record {
+                      room = omega (arith, a .room, sorted-same);
+                      accepted = a .tray;
+                      few-members = few;
+                      ascending = rw members-are (asc-upFrom 1 n);
+                      real = λ i h. let r = in-upFrom 1 n (rw members-are at h) in (r .0, omega (arith, r .1));
+                      order = order-is ∙ f₃ .cells ∙ rw (f₂ .cells, members-are);
+                      common = f₄ .cells ∙ rw order-is;
+                    };
                 all-slips = members-are ∙ rw (slips-count s es);
-                same = sorted-same
+                same = sorted-same;
               }
 
 -- numbers and links
@@ -97,8 +98,8 @@ module _ (s es w w₁ : List ℕ) (a : SortedAll s es w w₁) (count : ℕ) (w�
       record {
         automaton = g .automaton;
         all-slips =
-          cells-below MEMBERS (length es) (g .only) (omega arith)
-          ∙ cells-below MEMBERS (length es) (f .only) (omega arith)
-          ∙ a .all-slips;
-        same = built-same
+            cells-below MEMBERS (length es) (g .only) (omega arith)
+            ∙ cells-below MEMBERS (length es) (f .only) (omega arith)
+            ∙ a .all-slips;
+        same = built-same;
       }

@@ -1,6 +1,8 @@
 // The automaton of all slips of an accepted tray, built in the lent work area.
 ghost use Rattle.automaton.specs.Built.{Buildable, SortedAll, Built};
-use layout::{COMMON, MEMBERS, ORDER};
+use layout::COMMON;
+use layout::MEMBERS;
+use layout::ORDER;
 
 // All slips as members, in the order of their letters.
 fn sort_slips(letters: &[u8], ends: &[u16], work: &mut [u16])

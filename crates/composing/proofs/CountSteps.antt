@@ -17,7 +17,6 @@ use Rattle.greedy.proofs.Demand3.{composed}
 use Rattle.layout.specs.Layout.{KEPT, JOINS}
 use Rattle.layout.specs.Tables.{cell}
 use Rattle.layout.specs.Staging.{keptIn, joinIn, joinsIn}
-use Rattle.composing.specs.declared.Counts.{Counts}
 use Rattle.composing.specs.Steps.{thirds, KeptReal, Walked, CountsAre}
 use Rattle.composing.proofs.PiecesFit.{kept-real}
 
@@ -31,7 +30,7 @@ saved-more : (js : List Join) (j : Join) → saved (js ++ (j ∷ [])) ≡ saved 
 saved-more [] j = omega arith
 saved-more (k ∷ js) j = omega (arith, saved-more js j)
 
-joins-more : (w : List ℕ) (m n : ℕ) → map (joinIn w) (upFrom m (suc n)) ≡ map (joinIn w) (upFrom m n) ++ (joinIn w (m + n) ∷ [])
+pub joins-more : (w : List ℕ) (m n : ℕ) → map (joinIn w) (upFrom m (suc n)) ≡ map (joinIn w) (upFrom m n) ++ (joinIn w (m + n) ∷ [])
 joins-more w m zero = let e : m + 0 ≡ m = omega arith in rw e
 joins-more w m (suc n) =
     let e : suc m + n ≡ m + suc n = omega arith in
@@ -68,13 +67,15 @@ module _ (s es w : List ℕ) (k j : ℕ) (a : Walked s es w k j) where
         tray = a .tray;
         enough = omega (arith, a .few-kept);
         few = a .few-kept;
-        real = λ i h. rw (← (first-at i h)) (kept-real s es (a .tray) (getD (keptIn w k) i 0) (in-kept-list i h))
+        real = λ i h. rw (← (first-at i h)) (kept-real s es (a .tray) (getD (keptIn w k) i 0) (in-kept-list i h));
       }
     where
       size : length (keptIn w k) ≡ k
       size = table-length w KEPT k (omega (arith, a .room, a .few-kept))
+
       in-kept-list : (i : ℕ) → i < k → In (getD (keptIn w k) i 0) (kept (slipsOf s es) (numbers (slipsOf s es)))
       in-kept-list i h = subst (λ (l : List ℕ). In (getD (keptIn w k) i 0) l) (a .kept-is) (at-in (keptIn w k) i (omega (arith, size)))
+
       first-at : (i : ℕ) → i < k → getD (keptIn w k) i 0 ≡ getD (keptPart w) i 0
       first-at i h = table-at w KEPT k i h ∙ sym (ap (λ (l : List ℕ). getD l i 0) kept-part ∙ table-at w KEPT maxSlips i (omega (arith, a .few-kept)))
 
@@ -98,5 +99,5 @@ module _ (s es w : List ℕ) (k j : ℕ) (a : Walked s es w k j) where
         record {
           letters-are = letters-are;
           saved-are = saved-are;
-          need-is = omega (arith, letters-are, saved-are, composed (slipsOf s es) .saving)
+          need-is = omega (arith, letters-are, saved-are, composed (slipsOf s es) .saving);
         }

@@ -1,36 +1,27 @@
 -- The last step: 8, 9, or all is written.
 use mathlib.Core.Path.{_≡_, refl, sym, _∙_, ap}
-use mathlib.Core.Bool.{true, false, _||_}
-use mathlib.Core.List.{List, [], _∷_, _++_, append-assoc, map}
+use mathlib.Core.Bool.{true, _||_}
+use mathlib.Core.List.{List, [], _∷_, _++_, append-assoc}
 use Prim.Native.Nat.{ℕ, zero, suc, _+_, _*_, _≤_, _<_}
 use borrow.Author.Tests.{lt-ltb, le-ltb}
 use native.Mathlib.Omega.{arith}
 use lib.Dec.{ltb}
-use lib.ListN.{length, getD, take, replicate, length-replicate}
-use Rattle.words.specs.Lists.{each, upFrom, over}
-use Rattle.words.proofs.Tests.{by-test}
-use Rattle.words.proofs.Members.{In}
+use lib.ListN.{length, getD}
 use Rattle.tables.specs.Tables.{table}
-use Rattle.tables.proofs.Tables.{table-length, table-take, table-more, table-same}
+use Rattle.tables.proofs.Tables.{table-more}
 use Rattle.trays.specs.declared.Refusal.{Refusal}
-use Rattle.trays.specs.Limits.{maxSlips, maxLetters, workNeed}
+use Rattle.trays.specs.Limits.{maxSlips, workNeed}
 use Rattle.trays.specs.Slips.{slipsOf, numbers}
-use Rattle.trays.specs.Aside.{kept, counted}
 use Rattle.trays.specs.Faults.{refusal, accepted, row, orElse, firstRow, trayRows, trayFault, written}
 use Rattle.trays.proofs.Rows.{or-zero, rows-append}
-use Rattle.trays.proofs.Accepted.{accepted-tells, slips-count}
-use Rattle.greedy.specs.Joins.{Join, plainJoins, saved, rightOf}
-use Rattle.greedy.specs.Legends.{legendOf, pieces}
-use Rattle.laying.specs.Chains.{PiecesAsk}
-use Rattle.laying.proofs.NeighbourPieces.{pieces-by}
-use Rattle.layout.specs.Layout.{KEPT, JOINS, PLACES}
-use Rattle.layout.specs.Numbered.{Kept}
-use Rattle.layout.specs.Staging.{keptIn, joinIn, joinsIn, Neighbours}
+use Rattle.greedy.specs.Joins.{Join, plainJoins}
+use Rattle.greedy.specs.Legends.{legendOf}
+use Rattle.layout.specs.Layout.{JOINS}
+use Rattle.layout.specs.Staging.{joinIn, joinsIn}
 use Rattle.composing.specs.declared.Composed.{Composed}
-use Rattle.composing.specs.declared.Counts.{Counts}
-use Rattle.composing.specs.Answers.{workRow, composeFault, composedOf, outcomeOf, refusedBy, flatJoins, flatPlaces}
-use Rattle.composing.specs.Steps.{Walked, Joined, Pieces, piecesHere, StageAsks, PiecesStaged, CountsAre, WritingAsks, Written, Placed, Finished}
-use Rattle.composing.proofs.PiecesFit.{kept-real, kept-few, kept-small, legend-small, pieces-count}
+use Rattle.composing.specs.Answers.{workRow, composeFault, composedOf, outcomeOf, refusedBy, flatJoins}
+use Rattle.composing.specs.Steps.{Finished}
+use Rattle.composing.proofs.CountSteps.{joins-more}
 
 -- behind an accepted tray with a work area large enough, only 8 and 9 are left
 module _ (s es w : List ℕ) (tray : trayFault s es .number ≡ 0) (room : workNeed ≤ length w) (l j p : ℕ) where
@@ -40,7 +31,7 @@ module _ (s es w : List ℕ) (tray : trayFault s es .number ≡ 0) (room : workN
   outcome-rows :
       composeFault s es (length w) l j p
       ≡ orElse (row 8 (ltb l (length (legendOf ss))) (length (legendOf ss)))
-        (orElse (row 9 (ltb j (length (plainJoins ss)) || ltb p (length ss)) (length (plainJoins ss))) accepted)
+      (orElse (row 9 (ltb j (length (plainJoins ss)) || ltb p (length ss)) (length (plainJoins ss))) accepted)
   unfolding composeFault trayFault
   outcome-rows =
       rows-append (trayRows s es) (workRow (length w) ∷ (row 8 (ltb l (length (legendOf ss))) (length (legendOf ss)) ∷ (row 9 (ltb j (length (plainJoins ss)) || ltb p (length ss)) (length (plainJoins ss)) ∷ [])))
@@ -76,7 +67,7 @@ turned-back s es w l j p f n d r e h q =
       legend-is = sym (ap (λ (g : Refusal). written g (legendOf (slipsOf s es)) l) (h ∙ e));
       same = refl;
       joins-are = λ z. absurd (no z);
-      places-are = λ z. absurd (no z)
+      places-are = λ z. absurd (no z);
     }
   where
     no : r .number ≡ 0 → ⊥
@@ -86,12 +77,6 @@ turned-back s es w l j p f n d r e h q =
 flat-more : (js : List Join) (j : Join) → flatJoins (js ++ (j ∷ [])) ≡ flatJoins js ++ (j .left ∷ (j .right ∷ (j .overlap ∷ [])))
 flat-more [] j = refl
 flat-more (k ∷ js) j = ap (λ (l : List ℕ). k .left ∷ (k .right ∷ (k .overlap ∷ l))) (flat-more js j)
-
-map-more : (w : List ℕ) (m n : ℕ) → map (joinIn w) (upFrom m (suc n)) ≡ map (joinIn w) (upFrom m n) ++ (joinIn w (m + n) ∷ [])
-map-more w m zero = let e : m + 0 ≡ m = omega arith in rw e
-map-more w m (suc n) =
-    let e : suc m + n ≡ m + suc n = omega arith in
-    ap (λ (l : List Join). joinIn w m ∷ l) (map-more w (suc m) n ∙ rw e)
 
 table-three : (w : List ℕ) (base n : ℕ) → base + (3 * suc n) ≤ length w → table w base (3 * suc n) ≡ table w base (3 * n) ++ (getD w (base + 3 * n) 0 ∷ (getD w (base + (3 * n + 1)) 0 ∷ (getD w (base + (3 * n + 2)) 0 ∷ [])))
 table-three w base n h =
@@ -108,5 +93,4 @@ module _ (w : List ℕ) (room : workNeed ≤ length w) where
       let e : 0 + n ≡ n = omega arith in
       table-three w JOINS n (omega arith)
       ∙ ap (λ (l : List ℕ). l ++ (getD w (JOINS + 3 * n) 0 ∷ (getD w (JOINS + (3 * n + 1)) 0 ∷ (getD w (JOINS + (3 * n + 2)) 0 ∷ [])))) (flat-table n (omega arith))
-      ∙ sym (ap flatJoins (map-more w 0 n) ∙ flat-more (joinsIn w n) (joinIn w (0 + n)) ∙ rw e)
-
+      ∙ sym (ap flatJoins (joins-more w 0 n) ∙ flat-more (joinsIn w n) (joinIn w (0 + n)) ∙ rw e)

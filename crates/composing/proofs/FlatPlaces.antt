@@ -16,7 +16,7 @@ use Rattle.words.specs.Lists.{each, upFrom}
 use Rattle.words.proofs.Tests.{by-test}
 use Rattle.trays.specs.Slips.{slip, numbers}
 use Rattle.trays.specs.Aside.{isAside, counted}
-use Rattle.greedy.specs.Legends.{Piece, piecesFor, legendOf, placeIn, placeOf, placeFor, lowest}
+use Rattle.greedy.specs.Legends.{Piece, piecesFor, legendOf, placeOf, placeFor}
 use Rattle.laying.specs.Places.{placedBy, asideBy}
 use Rattle.laying.proofs.PlacesAre.{laid, Once, placed-here, placed-other, aside-mark, aside-cell}
 use Rattle.composing.specs.Answers.{flatPlaces}
@@ -63,31 +63,33 @@ module _ (ss : List (List ℕ)) (xs : List ℕ) (room : 2 * length ss ≤ length
     cells k h =
         by-test (isAside ss (numbers ss) (suc k))
         (λ t.
-          let l : laid (suc k) ps ≡ false = which k h ∙ rw t in
-          let o = placed-other ss ps xs 1 k (2 * k) once l refl in
-          let z : getD (placedBy ss xs 1 ps) (2 * k + 1) 0 ≡ 0 = o .1 ∙ blank k h in
-          (aside-cell ss (legendOf ss) (placedBy ss xs 1 ps) (length ss) k h (omega arith) ∙ rw (z, t, placeFor),
-          aside-mark ss (legendOf ss) (placedBy ss xs 1 ps) (length ss) k ∙ z ∙ rw t))
+        let l : laid (suc k) ps ≡ false = which k h ∙ rw t in
+        let o = placed-other ss ps xs 1 k (2 * k) once l refl in
+        let z : getD (placedBy ss xs 1 ps) (2 * k + 1) 0 ≡ 0 = o .1 ∙ blank k h in (
+          aside-cell ss (legendOf ss) (placedBy ss xs 1 ps) (length ss) k h (omega arith) ∙ rw (z, t, placeFor),
+          aside-mark ss (legendOf ss) (placedBy ss xs 1 ps) (length ss) k ∙ z ∙ rw t,
+        ))
         (λ t.
-          let l : laid (suc k) ps ≡ true = which k h ∙ rw t in
-          let o = placed-here ss ps xs 1 k (2 * k) once l refl (omega arith) in
-          (aside-cell ss (legendOf ss) (placedBy ss xs 1 ps) (length ss) k h (omega arith) ∙ rw (o .1, t, placeFor) (o .0),
-          aside-mark ss (legendOf ss) (placedBy ss xs 1 ps) (length ss) k ∙ o .1 ∙ rw t))
+        let l : laid (suc k) ps ≡ true = which k h ∙ rw t in
+        let o = placed-here ss ps xs 1 k (2 * k) once l refl (omega arith) in (
+          aside-cell ss (legendOf ss) (placedBy ss xs 1 ps) (length ss) k h (omega arith) ∙ rw (o .1, t, placeFor) (o .0),
+          aside-mark ss (legendOf ss) (placedBy ss xs 1 ps) (length ss) k ∙ o .1 ∙ rw t,
+        ))
 
     pub places-flat : 2 * length ss ≤ length after → take (2 * length ss) after ≡ flatPlaces ss
     places-flat l =
         let size : length (take (2 * length ss) after) ≡ 2 * length ss = length-take-le (2 * length ss) after l in
         ext-getD 0 (take (2 * length ss) after) (flatPlaces ss) (size ∙ sym (twos-length (placeOf ss) (λ i. cond (isAside ss (numbers ss) i) 0 1) 1 (length ss)))
         (λ j h.
-          elim (half j (length ss) (omega arith)) [
-            | inl r ↦
-                getD-take (2 * length ss) after j 0 (omega arith)
-                ∙ ap (λ (i : ℕ). getD after i 0) (r .2)
-                ∙ cells (r .0) (r .1) .0
-                ∙ sym (ap (λ (i : ℕ). getD (flatPlaces ss) i 0) (r .2) ∙ flat-at ss (r .0) (r .1) .0)
-            | inr r ↦
-                getD-take (2 * length ss) after j 0 (omega arith)
-                ∙ ap (λ (i : ℕ). getD after i 0) (r .2)
-                ∙ cells (r .0) (r .1) .1
-                ∙ sym (ap (λ (i : ℕ). getD (flatPlaces ss) i 0) (r .2) ∙ flat-at ss (r .0) (r .1) .1)
-          ])
+        elim (half j (length ss) (omega arith)) [
+          | inl r ↦
+              getD-take (2 * length ss) after j 0 (omega arith)
+              ∙ ap (λ (i : ℕ). getD after i 0) (r .2)
+              ∙ cells (r .0) (r .1) .0
+              ∙ sym (ap (λ (i : ℕ). getD (flatPlaces ss) i 0) (r .2) ∙ flat-at ss (r .0) (r .1) .0)
+          | inr r ↦
+              getD-take (2 * length ss) after j 0 (omega arith)
+              ∙ ap (λ (i : ℕ). getD after i 0) (r .2)
+              ∙ cells (r .0) (r .1) .1
+              ∙ sym (ap (λ (i : ℕ). getD (flatPlaces ss) i 0) (r .2) ∙ flat-at ss (r .0) (r .1) .1)
+        ])

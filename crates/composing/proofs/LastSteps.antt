@@ -1,40 +1,37 @@
 -- From what the walk left to the answer.
 use mathlib.Core.Path.{_≡_, refl, sym, _∙_, ap, subst}
-use mathlib.Core.Bool.{true, false, _||_}
-use mathlib.Core.List.{List, [], _∷_, map}
-use Prim.Native.Nat.{ℕ, zero, suc, _+_, _*_, _^_, _≤_, _<_}
-use borrow.Author.Tests.{lt-ltb, le-ltb}
-use native.Mathlib.Numerals.{add-one}
+use mathlib.Core.Bool.{true, _||_}
+use mathlib.Core.List.{List, [], _∷_}
+use Prim.Native.Nat.{ℕ, suc, _+_, _*_, _^_, _≤_, _<_}
+use borrow.Author.Tests.{lt-ltb}
 use native.Mathlib.Omega.{arith}
 use lib.Dec.{eqb, ltb}
-use lib.ListN.{length, getD, take, replicate, length-replicate, length-map}
-use Rattle.words.specs.Lists.{upFrom, over}
+use lib.ListN.{length, getD, take, length-replicate, length-map}
+use Rattle.words.specs.Lists.{upFrom}
 use Rattle.words.proofs.Tests.{by-test, or-left, or-right}
-use Rattle.words.proofs.Members.{In}
 use Rattle.words.proofs.Sums.{All}
 use Rattle.tables.specs.Tables.{table}
 use Rattle.tables.proofs.Tables.{table-length, table-take, table-same}
 use Rattle.trays.specs.declared.Refusal.{Refusal}
-use Rattle.trays.specs.Limits.{maxSlips, maxLetters, workNeed}
+use Rattle.trays.specs.Limits.{maxSlips}
 use Rattle.trays.specs.Slips.{slipsOf, numbers}
 use Rattle.trays.specs.Aside.{kept, counted}
-use Rattle.trays.specs.Faults.{refusal, accepted, written}
+use Rattle.trays.specs.Faults.{refusal, written}
 use Rattle.trays.proofs.Accepted.{accepted-tells, slips-count}
-use Rattle.greedy.specs.Joins.{Join, plainJoins, plainFor, rightOf}
-use Rattle.greedy.specs.Legends.{Piece, legendOf, pieces, piecesFor}
+use Rattle.greedy.specs.Joins.{Join, plainJoins, rightOf}
+use Rattle.greedy.specs.Legends.{legendOf, pieces, piecesFor}
 use Rattle.greedy.proofs.Relabel.{plain-in}
 use Rattle.greedy.proofs.Demand3.{composed}
 use Rattle.laying.specs.Laying.{staged}
-use Rattle.laying.specs.Chains.{piecesBy, PiecesAsk}
 use Rattle.laying.proofs.NeighbourPieces.{pieces-by}
-use Rattle.layout.specs.Layout.{KEPT, JOINS, PLACES}
-use Rattle.layout.specs.Staging.{keptIn, joinIn, joinsIn, Neighbours}
+use Rattle.layout.specs.Layout.{KEPT, JOINS}
+use Rattle.layout.specs.Staging.{joinIn, joinsIn}
 use Rattle.composing.specs.declared.Composed.{Composed}
 use Rattle.composing.specs.declared.Counts.{Counts}
 use Rattle.composing.specs.Answers.{refusedBy}
-use Rattle.composing.specs.Steps.{Walked, Joined, Pieces, piecesHere, StageAsks, PiecesStaged, CountsAre, WritingAsks, Written, Placed, Finished, OutcomeAsks, outcomeBy}
-use Rattle.composing.proofs.PiecesFit.{kept-real, kept-few, kept-small, legend-small, pieces-count}
-use Rattle.composing.proofs.CountSteps.{keptPart, kept-part, kept-asks}
+use Rattle.composing.specs.Steps.{Walked, Joined, piecesHere, StageAsks, PiecesStaged, CountsAre, WritingAsks, Written, Finished, OutcomeAsks, outcomeBy}
+use Rattle.composing.proofs.PiecesFit.{length-upFrom, kept-real, kept-few, kept-small, legend-small, pieces-count}
+use Rattle.composing.proofs.CountSteps.{kept-part, kept-asks}
 use Rattle.composing.proofs.FinishSteps.{legend-short, lists-short, nothing-short, answer-composed, turned-back, flat-table}
 
 right-most : (m i : ℕ) (js : List Join) → All (λ j. j .right ≤ m) js → rightOf i js ≤ m
@@ -44,10 +41,6 @@ right-most m i (j ∷ js) a = by-test (eqb i (j .left)) (λ t. rw (t, rightOf) (
 all-map : {A : Type 0} {P Q : A → Type 0} → ((x : A) → P x → Q x) → (xs : List A) → All P xs → All Q xs
 all-map f [] a = tt
 all-map f (x ∷ xs) a = (f x (a .0), all-map f xs (a .1))
-
-length-upFrom : (m n : ℕ) → length (upFrom m n) ≡ n
-length-upFrom m zero = refl
-length-upFrom m (suc n) = ap suc (length-upFrom (suc m) n)
 
 module _ (s es w : List ℕ) (k j : ℕ) (left right overs : List ℕ) (a : Joined s es w k j left right overs) where
   abbrev ss : List (List ℕ)
@@ -93,16 +86,16 @@ module _ (s es w : List ℕ) (k j : ℕ) (left right overs : List ℕ) (a : Join
         room = walked .room;
         few-joins = walked .few-joins;
         asks =
-          record {
-            enough = omega (arith, table-length w KEPT maxSlips (omega (arith, walked .room)), walked .few-kept);
-            real = λ i h. let q = r .real i h in let e = ap (λ (l : List ℕ). getD l i 0) (kept-part s es w k j walked) in (omega (arith, q .0), omega (arith, q .1, few-ends));
-            lefts = n .lefts;
-            rights = n .rights;
-            over-all = n .over-all;
-            right-small = λ i h. rw (n .right-is i h) (small (suc i));
-            cells = rw (length-replicate {A = ℕ} (2 * maxSlips) 0) (omega arith);
-            room = rw here-pieces (omega (arith, pieces-count s es (walked .tray), kept-few s es (walked .tray)))
-          }
+            record {
+              enough = omega (arith, table-length w KEPT maxSlips (omega (arith, walked .room)), walked .few-kept);
+              real = λ i h. let q = r .real i h in let e = ap (λ (l : List ℕ). getD l i 0) (kept-part s es w k j walked) in (omega (arith, q .0), omega (arith, q .1, few-ends));
+              lefts = n .lefts;
+              rights = n .rights;
+              over-all = n .over-all;
+              right-small = λ i h. rw (n .right-is i h) (small (suc i));
+              cells = rw (length-replicate {A = ℕ} (2 * maxSlips) 0) (omega arith);
+              room = rw here-pieces (omega (arith, pieces-count s es (walked .tray), kept-few s es (walked .tray)));
+            };
       }
 
   module _ (c : Counts) (h : CountsAre s es c) where
@@ -117,7 +110,7 @@ module _ (s es w : List ℕ) (k j : ℕ) (left right overs : List ℕ) (a : Join
           letters-fit = omega (arith, h .letters-are, kept-small s es (walked .tray));
           saved-fit = omega (arith, h .letters-are, h .saved-are, kept-small s es (walked .tray), composed ss .saving);
           need-fit = small-need;
-          joins-fit = omega (arith, walked .few-joins)
+          joins-fit = omega (arith, walked .few-joins);
         }
 
     count-plain : j ≡ length (plainJoins ss)
@@ -148,7 +141,7 @@ module _ (s es w : List ℕ) (k j : ℕ) (left right overs : List ℕ) (a : Join
               tray = walked .tray;
               need-is = h .need-is;
               space = q;
-              pieces = record { size = p .size; count-is = count-kept; are = subst (λ (n : ℕ). staged xs 0 n ≡ piecesFor counted ss (numbers ss)) (pieces-count s es (walked .tray) ∙ sym count-kept) (rw here-pieces at (p .are)) }
+              pieces = record { size = p .size; count-is = count-kept; are = subst (λ (n : ℕ). staged xs 0 n ≡ piecesFor counted ss (numbers ss)) (pieces-count s es (walked .tray) ∙ sym count-kept) (rw here-pieces at (p .are)) };
             }
 
         pub last-good : (w′ l′ : List ℕ) (r : Composed) → j ≤ jr → length es ≤ pr → Written s es w w′ l l′ → r ≡ outcomeBy (length es) k c j → Finished s es w w′ l l′ jr pr r
@@ -160,8 +153,8 @@ module _ (s es w : List ℕ) (k j : ℕ) (left right overs : List ℕ) (a : Join
               legend-is = d .legend-is ∙ sym (ap (λ (g : Refusal). written g (legendOf ss) l) f);
               same = b .same;
               joins-are = λ z. rw o
-                (table-same w w′ JOINS (3 * j) (b .same) (λ i o. b .cells (JOINS + i) (omega (arith, walked .few-joins)))
-                ∙ flat-table w (walked .room) j (walked .few-joins)
-                ∙ rw (walked .joins-are));
-              places-are = λ z. rw o (d .placed .places-are)
+                  (table-same w w′ JOINS (3 * j) (b .same) (λ i o. b .cells (JOINS + i) (omega (arith, walked .few-joins)))
+                  ∙ flat-table w (walked .room) j (walked .few-joins)
+                  ∙ rw (walked .joins-are));
+              places-are = λ z. rw o (d .placed .places-are);
             }

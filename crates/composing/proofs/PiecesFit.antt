@@ -53,10 +53,11 @@ times-none i (p ∷ ps) h =
 -- each named at most once
 once-times : (ps : List Piece) → ((i : ℕ) → times i ps ≤ 1) → All (λ p. 1 ≤ p .number) ps → Once ps
 once-times [] h a = tt
-once-times (p ∷ ps) h a =
-    (a .0,
-    times-none (p .number) ps (omega (arith, h (p .number), is-same (p .number) (p .number) refl)),
-    once-times ps (λ i. omega (arith, h i)) (a .1))
+once-times (p ∷ ps) h a = (
+  a .0,
+  times-none (p .number) ps (omega (arith, h (p .number), is-same (p .number) (p .number) refl)),
+  once-times ps (λ i. omega (arith, h i)) (a .1),
+)
 
 all-times : (P : ℕ → Type 0) (ps : List Piece) → ((i : ℕ) → 1 ≤ times i ps → P i) → All (λ p. P (p .number)) ps
 all-times P [] h = tt
@@ -66,9 +67,10 @@ all-times P (p ∷ ps) h =
 -- an order of slips of the tray, behind so many letters, can be placed
 order-fits : (s es : List ℕ) (ps : List Piece) (x : List ℕ) → Order (slipsOf s es) x ps → All (λ p. (1 ≤ p .number) × (p .number ≤ length es)) ps → All (PieceFits s es) ps
 order-fits s es [] x o a = tt
-order-fits s es (p ∷ ps) x o a =
-    (record { some = a .0 .0; most = a .0 .1; within = over-most x (p .overlap) (slip (slipsOf s es) (p .number)) (o .0) },
-    order-fits s es ps (slip (slipsOf s es) (p .number)) (o .1) (a .1))
+order-fits s es (p ∷ ps) x o a = (
+  record { some = a .0 .0; most = a .0 .1; within = over-most x (p .overlap) (slip (slipsOf s es) (p .number)) (o .0) },
+  order-fits s es ps (slip (slipsOf s es) (p .number)) (o .1) (a .1),
+)
 
 order-places : (s es : List ℕ) (ps : List Piece) (x : List ℕ) (here : ℕ) → length x < here → here + length (spelled (slipsOf s es) ps) < 65536 → Order (slipsOf s es) x ps → All (λ p. (1 ≤ p .number) × (p .number ≤ length es)) ps → Placeable s es here ps
 order-places s es [] x here h b o a = omega arith
@@ -78,9 +80,14 @@ order-places s es (p ∷ ps) x here h b o a =
     let v : List ℕ × (length (o .0 .0) + p .overlap ≡ length x) = (o .0 .0, o .0 .2) in
     let m : p .overlap ≤ length y = over-most x (p .overlap) y (o .0) in
     let d : length (added ss p) ≡ length y - p .overlap = length-drop (p .overlap) y in
-    let e : length (spelled ss (p ∷ ps)) ≡ length (added ss p) + length (spelled ss ps) = length-append (added ss p) (spelled ss ps) in
-    (a .0 .0, a .0 .1, omega (arith, v .1), m, omega arith,
-    order-places s es ps y (here + length (added ss p)) (omega (arith, v .1)) (omega arith) (o .1) (a .1))
+    let e : length (spelled ss (p ∷ ps)) ≡ length (added ss p) + length (spelled ss ps) = length-append (added ss p) (spelled ss ps) in (
+      a .0 .0,
+      a .0 .1,
+      omega (arith, v .1),
+      m,
+      omega arith,
+      order-places s es ps y (here + length (added ss p)) (omega (arith, v .1)) (omega arith) (o .1) (a .1),
+    )
 
 -- the letters of all slips are at most the tray's letters
 total-next : (x : List ℕ) (ss : List (List ℕ)) (m n : ℕ) → total (x ∷ ss) (upFrom (suc (suc m)) n) ≡ total ss (upFrom (suc m) n)
@@ -107,7 +114,7 @@ length-sum : {A : Type 0} (xs : List A) → sum (λ x. 1) xs ≡ length xs
 length-sum [] = refl
 length-sum (x ∷ xs) = omega (arith, length-sum xs)
 
-length-upFrom : (i n : ℕ) → length (upFrom i n) ≡ n
+pub length-upFrom : (i n : ℕ) → length (upFrom i n) ≡ n
 length-upFrom i zero = refl
 length-upFrom i (suc n) = ap suc (length-upFrom (suc i) n)
 
@@ -152,8 +159,8 @@ module _ (s es : List ℕ) (acc : trayFault s es .number ≡ 0) where
       by-test (isAside ss (numbers ss) (suc k))
       (λ t. rw t (times-none (suc k) ps (times-held (suc k) ∙ none t)))
       (λ t.
-        let m : In (suc k) K = kept-in ss (numbers ss) (upFrom-in 1 (length ss) (suc k) (omega arith) (omega arith)) t in
-        rw t (laid-times (suc k) ps (omega (arith, times-held (suc k), in-held (suc k) K m))))
+      let m : In (suc k) K = kept-in ss (numbers ss) (upFrom-in 1 (length ss) (suc k) (omega arith) (omega arith)) t in
+      rw t (laid-times (suc k) ps (omega (arith, times-held (suc k), in-held (suc k) K m))))
     where
       none : isAside ss (numbers ss) (suc k) ≡ true → held (suc k) K ≡ 0
       none t = go (held (suc k) K) refl

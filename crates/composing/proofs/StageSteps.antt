@@ -1,25 +1,25 @@
 -- Staging the pieces, and writing the places, step by step through the parts of the work area.
 use mathlib.Core.Path.{_≡_, refl, sym, _∙_, ap}
-use mathlib.Core.List.{List, [], _∷_, _++_}
-use Prim.Native.Nat.{ℕ, zero, suc, _+_, _-_, _*_, _≤_, _<_}
+use mathlib.Core.List.{List}
+use Prim.Native.Nat.{ℕ, _+_, _-_, _*_, _≤_, _<_}
 use native.Mathlib.Omega.{arith}
 use lib.ListN.{length, getD, take, drop, replicate, length-replicate, getD-replicate}
 use borrow.Rule.Slice.PartMut.{putMid}
-use Rattle.tables.specs.Tables.{table, Only, Cells, Filled}
-use Rattle.tables.proofs.Tables.{table-length, table-take, part-table, part-filled, filled-at}
-use Rattle.trays.specs.Limits.{maxSlips, maxLetters, workNeed}
+use Rattle.tables.specs.Tables.{table, Filled}
+use Rattle.tables.proofs.Tables.{table-take, part-table, part-filled}
+use Rattle.trays.specs.Limits.{maxSlips, workNeed}
 use Rattle.trays.specs.Slips.{slipsOf, numbers}
 use Rattle.trays.specs.Aside.{counted}
 use Rattle.trays.specs.Faults.{trayFault}
 use Rattle.trays.proofs.Accepted.{accepted-tells, slips-count}
-use Rattle.greedy.specs.Legends.{Piece, legendOf, piecesFor}
+use Rattle.greedy.specs.Legends.{legendOf, piecesFor}
 use Rattle.laying.specs.Laying.{staged}
 use Rattle.laying.specs.Chains.{piecesBy, PiecesAsk, Flattened}
 use Rattle.laying.specs.Places.{placedBy, asideBy, PlacesAsk}
 use Rattle.laying.proofs.PlacesAre.{placed-length, aside-length}
 use Rattle.layout.specs.Layout.{KEPT, PLACES}
 use Rattle.composing.specs.Answers.{flatPlaces}
-use Rattle.composing.specs.Steps.{piecesHere, StageAsks, PiecesStaged, Pieces, PlacingAsks, Placed}
+use Rattle.composing.specs.Steps.{piecesHere, StageAsks, PiecesStaged, PlacingAsks, Placed}
 use Rattle.composing.proofs.PiecesFit.{pieces-once, pieces-which, pieces-places, kept-few, legend-small}
 use Rattle.composing.proofs.FlatPlaces.{places-flat}
 
@@ -75,7 +75,7 @@ module _ (s es w t xs : List ℕ) (k : ℕ) (a : PlacingAsks s es w t xs k) (w�
         tray = a .tray;
         pairs = omega (arith, a .pieces .size, a .pieces .count-is, kept-few s es (a .tray));
         places = omega (arith, few, blank-length);
-        fits = rw (a .pieces .are) (pieces-places s es (a .tray))
+        fits = rw (a .pieces .are) (pieces-places s es (a .tray));
       }
 
   module _ (p₁ : List ℕ) (e₁ : p₁ ≡ placedBy ss (mine w₁) 1 (staged xs 0 k)) where
@@ -89,10 +89,11 @@ module _ (s es w t xs : List ℕ) (k : ℕ) (a : PlacingAsks s es w t xs k) (w�
     again = mine-is (back w₁ p₁) ∙ first .cells
 
     pub aside-asks : (trayFault s es .number ≡ 0) × (length t < 65535) × (2 * length es ≤ length (mine (back w₁ p₁)))
-    aside-asks =
-        (a .tray,
-        omega (arith, ap length (a .legend-is), legend-small s es (a .tray)),
-        omega (arith, few, ap length again, first-length))
+    aside-asks = (
+      a .tray,
+      omega (arith, ap length (a .legend-is), legend-small s es (a .tray)),
+      omega (arith, few, ap length again, first-length),
+    )
 
     module _ (p₂ : List ℕ) (e₂ : p₂ ≡ asideBy ss t (mine (back w₁ p₁)) (length es)) where
       second-is : p₂ ≡ asideBy ss (legendOf ss) (placedBy ss (replicate size 0) 1 (piecesFor counted ss (numbers ss))) (length ss)
@@ -116,6 +117,7 @@ module _ (s es w t xs : List ℕ) (k : ℕ) (a : PlacingAsks s es w t xs k) (w�
         where
           room : 2 * length ss ≤ length {A = ℕ} (replicate size 0)
           room = rw (length-replicate {A = ℕ} size 0) (omega (arith, few, slips-count s es))
+
           zeros : (i : ℕ) → i < length ss → getD {A = ℕ} (replicate size 0) (2 * i + 1) 0 ≡ 0
           zeros i h = getD-replicate size (2 * i + 1) 0 0 (omega (arith, few, slips-count s es))
 
@@ -123,14 +125,14 @@ module _ (s es w t xs : List ℕ) (k : ℕ) (a : PlacingAsks s es w t xs k) (w�
       places-given =
           record {
             below =
-              record {
-                same = places-same;
-                cells = λ p h.
-                  second .only .kept p (λ q. absurd (omega (arith, q .from)))
-                  ∙ first .only .kept p (λ q. absurd (omega (arith, q .from)))
-                  ∙ f .only .kept p (λ q. absurd (omega (arith, q .from)))
-              };
+                record {
+                  same = places-same;
+                  cells = λ p h.
+                      second .only .kept p (λ q. absurd (omega (arith, q .from)))
+                      ∙ first .only .kept p (λ q. absurd (omega (arith, q .from)))
+                      ∙ f .only .kept p (λ q. absurd (omega (arith, q .from)));
+                };
             places-are =
-              sym (table-take (back (back w₁ p₁) p₂) PLACES (2 * length es) size few)
-              ∙ rw (second .cells, ← (slips-count s es)) all-flat
+                sym (table-take (back (back w₁ p₁) p₂) PLACES (2 * length es) size few)
+                ∙ rw (second .cells, ← (slips-count s es)) all-flat;
           }

@@ -1,15 +1,13 @@
 -- Writing the legend, then the places.
-use mathlib.Core.Path.{_≡_, refl, sym, _∙_, ap}
+use mathlib.Core.Path.{_≡_, sym, _∙_, ap}
 use mathlib.Core.List.{List}
-use Prim.Native.Nat.{ℕ, _+_, _*_, _≤_}
+use Prim.Native.Nat.{ℕ}
 use native.Mathlib.Omega.{arith}
-use lib.ListN.{length, take, drop}
+use lib.ListN.{length, take}
 use lib.Seq.{take-at}
 use Rattle.words.specs.Lists.{over}
-use Rattle.trays.specs.Limits.{maxSlips}
-use Rattle.trays.specs.Slips.{slipsOf, numbers}
-use Rattle.trays.specs.Aside.{counted}
-use Rattle.greedy.specs.Legends.{piecesFor, spelled, legendOf}
+use Rattle.trays.specs.Slips.{slipsOf}
+use Rattle.greedy.specs.Legends.{spelled, legendOf}
 use Rattle.laying.specs.Laying.{staged, CanLay}
 use Rattle.composing.specs.Steps.{PlacingAsks, Placed, WritingAsks, Written}
 use Rattle.composing.proofs.PiecesFit.{pieces-fit, kept-few}
@@ -21,7 +19,7 @@ module _ (s es w l xs : List ℕ) (k need : ℕ) (a : WritingAsks s es w l xs k 
         tray = a .tray;
         pairs = omega (arith, a .pieces .size, a .pieces .count-is, kept-few s es (a .tray));
         fits = rw (a .pieces .are) (pieces-fit s es (a .tray));
-        room-is = rw (a .pieces .are) (omega (arith, a .need-is, a .space))
+        room-is = rw (a .pieces .are) (omega (arith, a .need-is, a .space));
       }
 
   module _ (l₁ : List ℕ) (e : l₁ ≡ over (spelled (slipsOf s es) (staged xs 0 k)) l) where

@@ -7,7 +7,9 @@ ghost use Rattle.layout.specs.Layout as L;
 ghost use Rattle.composing.specs.Steps.{thirds, KeptReal, StageAsks, PiecesStaged, Walked, CountsAre, PlacingAsks, Placed, WritingAsks, Written, Joined, Finished, OutcomeAsks, outcomeBy};
 ghost use Rattle.composing.specs.Answers.{refusedBy};
 ghost use Rattle.trays.specs.Faults.{refusal};
-use layout::{JOINS, KEPT, PLACES};
+use layout::JOINS;
+use layout::KEPT;
+use layout::PLACES;
 
 // The answer: number and detail of the refusal, or the counts of what was composed: slips, kept slips, kept letters, saved letters, legend letters, joins.
 pub struct Composed {
@@ -59,17 +61,39 @@ fn saved_letters(joins: &[u16], n: usize) -> usize
 }
 
 // The pieces of the legend, slip and overlap of each.
-fn pieces_of(work: &[u16], left: &[u16], right: &[u16], overs: &[u16], k: usize, joins: usize) -> [u16; 400]
+fn pieces_of(
+    work: &[u16],
+    left: &[u16],
+    right: &[u16],
+    overs: &[u16],
+    k: usize,
+    joins: usize,
+) -> [u16; 400]
     requires { ⌜ StageAsks (now work) k joins (now left) (now right) (now overs) ⌝ }
     ensures { λ r. ⌜ PiecesStaged (now (work .entry)) k joins (now (left .entry)) (now (right .entry)) (now (overs .entry)) r ⌝ }
 {
     let mut pieces = [0u16; 400];
-    laying::all_pieces(&work[KEPT..KEPT + 200], k, left, right, overs, joins + 1, &mut pieces);
+    laying::all_pieces(
+        &work[KEPT..KEPT + 200],
+        k,
+        left,
+        right,
+        overs,
+        joins + 1,
+        &mut pieces,
+    );
     pieces
 }
 
 // The places of all slips, in the work area: those of the pieces, then those of the slips set aside.
-fn write_places(letters: &[u8], ends: &[u16], work: &mut [u16], legend: &[u8], pieces: &[u16], k: usize)
+fn write_places(
+    letters: &[u8],
+    ends: &[u16],
+    work: &mut [u16],
+    legend: &[u8],
+    pieces: &[u16],
+    k: usize,
+)
     requires { ⌜ PlacingAsks (now letters) (now ends) (now work) (now legend) (now pieces) k ⌝ }
     ensures { λ _. ⌜ Placed (now (letters .entry)) (now (ends .entry)) (now (work .entry)) (now (work .exit)) ⌝ }
 {
@@ -93,7 +117,15 @@ fn count_letters(letters: &[u8], ends: &[u16], work: &[u16], k: usize, joins: us
 }
 
 // The legend, then the places.
-fn write_out(letters: &[u8], ends: &[u16], work: &mut [u16], legend: &mut [u8], pieces: &[u16], k: usize, need: usize)
+fn write_out(
+    letters: &[u8],
+    ends: &[u16],
+    work: &mut [u16],
+    legend: &mut [u8],
+    pieces: &[u16],
+    k: usize,
+    need: usize,
+)
     requires { ⌜ WritingAsks (now letters) (now ends) (now work) (now legend) (now pieces) k need ⌝ }
     ensures { λ _. ⌜ Written (now (letters .entry)) (now (ends .entry)) (now (work .entry)) (now (work .exit)) (now (legend .entry)) (now (legend .exit)) ⌝ }
 {
@@ -135,7 +167,19 @@ fn outcome(slips: usize, kept: usize, counts: Counts, joins: usize) -> Composed
 }
 
 // Behind the walk: 8 and 9 are decided before anything is written, then the legend and the places are.
-fn finish(letters: &[u8], ends: &[u16], work: &mut [u16], legend: &mut [u8], left: &[u16], right: &[u16], overs: &[u16], k: usize, joins: usize, joins_room: usize, places_room: usize) -> Composed
+fn finish(
+    letters: &[u8],
+    ends: &[u16],
+    work: &mut [u16],
+    legend: &mut [u8],
+    left: &[u16],
+    right: &[u16],
+    overs: &[u16],
+    k: usize,
+    joins: usize,
+    joins_room: usize,
+    places_room: usize,
+) -> Composed
     requires { ⌜ Joined (now letters) (now ends) (now work) k joins (now left) (now right) (now overs) ⌝ }
     ensures { λ r. ⌜ Finished (now (letters .entry)) (now (ends .entry)) (now (work .entry)) (now (work .exit)) (now (legend .entry)) (now (legend .exit)) «joins_room» «places_room» r ⌝ }
 {

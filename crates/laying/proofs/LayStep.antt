@@ -1,19 +1,17 @@
 -- One piece laid, then the rest.
-use mathlib.Core.Path.{_≡_, refl, sym, _∙_, ap}
-use mathlib.Core.List.{List, [], _∷_, append-nil}
-use Prim.Native.Nat.{ℕ, zero, suc, _+_, _-_, _*_, _≤_, _<_}
+use mathlib.Core.Path.{_≡_, refl, sym, _∙_}
+use mathlib.Core.List.{List, [], append-nil}
+use Prim.Native.Nat.{ℕ, zero, suc, _+_, _-_, _*_, _≤_}
 use native.Mathlib.Numerals.{add-one, sub-one}
 use native.Mathlib.Omega.{arith}
 use lib.ListN.{length, getD, take, drop, length-append, length-drop, drop-of-length-le}
 use lib.Seq.{take-all}
 use borrow.Rule.Slice.PartMut.{putMid}
 use Rattle.words.specs.Lists.{over}
-use Rattle.words.proofs.Sums.{All}
 use Rattle.words.proofs.Buffers.{length-over, over-part}
 use Rattle.trays.specs.Slips.{slipsOf, slip}
-use Rattle.trays.specs.Faults.{trayFault}
-use Rattle.greedy.specs.Legends.{Piece, added, spelled}
-use Rattle.laying.specs.Laying.{pieceAt, staged, PieceFits, CanLayOne, LaidOne, CanLay}
+use Rattle.greedy.specs.Legends.{added, spelled}
+use Rattle.laying.specs.Laying.{pieceAt, staged, CanLayOne, LaidOne, CanLay}
 
 -- the part `&part[shared..]` is what the piece adds
 module _ (s es xs : List ℕ) (k room i o : ℕ) (part : List ℕ) (c : CanLayOne s es xs k room) (hi : i ≡ getD xs (2 * k) 0) (ho : o ≡ getD xs (2 * k + 1) 0) (hp : part ≡ slip (slipsOf s es) i) where

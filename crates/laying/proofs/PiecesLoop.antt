@@ -1,18 +1,15 @@
 -- All chains written one after another; and that the lists of neighbours give the pieces of the joins.
 use mathlib.Core.Path.{_≡_, refl, sym, _∙_, ap}
-use mathlib.Core.Bool.{true, false}
-use mathlib.Core.List.{List, [], _∷_, _++_, append-assoc, append-nil}
-use Prim.Native.Nat.{ℕ, zero, suc, _+_, _-_, _≤_, _<_}
+use mathlib.Core.List.{List, [], _∷_, _++_, append-nil}
+use Prim.Native.Nat.{ℕ, suc, _+_, _-_, _≤_, _<_}
 use borrow.Author.Tests.{eq-eqb, ne-eqb}
-use native.Mathlib.Numerals.{add-one, sub-one}
+use native.Mathlib.Numerals.{add-one}
 use native.Mathlib.Omega.{arith}
-use lib.Dec.{eqb}
 use lib.ListN.{length, getD, take, drop, length-append, take-append-drop}
 use lib.Seq.{take-suc, take-take}
-use Rattle.words.specs.Lists.{each}
 use Rattle.words.proofs.Members.{each-append}
 use Rattle.trays.specs.Limits.{maxSlips}
-use Rattle.greedy.specs.Legends.{Piece, piece}
+use Rattle.greedy.specs.Legends.{Piece}
 use Rattle.laying.specs.Laying.{staged}
 use Rattle.laying.specs.Chains.{chainBy, chainOf, piecesBy, PiecesAsk, AddAsks, ChainAsks, Flattened}
 

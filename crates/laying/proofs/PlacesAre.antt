@@ -1,18 +1,18 @@
 -- What the two passes over places leave: for a slip among the pieces its place there and the mark 1, for any other its lowest place and 0.
 --   laid i ps   == a piece of ps names slip i
 --   Once ps     == no two pieces of ps name one slip, and each names a slip
-use mathlib.Core.Path.{_≡_, refl, sym, _∙_, ap}
-use mathlib.Core.Bool.{Bool, true, false, false≢true, cond, _||_}
+use mathlib.Core.Path.{_≡_, refl, sym, _∙_}
+use mathlib.Core.Bool.{Bool, true, false, false≢true, cond}
 use mathlib.Core.List.{List, [], _∷_}
 use Prim.Native.Nat.{ℕ, zero, suc, _+_, _-_, _*_, _≤_, _<_}
-use borrow.Author.Tests.{eqb-true, eqb-false, eq-eqb, ne-eqb}
+use borrow.Author.Tests.{eqb-true, eqb-false}
 use native.Mathlib.Decide.{ℕ-discrete}
 use native.Mathlib.Omega.{arith}
 use lib.Dec.{eqb}
 use lib.ListN.{length, getD, set, length-set}
 use lib.Seq.{getD-set-same, getD-set-other}
 use Rattle.words.specs.Lists.{any}
-use Rattle.words.proofs.Tests.{by-test, neither, either}
+use Rattle.words.proofs.Tests.{by-test, neither}
 use Rattle.trays.specs.Slips.{slip}
 use Rattle.greedy.specs.Legends.{Piece, added, placeIn, lowest}
 use Rattle.laying.specs.Places.{putPlace, placedBy, asideAt, asideBy}
@@ -34,16 +34,18 @@ module _ (ss : List (List ℕ)) where
   put-other : (xs : List ℕ) (p : Piece) (here k j : ℕ) → 1 ≤ p .number → (p .number ≡ suc k → ⊥) → (j ≡ 2 * k) → (getD (putPlace xs p here) j 0 ≡ getD xs j 0) × (getD (putPlace xs p here) (j + 1) 0 ≡ getD xs (j + 1) 0)
   put-other xs p here k j one ne e =
       let f : p .number - 1 ≡ k → ⊥ = λ q. ne (omega arith) in
-      let a : List ℕ = set xs (2 * (p .number - 1)) (here - p .overlap) in
-      (getD-set-other a (2 * (p .number - 1) + 1) j 1 0 (λ q. omega arith) ∙ getD-set-other xs (2 * (p .number - 1)) j (here - p .overlap) 0 (λ q. f (omega arith)),
-      getD-set-other a (2 * (p .number - 1) + 1) (j + 1) 1 0 (λ q. f (omega arith)) ∙ getD-set-other xs (2 * (p .number - 1)) (j + 1) (here - p .overlap) 0 (λ q. omega arith))
+      let a : List ℕ = set xs (2 * (p .number - 1)) (here - p .overlap) in (
+        getD-set-other a (2 * (p .number - 1) + 1) j 1 0 (λ q. omega arith) ∙ getD-set-other xs (2 * (p .number - 1)) j (here - p .overlap) 0 (λ q. f (omega arith)),
+        getD-set-other a (2 * (p .number - 1) + 1) (j + 1) 1 0 (λ q. f (omega arith)) ∙ getD-set-other xs (2 * (p .number - 1)) (j + 1) (here - p .overlap) 0 (λ q. omega arith),
+      )
 
   put-same : (xs : List ℕ) (p : Piece) (here k j : ℕ) → p .number ≡ suc k → j ≡ 2 * k → j + 1 < length xs → (getD (putPlace xs p here) j 0 ≡ here - p .overlap) × (getD (putPlace xs p here) (j + 1) 0 ≡ 1)
   put-same xs p here k j n e l =
       let f : 2 * (p .number - 1) ≡ j = omega arith in
-      rw f
-      (getD-set-other (set xs j (here - p .overlap)) (j + 1) j 1 0 (λ q. omega arith) ∙ getD-set-same xs j (here - p .overlap) 0 (omega arith),
-      getD-set-same (set xs j (here - p .overlap)) (j + 1) 1 0 (rw length-set l))
+      rw f (
+        getD-set-other (set xs j (here - p .overlap)) (j + 1) j 1 0 (λ q. omega arith) ∙ getD-set-same xs j (here - p .overlap) 0 (omega arith),
+        getD-set-same (set xs j (here - p .overlap)) (j + 1) 1 0 (rw length-set l),
+      )
 
   put-length : (xs : List ℕ) (p : Piece) (here : ℕ) → length (putPlace xs p here) ≡ length xs
   put-length xs p here = simp length-set
@@ -70,13 +72,13 @@ module _ (ss : List (List ℕ)) where
   placed-here (p ∷ ps) xs here k j o h e l =
       by-test (eqb (suc k) (p .number))
       (λ t.
-        let q : p .number ≡ suc k = sym (eqb-true (suc k) (p .number) t) in
-        let a = put-same xs p here k j q e l in
-        let r = placed-other ps (putPlace xs p here) (here + length (added ss p)) k j (o .2) (rw q at (o .1)) e in
-        (r .0 ∙ a .0 ∙ rw (t, placeIn), r .1 ∙ a .1))
+      let q : p .number ≡ suc k = sym (eqb-true (suc k) (p .number) t) in
+      let a = put-same xs p here k j q e l in
+      let r = placed-other ps (putPlace xs p here) (here + length (added ss p)) k j (o .2) (rw q at (o .1)) e in
+      (r .0 ∙ a .0 ∙ rw (t, placeIn), r .1 ∙ a .1))
       (λ t.
-        let r = placed-here ps (putPlace xs p here) (here + length (added ss p)) k j (o .2) (rw t at h) e (rw put-length l) in
-        (r .0 ∙ rw (t, placeIn), r .1))
+      let r = placed-here ps (putPlace xs p here) (here + length (added ss p)) k j (o .2) (rw t at h) e (rw put-length l) in
+      (r .0 ∙ rw (t, placeIn), r .1))
 
   -- the pass over slips set aside leaves the marks, and writes the place where the mark is 0
   module _ (t : List ℕ) where

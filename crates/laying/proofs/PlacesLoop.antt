@@ -1,8 +1,7 @@
 -- Places written piece by piece, and slip by slip.
 use mathlib.Core.Path.{_≡_, refl, sym, _∙_, ap}
-use mathlib.Core.Bool.{true, false}
 use mathlib.Core.List.{List, [], _∷_}
-use Prim.Native.Nat.{ℕ, zero, suc, _+_, _-_, _*_, _≤_, _<_}
+use Prim.Native.Nat.{ℕ, suc, _+_, _-_, _*_, _≤_, _<_}
 use borrow.Author.Tests.{eq-eqb, ne-eqb}
 use native.Mathlib.Numerals.{add-one}
 use native.Mathlib.Omega.{arith}
@@ -12,7 +11,7 @@ use Rattle.trays.specs.Slips.{slipsOf, slip}
 use Rattle.trays.specs.Faults.{trayFault}
 use Rattle.words.specs.Words.{begins}
 use Rattle.words.proofs.Tests.{by-test}
-use Rattle.greedy.specs.Legends.{Piece, added, lowest}
+use Rattle.greedy.specs.Legends.{Piece, lowest}
 use Rattle.laying.specs.Laying.{pieceAt, staged}
 use Rattle.laying.specs.Places.{putPlace, placedBy, asideAt, asideBy, Placeable, PlaceAsks, PlacedOne, PlacesAsk, AsideAsks}
 
@@ -25,7 +24,7 @@ module _ (s es ps : List ℕ) (q here : ℕ) (xs : List ℕ) (slip′ shared : �
   place-put xs′ e =
       record {
         places-are = e ∙ rw (hi .0, ho .0);
-        next-is = rw (hp, hi .0, ho .0, length-drop)
+        next-is = rw (hp, hi .0, ho .0, length-drop);
       }
 
 -- the pieces in turn
@@ -59,7 +58,7 @@ module _ (s es ps : List ℕ) (n : ℕ) (xs₀ : List ℕ) (a : PlacesAsk s es p
           most = f .1;
           reach = f .2;
           within = f .3;
-          small = f .4
+          small = f .4;
         }
 
     pub placing-turn : (xs′ : List ℕ) (r : ℕ) → PlacedOne (slipsOf s es) (pieceAt ps q) here xs xs′ r → Placing s es ps n xs₀ (q + 1) r xs′
@@ -71,7 +70,7 @@ module _ (s es ps : List ℕ) (n : ℕ) (xs₀ : List ℕ) (a : PlacesAsk s es p
           most = l;
           done = rw (o .places-are, o .next-is) d;
           fits = rw (o .next-is) (f .5);
-          same = ap length (o .places-are) ∙ put-length xs (pieceAt ps q) here ∙ p .same
+          same = ap length (o .places-are) ∙ put-length xs (pieceAt ps q) here ∙ p .same;
         })
 
   pub placing-end : (q here : ℕ) (xs : List ℕ) → n ≤ q → Placing s es ps n xs₀ q here xs → xs ≡ placedBy (slipsOf s es) xs₀ 1 (staged ps 0 n)

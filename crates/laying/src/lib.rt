@@ -172,7 +172,14 @@ fn put_two(xs: &mut [u16], at: usize, a: usize, b: usize)
 }
 
 // Writes the place of the `q`-th piece, whose letters go from `here` on, and that its slip is kept. Answers where the next letters go.
-fn put_place(letters: &[u8], ends: &[u16], pieces: &[u16], q: usize, here: usize, places: &mut [u16]) -> usize
+fn put_place(
+    letters: &[u8],
+    ends: &[u16],
+    pieces: &[u16],
+    q: usize,
+    here: usize,
+    places: &mut [u16],
+) -> usize
     requires { ⌜ PlaceAsks (now letters) (now ends) (now pieces) q here (now places) ⌝ }
     ensures { λ r. ⌜ PlacedOne (slipsOf (now (letters .entry)) (now (ends .entry))) (pieceAt (now (pieces .entry)) q) here (now (places .entry)) (now (places .exit)) r ⌝ }
 {

@@ -1,12 +1,12 @@
 -- What is known of an accepted tray, and where its slips stand.
 --   Accepted s es  == no row of 1 to 6 turns the tray back
-use mathlib.Core.Path.{_≡_, refl, sym, _∙_, ap}
+use mathlib.Core.Path.{_≡_, refl, _∙_, ap}
 use mathlib.Core.Bool.{Bool, true, false, not}
 use mathlib.Core.List.{List, [], _∷_}
 use Prim.Native.Nat.{ℕ, zero, suc, _+_, _-_, _≤_, _<_}
 use borrow.Author.Tests.{ltb-false, eqb-true, not-false}
 use native.Mathlib.Omega.{arith}
-use lib.Dec.{ltb, eqb, leb}
+use lib.Dec.{ltb, eqb}
 use lib.ListN.{length, getD, take, drop}
 use lib.Seq.{drop-drop}
 use Rattle.words.specs.Lists.{lastOr}
@@ -14,7 +14,7 @@ use Rattle.words.proofs.Sums.{All}
 use Rattle.trays.specs.declared.Refusal.{Refusal}
 use Rattle.trays.specs.Limits.{maxSlips, maxLetters}
 use Rattle.trays.specs.Slips.{slipsFrom, slipsOf, slip, startOf, endOf}
-use Rattle.trays.specs.Faults.{refusal, row, slipAt, orElse, firstRow, trayRows, trayFault, notAbove, tooLong, badSlip}
+use Rattle.trays.specs.Faults.{row, firstRow, trayRows, trayFault, notAbove, tooLong, badSlip}
 use Rattle.trays.proofs.BadSlip.{above-rest}
 use Rattle.trays.proofs.Rows.{both-silent, slip-zero}
 

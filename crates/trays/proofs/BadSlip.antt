@@ -3,7 +3,7 @@
 --   goodTo s  == how many letters stand before the first bad byte
 -- Slip after slip: either the bad byte is among the first slip's letters, or all of those are good and the rest decides.
 use mathlib.Core.Path.{_≡_, refl, sym, _∙_, ap}
-use mathlib.Core.Bool.{Bool, true, false, true≢false, not, cond, _||_}
+use mathlib.Core.Bool.{Bool, true, false, true≢false, not, cond}
 use mathlib.Core.List.{List, [], _∷_}
 use Prim.Native.Nat.{ℕ, zero, suc, _+_, _-_, _≤_, _<_}
 use borrow.Author.Tests.{leb-false, lt-leb, le-leb}

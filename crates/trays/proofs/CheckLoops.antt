@@ -16,7 +16,6 @@ use lib.ListN.{length, getD, drop, drop-of-length-le}
 use lib.Seq.{drop-cons}
 use Rattle.words.specs.Lists.{lastOr}
 use Rattle.words.proofs.Tests.{by-test}
-use Rattle.trays.specs.declared.Refusal.{Refusal}
 use Rattle.trays.specs.Limits.{maxSlip}
 use Rattle.trays.specs.Slips.{isLetter}
 use Rattle.trays.specs.Faults.{refusal, notAbove, tooLong, badPlace}

@@ -4,21 +4,19 @@
 --   pair-..     == rows 1 to 6, 10, 10, 11
 --   span-..     == where a slip stands
 use mathlib.Core.Path.{_≡_, refl, sym, _∙_, ap}
-use mathlib.Core.Bool.{Bool, true, false, _||_}
 use mathlib.Core.List.{List, [], _∷_}
-use Prim.Native.Nat.{ℕ, zero, suc, _+_, _-_, _^_, _≤_, _<_}
-use borrow.Author.Tests.{ltb-false, lt-ltb, le-ltb, eq-eqb, ne-eqb, eqb-false, eqb-true}
-use native.Mathlib.Numerals.{sub-one}
+use Prim.Native.Nat.{ℕ, zero, suc, _-_, _^_, _≤_, _<_}
+use borrow.Author.Tests.{ltb-false, lt-ltb, le-ltb, eq-eqb, ne-eqb, eqb-false}
 use native.Mathlib.Omega.{arith}
 use lib.Dec.{ltb, eqb}
 use lib.ListN.{length, getD, take, drop, length-take, length-drop}
 use Rattle.words.specs.Words.{overlap, overlapFor}
-use Rattle.words.proofs.Tests.{by-test, or-right}
+use Rattle.words.proofs.Tests.{by-test}
 use Rattle.words.proofs.Overlaps.{overlapFor-nonEmpty, overlapFor-fits}
 use Rattle.trays.specs.declared.Refusal.{Refusal}
 use Rattle.trays.specs.declared.Span.{Span}
 use Rattle.trays.specs.declared.Pair.{Pair}
-use Rattle.trays.specs.Slips.{slipsOf, slip, startOf, endOf}
+use Rattle.trays.specs.Slips.{slipsOf, slip, startOf}
 use Rattle.trays.specs.Aside.{counted}
 use Rattle.trays.specs.Faults.{refusal, accepted, orElse, firstRow, trayRows, trayFault, slipRow, slipFault, pairRow, pairFault}
 use Rattle.trays.specs.Answers.{stretchOf, Stretch, pairOf}
