@@ -10,7 +10,7 @@ use Rattle.words.specs.Quoted.{word}
 use Rattle.trays.specs.Limits.{maxSlips, maxSlip, maxLetters, maxText, workNeed, maxFile, endsNeed}
 use Rattle.trays.specs.Slips.{slipsOf, slip, numbers, isLetter, total}
 use Rattle.trays.specs.Aside.{counted}
-use Rattle.trays.specs.Faults.{refusal, written, badPlace, trayFault, slipFault}
+use Rattle.trays.specs.Faults.{refusal, written, badPlace, trayFault, slipFault, pairFault}
 use Rattle.trays.specs.Answers.{Stretch}
 use Rattle.trays.specs.Checks.{noteLong, endsFault, slipHolding, spanOf}
 
@@ -70,6 +70,11 @@ first-rows = refl
 requests : map (slipFault letters bounds) (0 ∷ 1 ∷ 5 ∷ 6 ∷ []) ≡ (refusal 10 0 ∷ refusal 0 0 ∷ refusal 0 0 ∷ refusal 10 6 ∷ [])
 unfolding slipFault
 requests = refl
+
+-- the first number that is no slip's; 10 before 11
+pairs : (pairFault letters bounds 6 0 ∷ pairFault letters bounds 6 6 ∷ pairFault letters bounds 5 5 ∷ []) ≡ (refusal 10 6 ∷ refusal 10 6 ∷ refusal 11 5 ∷ [])
+unfolding pairFault
+pairs = refl
 
 refused : Stretch letters bounds 6 [] 10 6
 unfolding slipFault

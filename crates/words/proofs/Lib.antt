@@ -7,7 +7,7 @@ pub mod CommonPrefix
 pub mod Overlaps
 pub mod Sums
 pub mod Maps
-pub mod Specimens
+pub mod AllSpecimens
 pub mod CommonLoop
 pub mod OverlapLoop
 pub mod Picks

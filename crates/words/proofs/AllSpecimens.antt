@@ -1,4 +1,5 @@
--- Computed specimens of the definitions on strings and on lists: an edited definition computes another value.
+-- Computed specimens of the definitions on strings and on lists. Modules are checked in the order of their names: an edited definition
+-- is refused here first, where it computes another value.
 --   Gives f rs  == f at the two words of each row of rs has the row's value
 use mathlib.Core.Path.{_≡_, refl}
 use mathlib.Core.Bool.{true, false}
