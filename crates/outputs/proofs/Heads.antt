@@ -1,0 +1,67 @@
+-- Members and their nodes, in the work area of an automaton with HEAD and TWIN.
+--   linked-..     == a list threaded through a table: its first number, another table with the same cells
+--   member-..     == a member has a letter, and a number up to the most slips
+--   node-most     == the number of a node is at most count
+--   headed-kept   == what is written from OUT on leaves HEAD and TWIN as they are
+use mathlib.Core.Path.{_≡_, refl, sym, ap, _∙_}
+use mathlib.Core.List.{List, [], _∷_, List·Memᴰ·head, List·Memᴰ·tail}
+use Prim.Native.Nat.{ℕ, _+_, _≤_, _<_}
+use native.Mathlib.Omega.{arith}
+use lib.ListN.{length, length-take, length-drop}
+use Rattle.words.specs.Lists.{headOr}
+use Rattle.words.specs.Words.{same}
+use Rattle.words.proofs.Members.{In, in-those}
+use Rattle.trays.specs.Limits.{maxSlips}
+use Rattle.trays.specs.Slips.{slipsOf, slip}
+use Rattle.trays.proofs.Accepted.{accepted-tells, span-rises, span-fits, span-slip}
+use Rattle.tables.proofs.Tables.{table-length}
+use Rattle.matching.specs.Nodes.{string, Num}
+use Rattle.layout.specs.Layout.{MEMBERS, HEAD, TWIN, OUT}
+use Rattle.layout.specs.Tables.{cell, members, owners, Linked}
+use Rattle.layout.specs.Numbered.{patternsIn, Numbered, Kept}
+use Rattle.layout.proofs.Frames.{kept-lower, members-kept, automaton-kept}
+use Rattle.outputs.specs.Outputs.{Headed}
+
+pub linked-head : (next : ℕ → ℕ) (i : ℕ) (xs : List ℕ) → Linked next i xs → i ≡ headOr 0 xs
+linked-head next i [] l = l
+linked-head next i (x ∷ xs) l = l .0
+
+pub linked-same : (next next′ : ℕ → ℕ) (i : ℕ) (xs : List ℕ) → ((x : ℕ) → In x xs → next′ x ≡ next x) → Linked next i xs → Linked next′ i xs
+linked-same next next′ i [] e l = l
+linked-same next next′ i (x ∷ xs) e l =
+    (l .0, rw (e x (List·Memᴰ·head refl)) (linked-same next next′ (next x) xs (λ y m. e y (List·Memᴰ·tail m)) (l .1)))
+
+module _ {s es : List ℕ} {n count : ℕ} {w : List ℕ} (N : Numbered s es n count w) where
+  pub member-few : (i : ℕ) → In i (members w n) → i ≤ maxSlips
+  member-few i m = omega (arith, N .real i m .1, accepted-tells s es (N .accepted) .few)
+
+  pub member-letters : (i : ℕ) → In i (members w n) → 1 ≤ length (slip (slipsOf s es) i)
+  member-letters i m =
+      let (h, l) = N .real i m in
+      let acc = N .accepted in
+      rw (span-slip s es acc i h l, length-take, length-drop) (omega (arith, span-rises s es acc i h l, span-fits s es acc i h l))
+
+  pub member-some : (i : ℕ) → In i (members w n) → 1 ≤ i
+  member-some i m = N .real i m .0
+
+  pub members-length : length (members w n) ≡ n
+  members-length = table-length w MEMBERS n (omega (arith, N .few-members, N .room))
+
+  pub node-most : (v : ℕ) → Num (patternsIn s es n w) v → v ≤ count
+  node-most v m = omega (arith, m .inside, N .all-nodes)
+
+pub headed-kept : {s es : List ℕ} {n count : ℕ} {w w′ : List ℕ} → Kept OUT w w′ → Headed s es n count w → Headed s es n count w′
+headed-kept {s} {es} {n} {count} {w} {w′} k H =
+    let N = H .automaton .branched .numbered in
+    let ss = slipsOf s es in
+    let ps = patternsIn s es n w in
+    let f : members w′ n ≡ members w n = members-kept n (omega (arith, N .few-members)) k in
+    record {
+      automaton = automaton-kept (kept-lower HEAD (omega arith) k) (H .automaton);
+      heads =
+          rw f (λ v m.
+          rw (k .cells (HEAD + v) (omega (arith, node-most N v m, N .few-nodes)))
+          (linked-same (cell w TWIN) (cell w′ TWIN) (cell w HEAD v) (owners ss (members w n) (string ps v))
+          (λ r q. k .cells (TWIN + r) (omega (arith, member-few N r (in-those (λ i. same (slip ss i) (string ps v)) (members w n) q .0))))
+          (H .heads v m)));
+    }

@@ -1,0 +1,66 @@
+use Prim.Native.Nat.{_+_, _-_}
+use Rattle.outputs.proofs.OutputsLoop.{Filling, filling-root, filling-start, filling-telling, filling-out, filling-tally, filling-more, filling-all}
+use borrow.Author.Needs.{needs}
+use Rattle.outputs.proofs.fill_outputs.Statement.{statement}
+use Rattle.outputs.proofs.fill_outputs.Tie as tie
+
+abbrev Inv-loop : tie.InvT-loop
+Inv-loop letters ends work₀ n count v₀ work v = Filling letters ends n count work₀ work v
+
+abbrev μ-loop : tie.MeasureT-loop
+μ-loop letters ends work₀ n count v₀ work v = count + 1 - v
+
+put-requires : tie.Need-put-requires Inv-loop μ-loop
+put-requires c κs = search filling-root
+
+loop-holds : tie.Need-loop-holds Inv-loop μ-loop
+loop-holds c = search filling-start
+
+output-requires : tie.Need-output-requires Inv-loop μ-loop
+output-requires c κs = let l = c .before in filling-telling (l .before .loop .inv) (l .loop-test .taken)
+
+tally-requires : tie.Need-tally-requires Inv-loop μ-loop
+tally-requires c κs = let l = c .before .before .before in filling-telling (l .before .loop .inv) (l .loop-test .taken)
+
+put-requires-2 : tie.Need-put-requires-2 Inv-loop μ-loop
+put-requires-2 c κs = search filling-out
+
+put-requires-3 : tie.Need-put-requires-3 Inv-loop μ-loop
+put-requires-3 c κs =
+    let p = c .before .before .before in
+    let t = p .before .before in
+    let l = t .before .before .before .before in
+    filling-tally (l .before .loop .inv) (l .loop-test .taken) (t .before .before .output .ensures) (t .tally .ensures) (p .put2 .ensures)
+
+add-v : tie.Need-add-v Inv-loop μ-loop
+add-v c = search needs
+
+loop-less : tie.Need-loop-less Inv-loop μ-loop
+loop-less c = search needs
+
+loop-again : tie.Need-loop-again Inv-loop μ-loop
+loop-again c = search filling-more
+
+same-length : tie.Need-same-length Inv-loop μ-loop
+same-length c = search needs
+
+returns : tie.Need-returns Inv-loop μ-loop
+returns c = search filling-all
+
+pub fill-outputs-spec : {M : Type 1} → statement M
+fill-outputs-spec =
+    tie.close
+    (tie.spec
+    Inv-loop
+    μ-loop
+    put-requires
+    loop-holds
+    output-requires
+    tally-requires
+    put-requires-2
+    put-requires-3
+    add-v
+    loop-less
+    loop-again
+    same-length
+    returns)

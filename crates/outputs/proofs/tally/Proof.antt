@@ -1,0 +1,22 @@
+use Rattle.outputs.proofs.OutputsLoop.{telling-tally, telling-sum, telling-tallied}
+use borrow.Author.Needs.{needs}
+use Rattle.outputs.proofs.tally.Statement.{statement}
+use Rattle.outputs.proofs.tally.Tie as tie
+
+owners-of-requires : tie.Need-owners-of-requires
+owners-of-requires c κs = search needs
+
+at-requires : tie.Need-at-requires
+at-requires c κs = search needs
+
+at-requires-2 : tie.Need-at-requires-2
+at-requires-2 c κs = search telling-tally
+
+add-result : tie.Need-add-result
+add-result c = search telling-sum
+
+returns : tie.Need-returns
+returns c = search telling-tallied
+
+pub tally-spec : {M : Type 1} → statement M
+tally-spec = tie.close (tie.spec owners-of-requires at-requires at-requires-2 add-result returns)

@@ -1,0 +1,2 @@
+-- Output links and tallies of the automaton.
+pub mod Outputs
