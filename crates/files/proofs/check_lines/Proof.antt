@@ -1,0 +1,54 @@
+use mathlib.Core.Path.{_≡_}
+use Prim.Native.Nat.{_+_, _-_, _≤_}
+use lib.ListN.{length, drop}
+use Rattle.files.specs.Lines.{linesOf}
+use Rattle.files.specs.Faults.{linesFault}
+use Rattle.files.proofs.CheckTurns.{check-bad, check-next, check-done, next-within, next-less, next-count}
+use borrow.Author.Needs.{needs}
+use Rattle.files.proofs.check_lines.Statement.{statement}
+use Rattle.files.proofs.check_lines.Tie as tie
+
+abbrev Inv-loop : tie.InvT-loop
+Inv-loop file at₀ k₀ at k = (k ≤ at + 1) × (at ≤ length file) × (linesFault 1 (linesOf file) ≡ linesFault k (linesOf (drop at file)))
+
+abbrev μ-loop : tie.MeasureT-loop
+μ-loop file at₀ k₀ at k = length file - at
+
+loop-holds : tie.Need-loop-holds Inv-loop μ-loop
+loop-holds c = search needs
+
+next-line-requires : tie.Need-next-line-requires Inv-loop μ-loop
+next-line-requires c κs = search needs
+
+cast-t7 : tie.Need-cast-t7 Inv-loop μ-loop
+cast-t7 c = search needs
+
+returns : tie.Need-returns Inv-loop μ-loop
+returns c = search check-bad
+
+add-k : tie.Need-add-k Inv-loop μ-loop
+add-k c = search needs
+
+loop-less : tie.Need-loop-less Inv-loop μ-loop
+loop-less c = search next-less
+
+loop-again : tie.Need-loop-again Inv-loop μ-loop
+loop-again c = (search next-count, search next-within, search check-next)
+
+returns-2 : tie.Need-returns-2 Inv-loop μ-loop
+returns-2 c = search check-done
+
+pub check-lines-spec : {M : Type 1} → statement M
+check-lines-spec =
+    tie.close
+    (tie.spec
+    Inv-loop
+    μ-loop
+    loop-holds
+    next-line-requires
+    cast-t7
+    returns
+    add-k
+    loop-less
+    loop-again
+    returns-2)
