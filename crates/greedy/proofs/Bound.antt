@@ -78,8 +78,8 @@ module _
           let hv : 1 ≤ held v (whole D) = held-first v v (D .rest) refl in
           let other : held u (whole D) ≡ 0 = omega (arith, h u, once u) in
           let apart : u ≡ v → ⊥ = λ e. omega (arith, held-first u v (D .rest) (sym e)) in
-          let ring : lastOf v js ≡ u → ⊥ = λ e. omega (arith, held-last u v (D .rest) (sym (run-last js D d (omega arith)) ∙ e)) in
-          let unjoined : free u v js ≡ true = is-free u v js (record { right = tail-end js (C .first) (C .rest) (c .2); left = d .0; ring = ring }) in
+          let cycle : lastOf v js ≡ u → ⊥ = λ e. omega (arith, held-last u v (D .rest) (sym (run-last js D d (omega arith)) ∙ e)) in
+          let unjoined : free u v js ≡ true = is-free u v js (record { right = tail-end js (C .first) (C .rest) (c .2); left = d .0; cycle = cycle }) in
           let arc : 1 ≤ w u v → In (join u v (w u v)) bs = λ p. remain u v (omega (arith, h u)) (omega (arith, h v)) apart p unjoined in
           let light : w u v ≤ top bs = by-zero (w u v) (λ e. omega arith) (λ p. top-most (join u v (w u v)) bs falling (arc p)) in
           (light, below-runs D Cs (d, r) (λ x. omega (arith, h x)) (omega arith))

@@ -31,7 +31,7 @@ merged A B = record { first = A .first; rest = A .rest ++ whole B }
 pub record Free (a b : ℕ) (js : List Join) : Type 0 where
   pub right : rightOf a js ≡ 0
   pub left : leftOf b js ≡ 0
-  pub ring : lastOf b js ≡ a → ⊥
+  pub cycle : lastOf b js ≡ a → ⊥
 
 free-is : (a b : ℕ) (js : List Join) → free a b js ≡ true → Free a b js
 free-is a b js e =
@@ -39,14 +39,14 @@ free-is a b js e =
     record {
       right = by-zero (rightOf a js) (λ z. z) (λ h. absurd (none (refused-right a b js h)));
       left = by-zero (leftOf b js) (λ z. z) (λ h. absurd (none (refused-left a b js h)));
-      ring = λ h. none (refused-last a b js h);
+      cycle = λ h. none (refused-last a b js h);
     }
 
 pub is-free : (a b : ℕ) (js : List Join) → Free a b js → free a b js ≡ true
 is-free a b js f =
     elim (tell (free a b js)) [
       | inl e ↦ e
-      | inr e ↦ by-refused a b js e (λ h. absurd (omega arith)) (λ h. absurd (omega arith)) (λ h. absurd (f .ring h))
+      | inr e ↦ by-refused a b js e (λ h. absurd (omega arith)) (λ h. absurd (omega arith)) (λ h. absurd (f .cycle h))
     ]
 
 -- one more join
@@ -116,7 +116,7 @@ module _
         let eb : B .first ≡ b = run-first js b B rB hb (f .left) in
         let short : length (B .rest) ≤ length js = omega (arith, r .count, sum-append (λ C. length (C .rest)) X (B ∷ Y)) in
         let last : lastOf b js ≡ end B = ap (λ x. lastOf x js) (sym eb) ∙ run-last js B rB short in
-        let none : 1 ≤ held a (whole B) → ⊥ = λ h. f .ring (last ∙ run-end js a B rB h (f .right)) in
+        let none : 1 ≤ held a (whole B) → ⊥ = λ h. f .cycle (last ∙ run-end js a B rB h (f .right)) in
         elim (tell (eqb (sum in-a X) 0)) [
           | inl z ↦
               let n : held a (whole B) ≡ 0 = by-zero (held a (whole B)) (λ z. z) (λ h. absurd (none h)) in
