@@ -1,0 +1,135 @@
+-- The visits of the nodes of one length, by number.
+--   RowWalking .. w made v end ..  == what is left of the row from node v on makes of the joins in w what the whole row makes
+use mathlib.Core.Path.{_≡_, refl, sym, ap, _∙_}
+use mathlib.Core.Bool.{true}
+use mathlib.Core.List.{List, [], _∷_, map}
+use Prim.Native.Nat.{ℕ, suc, _+_, _-_, _≤_, _<_}
+use native.Mathlib.Numerals.{add-one}
+use native.Mathlib.Omega.{arith}
+use lib.ListN.{length}
+use Rattle.words.specs.Lists.{those, upFrom}
+use Rattle.words.specs.Words.{nonEmpty}
+use Rattle.words.proofs.Members.{those-yes}
+use Rattle.trays.specs.Limits.{maxSlip, maxLetters}
+use Rattle.trays.specs.Slips.{slipsOf}
+use Rattle.trays.specs.Aside.{counted}
+use Rattle.tables.specs.Tables.{Cells, Only, Got}
+use Rattle.tables.proofs.Tables.{only-refl, only-trans}
+use Rattle.greedy.specs.Joins.{Join}
+use Rattle.greedy.specs.Walk.{visit, walkFrom}
+use Rattle.greedy.proofs.Scans as S
+use Rattle.matching.specs.Nodes.{string, Num}
+use Rattle.layout.specs.Layout.{LEVEL, JOINS}
+use Rattle.layout.specs.Tables.{cell}
+use Rattle.layout.specs.Numbered.{patternsIn}
+use Rattle.layout.specs.Staging.{keptIn, joinsIn}
+use Rattle.walking.specs.Runs.{startersAt, endersAt}
+use Rattle.walking.specs.Marks.{Marks}
+use Rattle.walking.specs.Walking.{Made, Visits, Walkable, RowAsks, row, rowWalked}
+use Rattle.walking.proofs.RowLaws.{row-num}
+use Rattle.walking.proofs.WalkableLaws.{kept-rises, here-sized, starters-are, enders-are, node-starts, node-ends, patterns-same, kept-same, walkable-kept}
+
+pub record RowWalking (s es : List ℕ) (n k count : ℕ) (w₀ : List ℕ) (d made₀ : ℕ) (w : List ℕ) (made v end : ℕ) (left right overs first last : List ℕ) : Type 0 where
+  pub walkable : Walkable s es n k count w₀
+  pub some : 1 ≤ d
+  pub most : d ≤ maxSlip
+  pub only : Only (Cells JOINS 600) w₀ w
+  pub from : cell w₀ LEVEL d ≤ v
+  pub upto : end ≡ cell w₀ LEVEL (suc d)
+  pub marks : Marks (joinsIn w made) left right overs first last
+  pub rest : walkFrom (slipsOf s es) (keptIn w₀ k) (those counted (map (string (patternsIn s es n w₀)) (upFrom v (end - v)))) (joinsIn w made)
+      ≡ rowWalked s es n k w₀ d made₀
+
+pub row-start : {s es : List ℕ} {n k count : ℕ} {w : List ℕ} {d made v end : ℕ} {left right overs first last : List ℕ}
+    → RowAsks s es n k count w d made left right overs first last → Got w LEVEL d v → Got w LEVEL (d + 1) end
+    → RowWalking s es n k count w d made w made v end left right overs first last
+row-start {s} {es} {n} {k} {count} {w} {d} {made} {v} {end} A a b =
+    let e : end ≡ cell w LEVEL (suc d) = b .is ∙ ap (cell w LEVEL) (add-one d) in
+    record {
+      walkable = A .walkable;
+      some = A .some;
+      most = A .most;
+      only = only-refl;
+      from = omega (arith, a .is);
+      upto = e;
+      marks = A .marks;
+      rest = rw (a .is, e);
+    }
+
+counted-some : (x : List ℕ) → 1 ≤ length x → counted x ≡ true
+counted-some [] h = absurd (omega arith)
+counted-some (a ∷ x) h = refl
+
+module _ {s es : List ℕ} {n k count : ℕ} {w₀ : List ℕ} {d made₀ : ℕ} {w : List ℕ} {made v end : ℕ} {left right overs first last : List ℕ}
+    (T : RowWalking s es n k count w₀ d made₀ w made v end left right overs first last) where
+  abbrev ss : List (List ℕ)
+  ss = slipsOf s es
+
+  abbrev K : List ℕ
+  K = keptIn w₀ k
+
+  abbrev ps : List (List ℕ)
+  ps = patternsIn s es n w₀
+
+  pub row-end : end ≤ v → Made w₀ (rowWalked s es n k w₀ d made₀) w left right overs first last made
+  row-end h =
+      let z : end - v ≡ 0 = omega arith in
+      let e : rowWalked s es n k w₀ d made₀ ≡ joinsIn w made = sym (T .rest) ∙ rw z in
+      record { joins-are = sym e; marks = rw e (T .marks); only = T .only }
+
+  here : Walkable s es n k count w
+  here = walkable-kept (T .walkable) (T .only)
+
+  module _ (h : v < end) where
+    num : Num ps v × (length (string ps v) ≡ d)
+    num = row-num ps (cell w₀ LEVEL) maxSlip (T .walkable .numbered .level) d v (T .some) (T .most) (T .from) (omega (arith, T .upto))
+
+    here-num : Num (patternsIn s es n w) v × (length (string (patternsIn s es n w) v) ≡ d)
+    here-num = rw (patterns-same (T .walkable) (T .only)) num
+
+    pub row-visits : Visits es w d v made left right overs first last
+    row-visits =
+        record {
+          sized = here-sized here d (T .some) (T .most);
+          node = omega (arith, num .0 .inside, T .walkable .numbered .all-nodes, T .walkable .numbered .few-nodes);
+          starts = node-starts here v d (T .some) (here-num .0) (here-num .1);
+          ends = node-ends here v d (T .some) (here-num .0) (here-num .1);
+          marks = T .marks;
+        }
+
+    abbrev x : List ℕ
+    x = string ps v
+
+    -- a visit of the node is a scan of its lists
+    visited : S.scan (endersAt w es d v) d (startersAt w es d v) (joinsIn w made) ≡ visit ss K x K (joinsIn w made)
+    visited =
+        rw (
+          enders-are here v d (T .some) (here-num .0) (here-num .1),
+          starters-are here v d (T .some) (here-num .0) (here-num .1),
+          kept-same (T .walkable) (T .only),
+          patterns-same (T .walkable) (T .only),
+          ← num .1,
+        )
+        (sym (S.visit-scan ss x K (kept-rises (T .walkable)) K (joinsIn w made)))
+
+    rest-first : walkFrom ss K (those counted (map (string ps) (upFrom v (end - v)))) (joinsIn w made)
+        ≡ walkFrom ss K (those counted (map (string ps) (upFrom (suc v) (end - suc v)))) (visit ss K x K (joinsIn w made))
+    rest-first =
+        let e : end - v ≡ suc (end - suc v) = omega arith in
+        rw (e, those-yes counted x (map (string ps) (upFrom (suc v) (end - suc v))) (counted-some x (omega (arith, num .1, T .some))))
+
+    pub row-turn : {w′ left′ right′ overs′ first′ last′ : List ℕ} {made′ : ℕ} (v′ : ℕ)
+        → Made w (S.scan (endersAt w es d v) d (startersAt w es d v) (joinsIn w made)) w′ left′ right′ overs′ first′ last′ made′ → v′ ≡ v + 1
+        → RowWalking s es n k count w₀ d made₀ w′ made′ v′ end left′ right′ overs′ first′ last′
+    row-turn v′ m q =
+        let e : v′ ≡ suc v = q ∙ add-one v in
+        record {
+          walkable = T .walkable;
+          some = T .some;
+          most = T .most;
+          only = only-trans (T .only) (m .only);
+          from = omega (arith, T .from);
+          upto = T .upto;
+          marks = rw (m .joins-are) (m .marks);
+          rest = rw (e, m .joins-are, visited) (sym rest-first ∙ T .rest);
+        }

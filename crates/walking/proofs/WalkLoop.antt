@@ -1,0 +1,130 @@
+-- The walk, row by row, and what it has made in the end.
+--   Walking .. w made d ..  == the rows of d letters and fewer, walked from the joins in w on, make the joins of the walk
+--   few-joins               == the plain rule makes no more joins than there are slips
+use mathlib.Core.Path.{_≡_, refl, sym, ap, _∙_}
+use mathlib.Core.Bool.{Bool}
+use mathlib.Core.List.{List, [], _∷_, _++_}
+use Prim.Native.Nat.{ℕ, zero, suc, _+_, _-_, _≤_, _<_}
+use native.Mathlib.Numerals.{add-one}
+use native.Mathlib.Omega.{arith}
+use lib.ListN.{length, replicate, length-replicate}
+use Rattle.words.specs.Lists.{those, upFrom}
+use Rattle.words.proofs.Members.{In, Asc, those-append}
+use Rattle.words.proofs.Overlaps.{nonEmpty-counts}
+use Rattle.words.proofs.Sums.{sum, All, all-in, asc-once}
+use Rattle.trays.specs.Limits.{maxSlips, maxSlip}
+use Rattle.trays.specs.Slips.{slipsOf}
+use Rattle.trays.specs.Aside.{kept, counted}
+use Rattle.tables.specs.Tables.{Cells, Only}
+use Rattle.tables.proofs.Tables.{only-refl, only-trans}
+use Rattle.greedy.specs.Joins.{Join, rightOf, plainFor}
+use Rattle.greedy.specs.Walk.{walkFrom, walkFor}
+use Rattle.greedy.proofs.Chains.{Chain, whole}
+use Rattle.greedy.proofs.Represent.{plain-rep}
+use Rattle.greedy.proofs.Nodes.{walk-append, walk-nodes}
+use Rattle.greedy.proofs.OneList.{Ready, one-list, kept-ready}
+use Rattle.layout.specs.Layout.{LEVEL, JOINS}
+use Rattle.layout.specs.Tables.{cell, members}
+use Rattle.layout.specs.Numbered.{patternsIn}
+use Rattle.layout.specs.Staging.{keptIn, joinsIn}
+use Rattle.walking.specs.Marks.{Marks}
+use Rattle.walking.specs.Walking.{Made, Walkable, RowAsks, row, rows, rowWalked, Fresh, Walked}
+use Rattle.walking.proofs.MarkLaws.{marks-none}
+use Rattle.walking.proofs.JoinCells.{joins-length}
+use Rattle.walking.proofs.RowLaws.{rows-nodes}
+use Rattle.walking.proofs.WalkableLaws.{kept-rises, kept-member, kept-count, patterns-same, kept-same, walkable-kept}
+
+few-joins : (counts : List ℕ → Bool) (ss : List (List ℕ)) (K : List ℕ) → Asc _<_ K → ((x : ℕ) → In x K → 1 ≤ x) → length (plainFor counts ss K) ≤ length K
+few-joins counts ss K a p =
+    let (Cs, rep) = plain-rep counts ss K (asc-once K a) (all-in (λ x. 1 ≤ x) K p) in
+    omega (arith, rep .count, rep .all (λ x. 1), ones K, more Cs)
+  where
+    ones : {A : Type 0} (xs : List A) → sum (λ x. 1) xs ≡ length xs
+    ones [] = refl
+    ones (x ∷ xs) = omega (arith, ones xs)
+
+    more : (Cs : List Chain) → sum (λ C. length (C .rest)) Cs ≤ sum (λ C. sum (λ x. 1) (whole C)) Cs
+    more [] = omega arith
+    more (C ∷ Cs) = omega (arith, more Cs, ones (C .rest))
+
+pub fresh-length : (xs ys : List ℕ) → length xs ≡ maxSlips → ys ≡ replicate maxSlips 0 → length xs ≡ length ys
+fresh-length xs ys h e = h ∙ sym (ap length e ∙ length-replicate {A = ℕ} maxSlips 0)
+
+pub record Walking (s es : List ℕ) (n k count : ℕ) (w₀ w : List ℕ) (made d : ℕ) (left right overs first last : List ℕ) : Type 0 where
+  pub walkable : Walkable s es n k count w₀
+  pub only : Only (Cells JOINS 600) w₀ w
+  pub upto : d ≤ maxSlip
+  pub marks : Marks (joinsIn w made) left right overs first last
+  pub rest : walkFrom (slipsOf s es) (keptIn w₀ k) (those counted (rows (patternsIn s es n w₀) (cell w₀ LEVEL) d)) (joinsIn w made)
+      ≡ walkFor counted (slipsOf s es) (keptIn w₀ k)
+
+pub walk-start : {s es : List ℕ} {n k count : ℕ} {w left right overs first last first′ last′ : List ℕ}
+    → Walkable s es n k count w → Fresh left right overs first last → first′ ≡ upFrom 1 maxSlips → last′ ≡ upFrom 1 maxSlips
+    → Walking s es n k count w w 0 maxSlip left right overs first′ last′
+walk-start {s} {es} {n} {k} {count} {w} W F f l =
+    record {
+      walkable = W;
+      only = only-refl;
+      upto = omega arith;
+      marks = marks-none _ _ _ _ _ (F .left-none) (F .right-none) (F .over-none) f l;
+      rest =
+          walk-nodes counted (slipsOf s es) (keptIn w k) (rows (patternsIn s es n w) (cell w LEVEL) maxSlip)
+          (rows-nodes (slipsOf s es) (members w n) (keptIn w k) (kept-member W) (cell w LEVEL) maxSlip (W .numbered .level));
+    }
+
+module _ {s es : List ℕ} {n k count : ℕ} {w₀ w : List ℕ} {made d : ℕ} {left right overs first last : List ℕ}
+    (T : Walking s es n k count w₀ w made d left right overs first last) where
+  abbrev ss : List (List ℕ)
+  ss = slipsOf s es
+
+  abbrev K : List ℕ
+  K = keptIn w₀ k
+
+  abbrev ps : List (List ℕ)
+  ps = patternsIn s es n w₀
+
+  module _ (h : 0 < d) where
+    pub walk-asks : RowAsks s es n k count w d made left right overs first last
+    walk-asks = record { walkable = walkable-kept (T .walkable) (T .only); some = h; most = T .upto; marks = T .marks }
+
+    level-same : (i : ℕ) → i ≤ suc maxSlip → cell w LEVEL i ≡ cell w₀ LEVEL i
+    level-same i l = T .only .kept (LEVEL + i) (λ q. omega (arith, q .from))
+
+    row-same : rowWalked s es n k w d made ≡ walkFrom ss K (those counted (row ps (cell w₀ LEVEL) d)) (joinsIn w made)
+    row-same =
+        rw (kept-same (T .walkable) (T .only), patterns-same (T .walkable) (T .only), level-same d (omega (arith, T .upto)), level-same (suc d) (omega (arith, T .upto)))
+
+    pub walk-turn : {w′ left′ right′ overs′ first′ last′ : List ℕ} {made′ : ℕ} (d′ : ℕ)
+        → Made w (rowWalked s es n k w d made) w′ left′ right′ overs′ first′ last′ made′ → d′ ≡ d - 1
+        → Walking s es n k count w₀ w′ made′ d′ left′ right′ overs′ first′ last′
+    walk-turn d′ m q =
+        let e : d ≡ suc d′ = omega arith in
+        let here = row ps (cell w₀ LEVEL) d in
+        let less = rows ps (cell w₀ LEVEL) d′ in
+        let split : those counted (rows ps (cell w₀ LEVEL) d) ≡ those counted here ++ those counted less =
+        rw e (those-append counted (row ps (cell w₀ LEVEL) (suc d′)) less) in
+        record {
+          walkable = T .walkable;
+          only = only-trans (T .only) (m .only);
+          upto = omega (arith, T .upto);
+          marks = rw (m .joins-are) (m .marks);
+          rest =
+              rw (m .joins-are, row-same)
+              (sym (walk-append ss K (those counted here) (those counted less) (joinsIn w made))
+              ∙ ap (λ l. walkFrom ss K l (joinsIn w made)) (sym split) ∙ T .rest);
+        }
+
+  pub walk-end : d ≤ 0 → Walked s es k w₀ w left right overs made
+  walk-end h =
+      let z : d ≡ 0 = omega arith in
+      let positive : (x : ℕ) → In x (members w₀ n) → 1 ≤ x = λ x m. T .walkable .numbered .real x m .0 in
+      let ready : Ready counted ss K = rw (T .walkable .kept-are) (kept-ready counted ss (members w₀ n) nonEmpty-counts (T .walkable .numbered .ascending) positive) in
+      let walked : joinsIn w made ≡ walkFor counted ss K = (rw z at (T .rest)) in
+      let plain : joinsIn w made ≡ plainFor counted ss K = walked ∙ one-list counted ss K ready in
+      record {
+        joins-are = plain;
+        neighbours = T .marks .neighbours;
+        small = T .marks .small;
+        few = omega (arith, joins-length w made, ap length plain, few-joins counted ss K (kept-rises (T .walkable)) (λ x m. positive x (kept-member (T .walkable) x m)), kept-count (T .walkable));
+        only = T .only;
+      }

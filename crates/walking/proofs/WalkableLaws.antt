@@ -1,0 +1,183 @@
+-- The work area of the walk: what it says of a node, and that it says the same when only joins have been written.
+--   kept-..          == the kept members: ascending, slips of the tray
+--   node-starts, node-ends == the lists of a node are lists of slips of the tray
+--   starters-are, enders-are == they are the kept members that begin with its string, and those that properly end with it
+--   walkable-kept    == joins leave all this as it is
+use mathlib.Core.Path.{_≡_, refl, sym, ap, ap₂, fun-ext, subst₂, _∙_}
+use mathlib.Core.Bool.{Bool, true, false}
+use mathlib.Core.Logic.{inl, inr}
+use mathlib.Core.List.{List, [], _∷_}
+use Prim.Native.Nat.{ℕ, zero, suc, _+_, _-_, _≤_, _<_}
+use native.Mathlib.Decide.{decLt}
+use native.Mathlib.Omega.{arith}
+use lib.ListN.{length, getD, length-take, List·getD-eq-default}
+use borrow.Author.Tests.{ltb-true}
+use Rattle.words.specs.Lists.{those}
+use Rattle.words.specs.Words.{begins, endsProperly}
+use Rattle.words.proofs.Tests.{tell, both}
+use Rattle.words.proofs.Members.{In, Asc, in-those, those-yes, those-no, asc-those}
+use Rattle.words.proofs.Strings.{begins-length}
+use Rattle.trays.specs.Limits.{maxSlips, maxSlip, maxLetters}
+use Rattle.trays.specs.Slips.{slipsOf, slip, startOf, endOf}
+use Rattle.trays.specs.Aside.{kept}
+use Rattle.trays.proofs.Accepted.{accepted-tells, span-fits, span-slip}
+use Rattle.trays.proofs.Kept.{kept-asc, in-kept}
+use Rattle.tables.specs.Tables.{Cells, Only}
+use Rattle.tables.proofs.Tables.{table-length, cells-below}
+use Rattle.matching.specs.Nodes.{nodes, string, Num}
+use Rattle.matching.proofs.NodeLaws.{node-some}
+use Rattle.layout.specs.Layout.{KEPT, STARTS, STARTS-NEXT, ENDS, ENDS-NEXT, JOINS, KID}
+use Rattle.layout.specs.Tables.{cell, members, patterns, starters, enders, Linked, StartsIs, EndsIs}
+use Rattle.layout.specs.Numbered.{patternsIn, Numbered, Kept}
+use Rattle.layout.specs.Staging.{keptIn}
+use Rattle.layout.proofs.Frames.{only-kept, members-kept, patterns-kept, numbered-kept}
+use Rattle.walking.specs.Runs.{along, nextStarter, nextEnder, startersAt, endersAt, Real, Listed}
+use Rattle.walking.specs.Walking.{Sized, Walkable}
+use Rattle.walking.proofs.NextSlips.{start-short}
+use Rattle.walking.proofs.RunLaws.{linked-along, listed-is}
+
+those-few : {A : Type 0} (t : A → Bool) (xs : List A) → length (those t xs) ≤ length xs
+those-few t [] = omega arith
+those-few t (x ∷ xs) =
+    elim (tell (t x)) [
+      | inl e ↦ omega (arith, ap length (those-yes t x xs e), those-few t xs)
+      | inr e ↦ omega (arith, ap length (those-no t x xs e), those-few t xs)
+    ]
+
+linked-same : (next next′ : ℕ → ℕ) (xs : List ℕ) {i i′ : ℕ} → ((x : ℕ) → next′ x ≡ next x) → i′ ≡ i → Linked next i xs → Linked next′ i′ xs
+linked-same next next′ xs h e l = subst₂ (λ g a. Linked g a xs) (sym (fun-ext h)) (sym e) l
+
+module _ {s es : List ℕ} {n k count : ℕ} {w : List ℕ} (W : Walkable s es n k count w) where
+  abbrev ss : List (List ℕ)
+  ss = slipsOf s es
+
+  abbrev N : Numbered s es n count w
+  N = W .numbered
+
+  abbrev K : List ℕ
+  K = keptIn w k
+
+  abbrev ps : List (List ℕ)
+  ps = patternsIn s es n w
+
+  pub kept-rises : Asc _<_ K
+  kept-rises = rw (W .kept-are) (kept-asc ss (members w n) (N .ascending))
+
+  pub kept-member : (i : ℕ) → In i K → In i (members w n)
+  kept-member i m = in-kept ss (members w n) (rw (W .kept-are) at m) .0
+
+  kept-real : (i : ℕ) → In i K → (1 ≤ i) × (i ≤ length es)
+  kept-real i m = N .real i (kept-member i m)
+
+  pub kept-count : length K ≡ k
+  kept-count = table-length w KEPT k (omega (arith, W .few-kept, N .room))
+
+  ends-short : (i : ℕ) → endOf es i ≤ maxLetters
+  ends-short zero = omega arith
+  ends-short (suc i) =
+      elim (decLt i (length es)) [
+        | yes h ↦ omega (arith, span-fits s es (N .accepted) (suc i) (omega arith) h, accepted-tells s es (N .accepted) .small)
+        | no h ↦ rw (List·getD-eq-default es 0 {n = i} (omega arith)) (omega arith)
+      ]
+
+  pub here-sized : (d : ℕ) → 1 ≤ d → d ≤ maxSlip → Sized es w d
+  here-sized d h l = record { room = N .room; few = accepted-tells s es (N .accepted) .few; short = ends-short; some = h; most = l }
+
+  -- a slip of d letters or more
+  long-real : (d i : ℕ) → In i K → d ≤ length (slip ss i) → Real es d i
+  long-real d i m h =
+      let (a, b) = kept-real i m in
+      record { some = a; inside = b; deep = omega (arith, rw (span-slip s es (N .accepted) i a b, length-take) at h) }
+
+  module _ (v d : ℕ) (some : 1 ≤ d) (num : Num ps v) (size : length (string ps v) ≡ d) where
+    abbrev x : List ℕ
+    x = string ps v
+
+    next-starter : nextStarter w es d ≡ (λ r. cell w STARTS-NEXT (startOf es r + (d - 1)))
+    next-starter = fun-ext (λ r. let e : startOf es r + d - 1 ≡ startOf es r + (d - 1) = omega arith in rw e)
+
+    next-ender : nextEnder w es d ≡ (λ l. cell w ENDS-NEXT (endOf es l - length x))
+    next-ender = rw size
+
+    starters-linked : Linked (nextStarter w es d) (cell w STARTS v) (starters ss K x)
+    starters-linked = rw next-starter (W .starts v (d - 1) num (omega arith))
+
+    enders-linked : Linked (nextEnder w es d) (cell w ENDS v) (enders ss K x)
+    enders-linked = rw next-ender (W .ends v num)
+
+    starter-real : (i : ℕ) → In i (starters ss K x) → Real es d i
+    starter-real i m =
+        let (a, b) = in-those (λ r. begins x (slip ss r)) K m in
+        long-real d i a (omega (arith, size, begins-length x (slip ss i) b))
+
+    ender-real : (i : ℕ) → In i (enders ss K x) → Real es d i
+    ender-real i m =
+        let (a, b) = in-those (λ l. endsProperly x (slip ss l)) K m in
+        long-real d i a (omega (arith, size, ends-length x (slip ss i) b))
+      where
+        ends-length : (x y : List ℕ) → endsProperly x y ≡ true → length x ≤ length y
+        ends-length x y e = omega (arith, ltb-true (length x) (length y) (both _ _ e .0))
+
+    starters-few : length (starters ss K x) ≤ maxSlips
+    starters-few = omega (arith, those-few (λ r. begins x (slip ss r)) K, kept-count, W .few-kept)
+
+    enders-few : length (enders ss K x) ≤ maxSlips
+    enders-few = omega (arith, those-few (λ l. endsProperly x (slip ss l)) K, kept-count, W .few-kept)
+
+    pub starters-are : startersAt w es d v ≡ starters ss K x
+    starters-are = linked-along (nextStarter w es d) maxSlips (cell w STARTS v) (starters ss K x) starters-linked (λ i m. starter-real i m .some) starters-few
+
+    pub enders-are : endersAt w es d v ≡ enders ss K x
+    enders-are = linked-along (nextEnder w es d) maxSlips (cell w ENDS v) (enders ss K x) enders-linked (λ i m. ender-real i m .some) enders-few
+
+    pub node-starts : Listed es d (nextStarter w es d) (cell w STARTS v)
+    node-starts =
+        listed-is (nextStarter w es d) es d (cell w STARTS v) (starters ss K x) starters-linked
+        (asc-those _<_ (λ r. begins x (slip ss r)) K kept-rises) starter-real starters-few
+
+    pub node-ends : Listed es d (nextEnder w es d) (cell w ENDS v)
+    node-ends =
+        listed-is (nextEnder w es d) es d (cell w ENDS v) (enders ss K x) enders-linked
+        (asc-those _<_ (λ l. endsProperly x (slip ss l)) K kept-rises) ender-real enders-few
+
+  -- only joins have been written
+  module _ {w′ : List ℕ} (f : Only (Cells JOINS 600) w w′) where
+    below : Kept JOINS w w′
+    below = only-kept JOINS f (λ p q. q .from)
+
+    pub members-same : members w′ n ≡ members w n
+    members-same = members-kept n (omega (arith, N .few-members)) below
+
+    pub patterns-same : patternsIn s es n w′ ≡ ps
+    patterns-same = patterns-kept N (omega arith) below
+
+    pub kept-same : keptIn w′ k ≡ K
+    kept-same = cells-below KEPT k f (omega (arith, W .few-kept))
+
+    node-small : (v : ℕ) → Num ps v → v ≤ maxLetters
+    node-small v m = omega (arith, m .inside, N .all-nodes, N .few-nodes)
+
+    starts-same : StartsIs ss es (members w n) K (cell w′ STARTS) (cell w′ STARTS-NEXT)
+    starts-same v d m e =
+        linked-same (λ r. cell w STARTS-NEXT (startOf es r + d)) (λ r. cell w′ STARTS-NEXT (startOf es r + d)) (starters ss K (string ps v))
+        (λ r. f .kept (STARTS-NEXT + (startOf es r + d)) (λ q. omega (arith, q .from, start-short es ends-short r, N .level .all v m)))
+        (f .kept (STARTS + v) (λ q. omega (arith, q .from, node-small v m)))
+        (W .starts v d m e)
+
+    ends-same : EndsIs ss es (members w n) K (cell w′ ENDS) (cell w′ ENDS-NEXT)
+    ends-same v m =
+        let a = length (string ps v) in
+        linked-same (λ l. cell w ENDS-NEXT (endOf es l - a)) (λ l. cell w′ ENDS-NEXT (endOf es l - a)) (enders ss K (string ps v))
+        (λ l. f .kept (ENDS-NEXT + (endOf es l - a)) (λ q. omega (arith, q .from, ends-short l, node-some ps v m .0)))
+        (f .kept (ENDS + v) (λ q. omega (arith, q .from, node-small v m)))
+        (W .ends v m)
+
+    pub walkable-kept : Walkable s es n k count w′
+    walkable-kept =
+        record {
+          numbered = numbered-kept (only-kept KID f (λ p q. omega (arith, q .from))) N;
+          few-kept = W .few-kept;
+          kept-are = kept-same ∙ W .kept-are ∙ ap (kept ss) (sym members-same);
+          starts = rw (members-same, kept-same) starts-same;
+          ends = rw (members-same, kept-same) ends-same;
+        }

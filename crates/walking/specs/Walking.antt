@@ -1,0 +1,156 @@
+-- What the functions of the walk ask and leave.
+--   Sized es w d            == the tray is small enough, the work area large enough, and d is a length of slips
+--   Made w js w′ .. r       == the joins js stand in w′, r of them, and in the five lists; nothing else of w has changed
+--   row ps level d          == the strings of the nodes of d letters, by number
+--   rows ps level d         == those of d letters, of one letter fewer, .. of one letter
+--   Walkable s es n k c w   == the nodes of the n members are numbered, the k kept ones known, and for each node those that begin with it and
+--                              those that properly end with it
+--   Walked ..               == what the walk leaves: the joins of the plain rule
+use mathlib.Core.Path.{_≡_}
+use mathlib.Core.Bool.{_&&_, not}
+use mathlib.Core.List.{List, [], _∷_, _++_, map}
+use Prim.Native.Nat.{ℕ, zero, suc, _+_, _-_, _≤_, _<_}
+use lib.Dec.{eqb}
+use lib.ListN.{length, replicate}
+use Rattle.words.specs.Lists.{those, upFrom, headOr}
+use Rattle.trays.specs.Limits.{maxSlips, maxSlip, maxLetters, workNeed}
+use Rattle.trays.specs.Slips.{slipsOf, endOf}
+use Rattle.trays.specs.Aside.{kept, counted}
+use Rattle.tables.specs.Tables.{Cells, Only}
+use Rattle.greedy.specs.Joins.{Join, join, rightOf, plainFor}
+use Rattle.greedy.specs.Walk.{walkFrom}
+use Rattle.greedy.proofs.Threads.{putAt}
+use Rattle.matching.specs.Nodes.{string}
+use Rattle.layout.specs.Layout.{LEVEL, STARTS, STARTS-NEXT, ENDS, ENDS-NEXT, JOINS}
+use Rattle.layout.specs.Tables.{cell, members, StartsIs, EndsIs}
+use Rattle.layout.specs.Numbered.{patternsIn, Numbered}
+use Rattle.layout.specs.Staging.{keptIn, joinsIn, Neighbours}
+use Rattle.walking.specs.Runs.{nextStarter, nextEnder, endersFrom, mark, waitingIn, Real, Listed}
+use Rattle.walking.specs.Marks.{endsIn, Marks}
+
+pub record Sized (es w : List ℕ) (d : ℕ) : Type 0 where
+  pub room : workNeed ≤ length w
+  pub few : length es ≤ maxSlips
+  pub short : (i : ℕ) → endOf es i ≤ maxLetters
+  pub some : 1 ≤ d
+  pub most : d ≤ maxSlip
+
+-- a search along the slips that properly end with a node
+pub record Searches (es w : List ℕ) (d : ℕ) (right : List ℕ) (l : ℕ) : Type 0 where
+  pub sized : Sized es w d
+  pub rights : length right ≡ maxSlips
+  pub list : Listed es d (nextEnder w es d) l
+
+pub record Found (es w : List ℕ) (d : ℕ) (right : List ℕ) (l r : ℕ) : Type 0 where
+  pub rest : endersFrom w es d r ≡ waitingIn right (endersFrom w es d l)
+  pub list : Listed es d (nextEnder w es d) r
+
+-- the first of ls that has no right neighbour and is not m, 0 for none
+abbrev pub partnerIn : List ℕ → List ℕ → ℕ → ℕ
+partnerIn right ls m = headOr 0 (those (λ l. eqb (mark right l) 0 && not (eqb l m)) ls)
+
+-- what stands first waits, if anything stands there
+abbrev pub Waits : List ℕ → List ℕ → Type 0
+Waits right ls = waitingIn right ls ≡ ls
+
+pub record Chooses (es w : List ℕ) (d : ℕ) (right : List ℕ) (l m : ℕ) : Type 0 where
+  pub search : Searches es w d right l
+  pub waits : Waits right (endersFrom w es d l)
+  pub real : 1 ≤ m
+
+pub record Made (w : List ℕ) (js : List Join) (w′ left right overs first last : List ℕ) (r : ℕ) : Type 0 where
+  pub joins-are : joinsIn w′ r ≡ js
+  pub marks : Marks js left right overs first last
+  pub only : Only (Cells JOINS 600) w w′
+
+-- one join more in the work area
+pub record JoinFits (w : List ℕ) (count l r d : ℕ) : Type 0 where
+  pub room : workNeed ≤ length w
+  pub few : count < maxSlips
+  pub left-small : l ≤ maxSlips
+  pub right-small : r ≤ maxSlips
+  pub overlap-small : d ≤ maxSlip
+
+pub record JoinPut (w : List ℕ) (count l r d : ℕ) (w′ : List ℕ) (res : ℕ) : Type 0 where
+  pub joins-are : joinsIn w′ res ≡ joinsIn w count ++ (join l r d ∷ [])
+  pub only : Only (Cells JOINS 600) w w′
+
+-- the chain that ends in l and the chain that r begins are one chain
+pub record EndsFit (first last : List ℕ) (l r : ℕ) : Type 0 where
+  pub firsts : length first ≡ maxSlips
+  pub lasts : length last ≡ maxSlips
+  pub left : (1 ≤ l) × (l ≤ maxSlips)
+  pub right : (1 ≤ r) × (r ≤ maxSlips)
+  pub begin : (1 ≤ endsIn first l) × (endsIn first l ≤ maxSlips)
+  pub end : (1 ≤ endsIn last r) × (endsIn last r ≤ maxSlips)
+
+pub record EndsJoined (first last : List ℕ) (l r : ℕ) (first′ last′ : List ℕ) : Type 0 where
+  pub firsts : length first′ ≡ maxSlips
+  pub lasts : length last′ ≡ maxSlips
+  pub first-is : endsIn first′ ≡ putAt (endsIn first) (endsIn last r) (endsIn first l)
+  pub last-is : endsIn last′ ≡ putAt (endsIn last) (endsIn first l) (endsIn last r)
+
+-- a join of l and r by d letters
+pub record Joinable (w : List ℕ) (count l r d : ℕ) (left right overs first last : List ℕ) : Type 0 where
+  pub room : workNeed ≤ length w
+  pub marks : Marks (joinsIn w count) left right overs first last
+  pub left-real : (1 ≤ l) × (l ≤ maxSlips)
+  pub right-real : (1 ≤ r) × (r ≤ maxSlips)
+  pub overlap-small : d ≤ maxSlip
+  pub left-free : mark right l ≡ 0
+  pub right-free : mark left r ≡ 0
+  pub no-cycle : l ≡ mark last r → ⊥
+
+-- one slip r of a visit, where l stands first among those that properly end with the node and wait
+pub record Offers (es w : List ℕ) (d r l count : ℕ) (left right overs first last : List ℕ) : Type 0 where
+  pub search : Searches es w d right l
+  pub waits : Waits right (endersFrom w es d l)
+  pub real : Real es d r
+  pub marks : Marks (joinsIn w count) left right overs first last
+
+pub record Visits (es w : List ℕ) (d v count : ℕ) (left right overs first last : List ℕ) : Type 0 where
+  pub sized : Sized es w d
+  pub node : v ≤ maxLetters
+  pub starts : Listed es d (nextStarter w es d) (cell w STARTS v)
+  pub ends : Listed es d (nextEnder w es d) (cell w ENDS v)
+  pub marks : Marks (joinsIn w count) left right overs first last
+
+abbrev pub row : List (List ℕ) → (ℕ → ℕ) → ℕ → List (List ℕ)
+row ps level d = map (string ps) (upFrom (level d) (level (suc d) - level d))
+
+abbrev pub rows : List (List ℕ) → (ℕ → ℕ) → ℕ → List (List ℕ)
+rows ps level zero = []
+rows ps level (suc d) = row ps level (suc d) ++ rows ps level d
+
+pub record Walkable (s es : List ℕ) (n k count : ℕ) (w : List ℕ) : Type 0 where
+  pub numbered : Numbered s es n count w
+  pub few-kept : k ≤ maxSlips
+  pub kept-are : keptIn w k ≡ kept (slipsOf s es) (members w n)
+  pub starts : StartsIs (slipsOf s es) es (members w n) (keptIn w k) (cell w STARTS) (cell w STARTS-NEXT)
+  pub ends : EndsIs (slipsOf s es) es (members w n) (keptIn w k) (cell w ENDS) (cell w ENDS-NEXT)
+
+-- the visits of the nodes of d letters
+pub record RowAsks (s es : List ℕ) (n k count : ℕ) (w : List ℕ) (d made : ℕ) (left right overs first last : List ℕ) : Type 0 where
+  pub walkable : Walkable s es n k count w
+  pub some : 1 ≤ d
+  pub most : d ≤ maxSlip
+  pub marks : Marks (joinsIn w made) left right overs first last
+
+abbrev pub rowWalked : List ℕ → List ℕ → ℕ → ℕ → List ℕ → ℕ → ℕ → List Join
+rowWalked s es n k w d made =
+    walkFrom (slipsOf s es) (keptIn w k) (those counted (row (patternsIn s es n w) (cell w LEVEL) d)) (joinsIn w made)
+
+-- Document 01: two lists of 200 marks, each starting as none; so the overlaps. The lists of chain ends may hold anything.
+pub record Fresh (left right overs first last : List ℕ) : Type 0 where
+  pub left-none : left ≡ replicate maxSlips 0
+  pub right-none : right ≡ replicate maxSlips 0
+  pub over-none : overs ≡ replicate maxSlips 0
+  pub firsts : length first ≡ maxSlips
+  pub lasts : length last ≡ maxSlips
+
+pub record Walked (s es : List ℕ) (k : ℕ) (w w′ left right overs : List ℕ) (r : ℕ) : Type 0 where
+  pub joins-are : joinsIn w′ r ≡ plainFor counted (slipsOf s es) (keptIn w k)
+  pub neighbours : Neighbours (joinsIn w′ r) left right overs
+  pub small : (i : ℕ) → rightOf i (joinsIn w′ r) ≤ maxSlips
+  pub few : r ≤ k
+  pub only : Only (Cells JOINS 600) w w′
