@@ -1,0 +1,2 @@
+-- Occurrences as they are made.
+pub mod Made

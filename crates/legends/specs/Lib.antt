@@ -1,0 +1,2 @@
+-- Joins and places as they are made from numbers.
+pub mod Made

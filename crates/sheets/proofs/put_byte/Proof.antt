@@ -1,0 +1,23 @@
+use Rattle.sheets.proofs.Puts.{put-byte}
+use borrow.Author.Needs.{needs}
+use Rattle.sheets.proofs.put_byte.Statement.{statement}
+use Rattle.sheets.proofs.put_byte.Tie as tie
+
+-- src/lib.rt:65:5
+slice-write-out : tie.Need-slice-write-out
+slice-write-out c = search needs
+
+-- src/lib.rt:66:5
+add-result : tie.Need-add-result
+add-result c = search needs
+
+-- src/lib.rt:61:1
+same-length : tie.Need-same-length
+same-length c = search needs
+
+-- src/lib.rt:61:1
+returns : tie.Need-returns
+returns c = search put-byte
+
+pub put-byte-spec : {M : Type 1} → statement M
+put-byte-spec = tie.close (tie.spec slice-write-out add-result same-length returns)
