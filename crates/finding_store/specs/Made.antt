@@ -1,7 +1,7 @@
 use mathlib.Core.List.{List}
 use mathlib.Core.Path.{_≡_}
-use Prim.Native.Nat.{ℕ, _+_, _*_, _≤_, _<_}
-use lib.ListN.{length, getD}
+use Prim.Native.Nat.{ℕ, _+_, _-_, _*_, _≤_, _<_}
+use lib.ListN.{length, getD, take, drop}
 use Rattle.stores.specs.Overwritten.{overwritten, firsts}
 use Rattle.finding.specs.declared.Found.{Found}
 use Rattle.finding.specs.declared.Search.{Search}
@@ -26,3 +26,6 @@ pub record FindTrial (ls es ts w : List ℕ) (found found′ : List Found) (r : 
   pub core : FindCore ls es ts w work′ (length found) scanned
   pub answer : r ≡ scanned .answer
   pub found-are : found′ ≡ overwritten (firsts (occurs ls es ts) (scanned .count)) found
+
+abbrev pub part : ℕ → ℕ → List ℕ → List ℕ
+part from to ns = take (to - from) (drop from ns)

@@ -97,3 +97,11 @@ pub fn trial_find(letters: &[u8], ends: &[u16], text: &[u8], work: &mut [u16], f
     scan_found(letters, ends, text, work, found, a.count);
     a.answer
 }
+
+// A part of the work area is lent.
+pub fn trial_part(work: &mut [u16], found: &mut [Found], from: usize, to: usize, count: usize)
+    requires { ⌜ (from ≤ to) × ((to ≤ length (now work)) × ((count ≤ length (now found)) × (from + 2 * count ≤ to))) ⌝ }
+    ensures { λ _. ⌜ (now (found .exit) ≡ overwritten (firsts (M.foundAt (M.part from to (now (work .entry)))) count) (now (found .entry))) × (now (work .exit) ≡ now (work .entry)) ⌝ }
+{
+    store_found(&work[from..to], found, count);
+}

@@ -11,7 +11,8 @@ use native.Mathlib.Decide.{decLt}
 use native.Mathlib.Omega.{arith}
 use borrow.Author.Tests.{lt-ltb, le-ltb}
 use lib.ListN.{length, replicate, length-append, length-replicate}
-use Rattle.sheets.specs.Sheets.{blank, digit, digits, decimal, column}
+use Rattle.files.specs.Lines.{blank}
+use Rattle.sheets.specs.Sheets.{digit, digits, decimal, column}
 
 digits-small : (f n : ℕ) → n < 10 → digits (suc f) n ≡ (digit n ∷ [])
 digits-small f n h = rw (lt-ltb n 10 h, digits)

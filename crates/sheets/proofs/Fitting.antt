@@ -1,14 +1,19 @@
 -- Every number that is printed fits: the claims of specs/Fits.antt.
+--   compose-fits, find-fits  == the claims
+--   chains-fewer             == a chain has one join less than slips
+--   NAME-few                 == NAME gives at most so many
+-- The joins make chains of the kept slips, so they are fewer; their slips are kept slips, and an overlap is within its right slip. At one
+-- place of a text each slip ends at most once.
 use mathlib.Core.Path.{_≡_, refl}
+use mathlib.Core.Bool.{Bool}
 use mathlib.Core.List.{List, [], _∷_, map}
 use Prim.Native.Nat.{ℕ, suc, _+_, _-_, _*_, _≤_}
 use native.Mathlib.Nat.{mul-suc}
 use native.Mathlib.Omega.{arith}
-use mathlib.Core.Bool.{Bool}
 use lib.ListN.{length, take, length-append, length-map}
 use Rattle.words.specs.Lists.{each, those, upFrom, insert, inOrder}
-use Rattle.words.proofs.Tests.{by-test}
 use Rattle.words.specs.Words.{ends}
+use Rattle.words.proofs.Tests.{by-test}
 use Rattle.words.proofs.Members.{in-upFrom, those-yes, those-no}
 use Rattle.words.proofs.Maps.{all-each}
 use Rattle.words.proofs.Sums.{sum, All, all-in, all-at, held-in}
@@ -17,15 +22,15 @@ use Rattle.trays.specs.Limits.{maxSlips, maxText}
 use Rattle.trays.specs.Slips.{slipsOf, slip, numbers}
 use Rattle.trays.specs.Aside.{kept, counted}
 use Rattle.trays.specs.Faults.{trayFault}
-use Rattle.matching.specs.Occurrences.{Found, found, endingAt, firstHere, occurrences}
-use Rattle.matching.proofs.States.{few-moves}
-use Rattle.matching.proofs.Finds.{in-ending}
 use Rattle.trays.proofs.Accepted.{accepted-tells, slips-count}
 use Rattle.numbering.proofs.Spans.{accepted-spanned}
 use Rattle.greedy.specs.Joins.{Join, plainJoins}
 use Rattle.greedy.proofs.Chains.{Chain, whole, Arc}
 use Rattle.greedy.proofs.Letters.{weight}
 use Rattle.greedy.proofs.Demand3.{composed}
+use Rattle.matching.specs.Occurrences.{Found, found, endingAt, firstHere, occurrences}
+use Rattle.matching.proofs.States.{few-moves}
+use Rattle.matching.proofs.Finds.{in-ending}
 use Rattle.composing.proofs.PiecesFit.{kept-real, kept-few, kept-small, legend-small, length-upFrom}
 use Rattle.sheets.specs.Fits.{JoinFits, ComposeFits, OccurrenceFits, FindFits}
 use Rattle.sheets.proofs.Placed.{joins-rep, place-most}

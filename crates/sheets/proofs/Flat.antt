@@ -1,6 +1,7 @@
 -- Sheets from numbers: over the numbers that composing and finding leave, they are the sheets of the slips.
 --   two-at, three-at   == the numbers of a list that holds two or three for each element
 --   lines-each         == lines by index are lines by element
+--   compose-lines-are, find-lines-are  == the two sheets
 use mathlib.Core.Path.{_≡_, refl, sym, _∙_, ap, ap₂}
 use mathlib.Core.Bool.{Bool, true, false, cond}
 use mathlib.Core.List.{List, [], _∷_, _++_}
@@ -69,6 +70,7 @@ each-from d f g k (x ∷ xs) h =
 pub lines-each : {A : Type 0} (d : A) (f : ℕ → List ℕ) (g : A → List ℕ) (xs : List A) → ((i : ℕ) → i < length xs → f i ≡ g (getD xs i d)) → lines f (length xs) ≡ each g xs
 lines-each d f g xs h = each-from d f g 0 xs (λ i l. let e : 0 + i ≡ i = omega arith in rw e (h i l))
 
+-- slip numbers
 upFrom-at : (m n i : ℕ) → i < n → getD (upFrom m n) i 0 ≡ m + i
 upFrom-at m zero i h = absurd (omega arith)
 upFrom-at m (suc n) zero h = sym (add-zero m)

@@ -1,6 +1,7 @@
 -- Laws of the sheets.
 pub mod AllSpecimens
 pub mod Columns
+pub mod ReadBack
 pub mod Puts
 pub mod LineLoops
 pub mod Lines

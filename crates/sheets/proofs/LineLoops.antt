@@ -14,7 +14,8 @@ use lib.ListN.{length, getD, replicate, replicate-append-replicate}
 use Rattle.words.specs.Lists.{each, upFrom}
 use Rattle.words.proofs.Members.{each-append}
 use Rattle.trays.specs.Slips.{endOf}
-use Rattle.sheets.specs.Sheets.{blank, digit, column, keptSign, asideSign, threeLine, slipLine, signOf, foundLine, lines, slipLineAt, joinLineAt, foundLineAt, placeWidth, slipSize, joinSize, foundSize}
+use Rattle.files.specs.Lines.{blank}
+use Rattle.sheets.specs.Sheets.{digit, column, keptSign, asideSign, threeLine, slipLine, signOf, foundLine, lines, slipLineAt, joinLineAt, foundLineAt, placeWidth, slipSize, joinSize, foundSize}
 use Rattle.sheets.specs.Printing.{Put, SlipsFit, JoinsFit, FoundFit}
 use Rattle.sheets.proofs.Columns.{column-small, column-more}
 use Rattle.sheets.proofs.Puts.{put-none, put-more}

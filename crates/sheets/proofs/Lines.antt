@@ -8,7 +8,8 @@ use lib.ListN.{length}
 use Rattle.words.specs.Quoted.{word}
 use Rattle.trays.specs.Faults.{refusal}
 use Rattle.composing.specs.declared.Composed.{Composed}
-use Rattle.sheets.specs.Sheets.{blank, lf, column, threeLine, trayLine, slipLine, signOf, findLine, foundLine, refusedLine, lines, slipLineAt, joinLineAt, foundLineAt, composeLines, findLines, placeWidth, countWidth, detailWidth, traySize, slipSize, joinSize, findSize, foundSize, refusedSize}
+use Rattle.files.specs.Lines.{blank, lf}
+use Rattle.sheets.specs.Sheets.{column, threeLine, trayLine, slipLine, signOf, findLine, foundLine, refusedLine, lines, slipLineAt, joinLineAt, foundLineAt, composeLines, findLines, placeWidth, countWidth, detailWidth, traySize, slipSize, joinSize, findSize, foundSize, refusedSize}
 use Rattle.sheets.specs.Printing.{Put, Printed, JoinsFit, ComposeAsks}
 use Rattle.sheets.proofs.Puts.{put-more}
 

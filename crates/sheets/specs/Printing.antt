@@ -2,7 +2,8 @@
 --   behind at ys old        == a lent buffer that held old, with ys written behind its first `at` bytes
 --   Put at n ys old new r   == that was done, with n bytes, and r is where the next one goes
 --   Printed ys old new r    == ys was written from the start on, and r counts its bytes
---   ..Ask, ..Asks           == what the functions ask: numbers that fit their columns, and room for the lines
+--   ..Fits, ..Fit           == numbers that fit their columns
+--   ..Asks                  == what a function asks: such numbers, and room for the sheet
 use mathlib.Core.Path.{_≡_}
 use mathlib.Core.List.{List, _++_}
 use Prim.Native.Nat.{ℕ, suc, _+_, _*_, _^_, _≤_, _<_}

@@ -22,18 +22,13 @@ use Rattle.trays.specs.declared.Refusal.{Refusal}
 use Rattle.trays.specs.Limits.{maxSlips, maxLetters}
 use Rattle.trays.specs.Slips.{slip, numbers, startOf, endOf}
 use Rattle.trays.specs.Aside.{isAside, kept}
+use Rattle.files.specs.Lines.{lf, blank}
 use Rattle.greedy.specs.Joins.{plainJoins, saved}
 use Rattle.greedy.specs.Legends.{legendOf, placeOf}
 use Rattle.greedy.specs.Claims.{keptLetters}
 use Rattle.matching.specs.Moves.{moves}
 use Rattle.matching.specs.Occurrences.{Found, occurrences}
 use Rattle.composing.specs.declared.Composed.{Composed}
-
-abbrev pub lf : ℕ
-lf = 10
-
-abbrev pub blank : ℕ
-blank = 32
 
 abbrev pub digit : ℕ → ℕ
 digit d = 48 + d
@@ -51,13 +46,15 @@ decimal n = digits (suc n) n
 unfoldable pub column : ℕ → ℕ → List ℕ
 column w n = let ds = decimal n in replicate (w - length ds) blank ++ ds
 
--- columns of the letters, moves and end places, and of the occurrences of `find`; and of a refusal's detail
+-- columns of the letters, moves and end places of `find`
 abbrev pub placeWidth : ℕ
 placeWidth = 4
 
+-- columns of the occurrences of `find`
 abbrev pub countWidth : ℕ
 countWidth = 6
 
+-- columns of a refusal's detail
 abbrev pub detailWidth : ℕ
 detailWidth = 6
 
@@ -72,9 +69,11 @@ trayLine n k m s l = word "TRAY" ++ (column 4 n ++ (column 4 k ++ threeLine 5 m 
 abbrev pub traySize : ℕ
 traySize = 4 + 4 + 4 + 5 + 5 + 5 + 1
 
+-- K
 abbrev pub keptSign : ℕ
 keptSign = 75
 
+-- S
 abbrev pub asideSign : ℕ
 asideSign = 83
 

@@ -6,6 +6,7 @@ ghost use mathlib.Core.List.{[], _∷_};
 ghost use Prim.Native.Nat.{_+_, _*_, _^_, _≤_, _<_};
 ghost use lib.ListN.{length, getD, replicate};
 ghost use Rattle.trays.specs.Faults.{refusal};
+ghost use Rattle.files.specs.Lines.{blank};
 ghost use Rattle.sheets.specs.Sheets as S;
 ghost use Rattle.sheets.specs.Printing as P;
 
@@ -89,7 +90,7 @@ fn put_text(out: &mut [u8], at: usize, text: &[u8]) -> usize
 
 fn put_blanks(out: &mut [u8], at: usize, n: usize) -> usize
     requires { ⌜ at + n ≤ length (now out) ⌝ }
-    ensures { λ r. ⌜ P.Put at n (replicate n S.blank) (now (out .entry)) (now (out .exit)) r ⌝ }
+    ensures { λ r. ⌜ P.Put at n (replicate n blank) (now (out .entry)) (now (out .exit)) r ⌝ }
 {
     let mut next = at;
     let mut i: usize = 0;
@@ -135,7 +136,7 @@ fn tray_line(out: &mut [u8], at: usize, c: Composed) -> usize
     let letters = whole(c.letters);
     let saved = whole(c.saved);
     let legend = whole(c.legend);
-    three_line(out, sums, 5, saved, letters, legend)
+    three_line(out, sums, 5, letters, saved, legend)
 }
 
 fn slip_line(

@@ -22,7 +22,13 @@ same-length : tie.Need-same-length
 same-length c = search needs
 
 returns : tie.Need-returns
-returns c = search scan-kept
+returns c =
+    let p₅ = c .before .before in
+    let p₄ = p₅ .before .before .before .before in
+    let p₃ = p₄ .before .before .before .before in
+    let p₂ = p₃ .before .before .before .before in
+    let p₁ = p₂ .before .before .before .before .before in
+    scan-kept (p₁ .before .before .before .before .pre) (p₁ .put .ensures) (p₂ .put2 .ensures) (p₃ .put3 .ensures) (p₄ .put4 .ensures) (p₅ .put5 .ensures)
 
 pub keep-spec : {M : Type 1} → statement M
 keep-spec =

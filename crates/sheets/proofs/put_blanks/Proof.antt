@@ -1,6 +1,6 @@
 use Prim.Native.Nat.{_-_, _≤_}
 use lib.ListN.{replicate}
-use Rattle.sheets.specs.Sheets.{blank}
+use Rattle.files.specs.Lines.{blank}
 use Rattle.sheets.specs.Printing.{Put}
 use Rattle.sheets.proofs.LineLoops.{blanks-start, blanks-turn, blanks-end}
 use borrow.Author.Needs.{needs}
