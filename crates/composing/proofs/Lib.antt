@@ -7,3 +7,4 @@ pub mod CountSteps
 pub mod WriteSteps
 pub mod FinishSteps
 pub mod LastSteps
+pub mod TopSteps

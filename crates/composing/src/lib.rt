@@ -5,11 +5,15 @@ ghost use lib.ListN.{length, take};
 ghost use Rattle.trays.specs.Slips.{slipsOf, total};
 ghost use Rattle.layout.specs.Layout as L;
 ghost use Rattle.composing.specs.Steps.{thirds, KeptReal, StageAsks, PiecesStaged, Walked, CountsAre, PlacingAsks, Placed, WritingAsks, Written, Joined, Finished, OutcomeAsks, outcomeBy};
-ghost use Rattle.composing.specs.Answers.{refusedBy};
+ghost use Rattle.composing.specs.Answers.{refusedBy, Staged};
+ghost use Rattle.automaton.specs.Built.{Buildable};
 ghost use Rattle.trays.specs.Faults.{refusal};
 use layout::JOINS;
 use layout::KEPT;
 use layout::PLACES;
+
+// 7: so many cells of the work area are asked for.
+pub const WORK_NEED: usize = 32000;
 
 // The answer: number and detail of the refusal, or the counts of what was composed: slips, kept slips, kept letters, saved letters, legend letters, joins.
 pub struct Composed {
@@ -197,4 +201,73 @@ fn finish(
     let pieces = pieces_of(work, left, right, overs, k, joins);
     write_out(letters, ends, work, legend, &pieces, k, need);
     outcome(ends.len(), k, counts, joins)
+}
+
+// An accepted tray, composed in a work area that is large enough: the automaton, the lists at its nodes, the walk, and what is behind it.
+fn compose_accepted(
+    letters: &[u8],
+    ends: &[u16],
+    work: &mut [u16],
+    legend: &mut [u8],
+    joins_room: usize,
+    places_room: usize,
+) -> Composed
+    requires { ⌜ Buildable (now letters) (now ends) (now work) ⌝ }
+    ensures { λ r. ⌜ Finished (now (letters .entry)) (now (ends .entry)) (now (work .entry)) (now (work .exit)) (now (legend .entry)) (now (legend .exit)) «joins_room» «places_room» r ⌝ }
+{
+    let n = ends.len();
+    let nodes = automaton::build(letters, ends, work);
+    let k = owners::fill_lists(letters, ends, work, n, nodes);
+    let mut left = [0u16; 200];
+    let mut right = [0u16; 200];
+    let mut overs = [0u16; 200];
+    let mut first = [0u16; 200];
+    let mut last = [0u16; 200];
+    let joins = walking::walk(
+        letters,
+        ends,
+        work,
+        n,
+        k,
+        nodes,
+        &mut left,
+        &mut right,
+        &mut overs,
+        &mut first,
+        &mut last,
+    );
+    finish(
+        letters,
+        ends,
+        work,
+        legend,
+        &left,
+        &right,
+        &overs,
+        k,
+        joins,
+        joins_room,
+        places_room,
+    )
+}
+
+// Composes any tray, or refuses it: the legend into its buffer, joins and places as numbers into the work area. So many joins and places can be taken.
+pub fn compose_staged(
+    letters: &[u8],
+    ends: &[u16],
+    work: &mut [u16],
+    legend: &mut [u8],
+    joins_room: usize,
+    places_room: usize,
+) -> Composed
+    ensures { λ r. ⌜ Staged (now (letters .entry)) (now (ends .entry)) (now (work .entry)) (now (work .exit)) (now (legend .entry)) (now (legend .exit)) «joins_room» «places_room» r ⌝ }
+{
+    let tray = trays::check_tray(letters, ends);
+    if tray.number != 0 {
+        return refused(tray.number, tray.detail);
+    }
+    if work.len() < WORK_NEED {
+        return refused(7, 0);
+    }
+    compose_accepted(letters, ends, work, legend, joins_room, places_room)
 }
