@@ -8,3 +8,4 @@ pub mod WriteSteps
 pub mod FinishSteps
 pub mod LastSteps
 pub mod TopSteps
+pub mod StagedTells

@@ -23,7 +23,7 @@ pub rows-silent : (rs : List Refusal) → firstRow rs .number ≡ 0 → All (λ 
 rows-silent [] h = tt
 rows-silent (r ∷ rs) h = let b = both-silent r (firstRow rs) h in (b .0, rows-silent rs (b .1))
 
-row-silent : (n : ℕ) (b : Bool) (d : ℕ) → row (suc n) b d .number ≡ 0 → b ≡ false
+pub row-silent : (n : ℕ) (b : Bool) (d : ℕ) → row (suc n) b d .number ≡ 0 → b ≡ false
 row-silent n true d h = absurd (no h)
   where
     no : suc n ≡ 0 → ⊥
