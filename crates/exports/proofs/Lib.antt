@@ -1,0 +1,2 @@
+-- Laws of composing over slices of numbers.
+pub mod FlatSteps

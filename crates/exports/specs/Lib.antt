@@ -1,0 +1,2 @@
+-- What composing over slices of numbers promises.
+pub mod Flat
