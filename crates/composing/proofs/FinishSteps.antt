@@ -18,8 +18,9 @@ use Rattle.greedy.specs.Joins.{Join, plainJoins}
 use Rattle.greedy.specs.Legends.{legendOf}
 use Rattle.layout.specs.Layout.{JOINS}
 use Rattle.layout.specs.Staging.{joinIn, joinsIn}
+use Rattle.layout.specs.WorkArea.{workRow}
 use Rattle.composing.specs.declared.Composed.{Composed}
-use Rattle.composing.specs.Answers.{workRow, composeFault, composedOf, outcomeOf, refusedBy, flatJoins}
+use Rattle.composing.specs.Answers.{composeFault, composedOf, outcomeOf, refusedBy, flatJoins}
 use Rattle.composing.specs.Steps.{Finished}
 use Rattle.composing.proofs.CountSteps.{joins-more}
 

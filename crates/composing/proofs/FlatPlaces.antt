@@ -39,7 +39,7 @@ module _ (a b : ℕ → ℕ) where
       let r = twos-at (suc m) n k (omega arith) in
       (rw (e, ← g) (r .0), rw (f, ← g) (r .1))
 
-flat-at : (ss : List (List ℕ)) (k : ℕ) → k < length ss → (getD (flatPlaces ss) (2 * k) 0 ≡ placeOf ss (suc k)) × (getD (flatPlaces ss) (2 * k + 1) 0 ≡ cond (isAside ss (numbers ss) (suc k)) 0 1)
+pub flat-at : (ss : List (List ℕ)) (k : ℕ) → k < length ss → (getD (flatPlaces ss) (2 * k) 0 ≡ placeOf ss (suc k)) × (getD (flatPlaces ss) (2 * k + 1) 0 ≡ cond (isAside ss (numbers ss) (suc k)) 0 1)
 flat-at ss k h =
     let r = twos-at (placeOf ss) (λ i. cond (isAside ss (numbers ss) i) 0 1) 1 (length ss) k h in
     rw (← (one-add k)) r

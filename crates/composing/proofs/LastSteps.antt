@@ -10,6 +10,7 @@ use lib.ListN.{length, getD, take, length-replicate, length-map}
 use Rattle.words.specs.Lists.{upFrom}
 use Rattle.words.proofs.Tests.{by-test, or-left, or-right}
 use Rattle.words.proofs.Sums.{All}
+use Rattle.words.proofs.Runs.{length-upFrom}
 use Rattle.tables.specs.Tables.{table}
 use Rattle.tables.proofs.Tables.{table-length, table-take, table-same}
 use Rattle.trays.specs.declared.Refusal.{Refusal}
@@ -30,7 +31,7 @@ use Rattle.composing.specs.declared.Composed.{Composed}
 use Rattle.composing.specs.declared.Counts.{Counts}
 use Rattle.composing.specs.Answers.{refusedBy}
 use Rattle.composing.specs.Steps.{Walked, Joined, piecesHere, StageAsks, PiecesStaged, CountsAre, WritingAsks, Written, Finished, OutcomeAsks, outcomeBy}
-use Rattle.composing.proofs.PiecesFit.{length-upFrom, kept-real, kept-few, kept-small, legend-small, pieces-count}
+use Rattle.composing.proofs.PiecesFit.{kept-real, kept-few, kept-small, legend-small, pieces-count}
 use Rattle.composing.proofs.CountSteps.{kept-part, kept-asks}
 use Rattle.composing.proofs.FinishSteps.{legend-short, lists-short, nothing-short, answer-composed, turned-back, flat-table}
 

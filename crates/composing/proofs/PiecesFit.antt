@@ -8,6 +8,7 @@ use borrow.Author.Tests.{eqb-true, eq-eqb}
 use native.Mathlib.Omega.{arith}
 use lib.Dec.{eqb}
 use lib.ListN.{length, take, drop, length-append, length-drop, take-append-drop}
+use Rattle.words.proofs.Runs.{length-upFrom}
 use Rattle.words.specs.Lists.{those, upFrom}
 use Rattle.words.proofs.Tests.{by-test, not-both}
 use Rattle.words.proofs.Members.{In, in-upFrom, upFrom-in, those-yes, those-no}
@@ -113,10 +114,6 @@ total-those ss t (i ∷ M) =
 length-sum : {A : Type 0} (xs : List A) → sum (λ x. 1) xs ≡ length xs
 length-sum [] = refl
 length-sum (x ∷ xs) = omega (arith, length-sum xs)
-
-pub length-upFrom : (i n : ℕ) → length (upFrom i n) ≡ n
-length-upFrom i zero = refl
-length-upFrom i (suc n) = ap suc (length-upFrom (suc i) n)
 
 length-those : (t : ℕ → Bool) (M : List ℕ) → length (those t M) ≤ length M
 length-those t [] = omega arith

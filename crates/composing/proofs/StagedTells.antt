@@ -23,8 +23,9 @@ use Rattle.trays.proofs.Accepted.{rows-silent, row-silent, accepted-tells, slip
 use Rattle.greedy.specs.Joins.{Join, plainJoins}
 use Rattle.greedy.specs.Legends.{legendOf}
 use Rattle.layout.specs.Layout.{JOINS}
+use Rattle.layout.specs.WorkArea.{workRow}
 use Rattle.composing.specs.declared.Composed.{Composed}
-use Rattle.composing.specs.Answers.{workRow, composeFault, composedOf, outcomeOf, refusedBy, flatJoins, Staged}
+use Rattle.composing.specs.Answers.{composeFault, composedOf, outcomeOf, refusedBy, flatJoins, Staged}
 
 pub record Accepts (s es w : List ℕ) (l j p : ℕ) (r : Composed) : Type 0 where
   pub silent : composeFault s es (length w) l j p .number ≡ 0

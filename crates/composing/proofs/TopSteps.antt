@@ -23,8 +23,9 @@ use Rattle.layout.proofs.Frames.{members-kept}
 use Rattle.automaton.specs.Built.{Buildable, Built}
 use Rattle.owners.specs.Owners.{Listed}
 use Rattle.walking.specs.Walking as W
+use Rattle.layout.specs.WorkArea.{workRow}
 use Rattle.composing.specs.declared.Composed.{Composed}
-use Rattle.composing.specs.Answers.{workRow, beforeC, composeFault, refusedBy, Staged}
+use Rattle.composing.specs.Answers.{beforeC, composeFault, refusedBy, Staged}
 use Rattle.composing.specs.Steps.{Joined, Finished}
 use Rattle.composing.proofs.FinishSteps.{turned-back}
 

@@ -1,5 +1,4 @@
 -- Composing: refusals 7, 8 and 9 behind those of the tray, the answer, and what each buffer holds afterwards.
---   workRow w             == place B, work area: 7
 --   beforeC s es w        == what turns composing back before place C
 --   composeFault          == what turns composing back: legend room l, room for j joins and p places
 --   composedOf            == the answer
@@ -15,7 +14,6 @@ use lib.ListN.{length}
 use Rattle.words.specs.Lists.{each}
 use Rattle.tables.specs.Tables.{table}
 use Rattle.trays.specs.declared.Refusal.{Refusal}
-use Rattle.trays.specs.Limits.{workNeed}
 use Rattle.trays.specs.Slips.{slipsOf, numbers}
 use Rattle.trays.specs.Aside.{isAside, kept}
 use Rattle.trays.specs.Faults.{row, firstRow, trayRows, written}
@@ -23,10 +21,8 @@ use Rattle.greedy.specs.Joins.{Join, plainJoins, saved}
 use Rattle.greedy.specs.Legends.{legendOf, placeOf}
 use Rattle.greedy.specs.Claims.{keptLetters}
 use Rattle.layout.specs.Layout.{JOINS, PLACES}
+use Rattle.layout.specs.WorkArea.{workRow, WorkKept}
 use Rattle.composing.specs.declared.Composed.{Composed}
-
-abbrev pub workRow : ℕ → Refusal
-workRow w = row 7 (ltb w workNeed) 0
 
 unfoldable pub beforeC : List ℕ → List ℕ → ℕ → Refusal
 beforeC s es w = firstRow (trayRows s es ++ (workRow w ∷ []))
@@ -67,11 +63,6 @@ flatJoins js = each (λ j. j .left ∷ (j .right ∷ (j .overlap ∷ []))) js
 
 abbrev pub flatPlaces : List (List ℕ) → List ℕ
 flatPlaces ss = each (λ i. placeOf ss i ∷ (cond (isAside ss (numbers ss) i) 0 1 ∷ [])) (numbers ss)
-
--- the work area: untouched before place C, and of the same length after
-pub record WorkKept (f : Refusal) (w w′ : List ℕ) : Type 0 where
-  pub same : length w′ ≡ length w
-  pub untouched : 1 ≤ f .number → w′ ≡ w
 
 pub record Staged (s es w w′ l l′ : List ℕ) (j p : ℕ) (r : Composed) : Type 0 where
   pub answer-is : r ≡ composedOf s es (length w) (length l) j p

@@ -11,9 +11,7 @@ ghost use Rattle.trays.specs.Faults.{refusal};
 use layout::JOINS;
 use layout::KEPT;
 use layout::PLACES;
-
-// 7: so many cells of the work area are asked for.
-pub const WORK_NEED: usize = 32000;
+use layout::WORK_NEED;
 
 // The answer: number and detail of the refusal, or the counts of what was composed: slips, kept slips, kept letters, saved letters, legend letters, joins.
 pub struct Composed {

@@ -12,8 +12,9 @@ use Rattle.trays.specs.declared.Refusal.{Refusal}
 use Rattle.trays.specs.Faults.{written}
 use Rattle.greedy.specs.Joins.{plainJoins}
 use Rattle.greedy.specs.Legends.{legendOf}
+use Rattle.layout.specs.WorkArea.{WorkKept}
 use Rattle.composing.specs.declared.Composed.{Composed}
-use Rattle.composing.specs.Answers.{beforeC, composeFault, composedOf, flatJoins, flatPlaces, WorkKept}
+use Rattle.composing.specs.Answers.{beforeC, composeFault, composedOf, flatJoins, flatPlaces}
 
 pub record CanCopy (w : List ℕ) (base n : ℕ) (out : List ℕ) : Type 0 where
   pub there : n ≤ length w - base

@@ -1,4 +1,7 @@
 // Where the tables of the automaton and of composing stand in the lent work area: specs/Layout.antt says what each holds.
+// 7: so many cells are asked for.
+pub const WORK_NEED: usize = 32000;
+
 pub const MEMBERS: usize = 0;
 
 pub const ORDER: usize = 200;

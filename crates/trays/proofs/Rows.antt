@@ -1,6 +1,7 @@
 -- Rows of the table: the first one that holds, and what the tray check finds row by row.
 --   or-zero, or-some   == the two cases of orElse; both-silent, if neither speaks
 --   rows-append        == rows are taken top to bottom, one part after another
+--   written-all, written-none == a lent buffer is written over, or is as it was
 --   check-..           == the ways through check_tray
 use mathlib.Core.Path.{_≡_, refl, sym, _∙_, ap}
 use mathlib.Core.Bool.{not}
@@ -10,11 +11,11 @@ use borrow.Author.Tests.{lt-ltb, le-ltb, le-leb, eq-eqb, ne-eqb}
 use native.Mathlib.Omega.{arith}
 use lib.Dec.{ltb, eqb}
 use lib.ListN.{length}
-use Rattle.words.specs.Lists.{lastOr}
+use Rattle.words.specs.Lists.{lastOr, over}
 use Rattle.trays.specs.declared.Refusal.{Refusal}
 use Rattle.trays.specs.Limits.{maxSlips, maxLetters}
 use Rattle.trays.specs.Slips.{slipsOf}
-use Rattle.trays.specs.Faults.{refusal, accepted, orElse, firstRow, trayFault, notAbove, tooLong, badSlip, badPlace, slipAt, row}
+use Rattle.trays.specs.Faults.{refusal, accepted, orElse, firstRow, trayFault, notAbove, tooLong, badSlip, badPlace, slipAt, row, written}
 use Rattle.trays.specs.Checks.{endsFault, slipHolding}
 use Rattle.trays.proofs.BadSlip.{bad-none, bad-some, bad-positive}
 
@@ -50,6 +51,16 @@ or-assoc f g h = by-number f (λ e. rw (or-zero f g e, or-zero f (orElse g h) e)
 pub rows-append : (xs ys : List Refusal) → firstRow (xs ++ ys) ≡ orElse (firstRow xs) (firstRow ys)
 rows-append [] ys = refl
 rows-append (x ∷ xs) ys = rw (rows-append xs ys) (sym (or-assoc x (firstRow xs) (firstRow ys)))
+
+pub written-all : {A : Type 0} (f : Refusal) (xs old : List A) → f .number ≡ 0 → written f xs old ≡ over xs old
+written-all {A} f xs old z = ap {B = List A} (λ (m : ℕ). elim m [ zero ↦ over xs old | suc n ↦ old ]) z
+
+pub written-none : {A : Type 0} (f : Refusal) (xs old : List A) → 1 ≤ f .number → written f xs old ≡ old
+written-none {A} f xs old h = go (f .number) refl
+  where
+    go : (n : ℕ) → f .number ≡ n → written f xs old ≡ old
+    go zero e = absurd (omega arith)
+    go (suc n) e = ap {B = List A} (λ (m : ℕ). elim m [ zero ↦ over xs old | suc k ↦ old ]) e
 
 -- rows 2 and 3 are silent: the ends rise, and no slip is too long
 pub slip-zero : (n d : ℕ) → slipAt (suc n) d .number ≡ 0 → d ≡ 0

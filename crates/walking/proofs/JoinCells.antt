@@ -10,6 +10,7 @@ use Prim.Native.Nat.{ℕ, zero, suc, _+_, _-_, _*_, _≤_, _<_}
 use native.Mathlib.Numerals.{add-one}
 use native.Mathlib.Omega.{arith}
 use lib.ListN.{length, getD, set, length-set}
+use Rattle.words.proofs.Runs.{upFrom-more}
 use Rattle.words.specs.Lists.{upFrom}
 use Rattle.trays.specs.Limits.{maxSlips}
 use Rattle.tables.specs.Tables.{Cells, Only, Put}
@@ -22,7 +23,7 @@ use Rattle.layout.specs.Staging.{joinIn, joinsIn}
 use Rattle.walking.specs.Runs.{mark}
 use Rattle.walking.specs.Marks.{endsIn}
 use Rattle.walking.specs.Walking.{JoinFits, JoinPut, EndsFit, EndsJoined}
-use Rattle.walking.proofs.MarkLaws.{upFrom-more, ends-mark, ends-set}
+use Rattle.walking.proofs.MarkLaws.{ends-mark, ends-set}
 
 pub joins-length : (w : List ℕ) (k : ℕ) → length (joinsIn w k) ≡ k
 joins-length w k = count 0 k

@@ -19,6 +19,7 @@ use lib.Dec.{eqb}
 use lib.ListN.{length, getD, set, take, replicate, length-set, length-replicate, getD-replicate, length-append, List·getD-eq-default}
 use lib.Seq.{getD-set-same, getD-set-other, take-suc-set, take-all}
 use borrow.Author.Tests.{eqb-true, eqb-false, eq-eqb, ne-eqb}
+use Rattle.words.proofs.Runs.{length-upFrom, upFrom-more}
 use Rattle.words.specs.Lists.{those, upFrom}
 use Rattle.words.proofs.Tests.{tell}
 use Rattle.words.proofs.Members.{In, those-yes, those-no}
@@ -31,10 +32,6 @@ use Rattle.layout.specs.Staging.{Neighbours}
 use Rattle.walking.specs.Runs.{mark}
 use Rattle.walking.specs.Marks.{endsIn, zeros, Marks}
 use Rattle.walking.specs.Walking.{EndsFit, EndsJoined}
-
-pub upFrom-more : (i n : ℕ) → upFrom i (suc n) ≡ upFrom i n ++ ((i + n) ∷ [])
-upFrom-more i zero = let e : i + 0 ≡ i = omega arith in rw e
-upFrom-more i (suc n) = let e : suc i + n ≡ i + suc n = omega arith in ap (λ l. i ∷ l) (upFrom-more (suc i) n ∙ rw e)
 
 -- a mark set, and every slip marked as its own
 pub mark-set : (xs : List ℕ) (i x r : ℕ) → r ≡ x → set xs (i - 1) r ≡ set xs (i - 1) x
@@ -174,10 +171,6 @@ marks-none left right overs first last l r o f e =
       small = λ i. omega arith;
       spare = rw (l, zeros-all maxSlips);
     }
-  where
-    length-upFrom : (k n : ℕ) → length (upFrom k n) ≡ n
-    length-upFrom k zero = refl
-    length-upFrom k (suc n) = ap suc (length-upFrom (suc k) n)
 
 module _ {js : List Join} {left right overs first last : List ℕ} (M : Marks js left right overs first last) where
   abbrev N : Neighbours js left right overs

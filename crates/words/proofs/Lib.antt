@@ -12,3 +12,4 @@ pub mod CommonLoop
 pub mod OverlapLoop
 pub mod Picks
 pub mod Buffers
+pub mod Runs

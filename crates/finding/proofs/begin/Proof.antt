@@ -1,0 +1,54 @@
+use Rattle.finding.proofs.Checks.{silent-builds}
+use Rattle.finding.proofs.Begins.{begin-able, begin-loads, begin-few, count-fits, moves-fit, begin-refused, begin-started}
+use borrow.Author.Needs.{needs}
+use Rattle.finding.proofs.begin.Statement.{statement}
+use Rattle.finding.proofs.begin.Tie as tie
+
+prepare-requires : tie.Need-prepare-requires
+prepare-requires c κs = search silent-builds
+
+count-text-requires : tie.Need-count-text-requires
+count-text-requires c κs = search begin-able
+
+cast-refused : tie.Need-cast-refused
+cast-refused c = record { fits = search count-fits }
+
+refused-requires : tie.Need-refused-requires
+refused-requires c κs = search needs
+
+same-length : tie.Need-same-length
+same-length c = search needs
+
+returns : tie.Need-returns
+returns c = search begin-refused
+
+start-requires : tie.Need-start-requires
+start-requires c κs = (search begin-loads, search begin-few)
+
+cast-t20 : tie.Need-cast-t20
+cast-t20 c = record { fits = search moves-fit }
+
+cast-t21 : tie.Need-cast-t21
+cast-t21 c = record { fits = search count-fits }
+
+same-length-2 : tie.Need-same-length-2
+same-length-2 c = search needs
+
+returns-2 : tie.Need-returns-2
+returns-2 c = search begin-started
+
+pub begin-spec : {M : Type 1} → statement M
+begin-spec =
+    tie.close
+    (tie.spec
+    prepare-requires
+    count-text-requires
+    cast-refused
+    refused-requires
+    same-length
+    returns
+    start-requires
+    cast-t20
+    cast-t21
+    same-length-2
+    returns-2)

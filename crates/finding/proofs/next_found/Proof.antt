@@ -1,0 +1,51 @@
+use Rattle.finding.proofs.Telling.{ready-count, ready-loads, ready-ahead, ready-reports, passed-keeps, reached-end, reached-slip, ready-told}
+use borrow.Author.Needs.{needs}
+use Rattle.finding.proofs.next_found.Statement.{statement}
+use Rattle.finding.proofs.next_found.Tie as tie
+
+at-requires : tie.Need-at-requires
+at-requires c κs = search ready-count
+
+load-requires : tie.Need-load-requires
+load-requires c κs = search ready-loads
+
+advance-requires : tie.Need-advance-requires
+advance-requires c κs = search ready-ahead
+
+pass-requires : tie.Need-pass-requires
+pass-requires c κs = search ready-reports
+
+keep-requires : tie.Need-keep-requires
+keep-requires c κs = passed-keeps (c .before .pass .ensures)
+
+cast-t22 : tie.Need-cast-t22
+cast-t22 c = record { fits = reached-end (c .before .before .before .before .before .before .before .advance .ensures) }
+
+cast-t23 : tie.Need-cast-t23
+cast-t23 c = record { fits = reached-slip (c .before .before .before .before .before .before .before .before .advance .ensures) }
+
+same-length : tie.Need-same-length
+same-length c = search needs
+
+returns : tie.Need-returns
+returns c =
+    let k = c .before .before .before .before in
+    let p = k .before .before in
+    let a = p .before .before in
+    let l = a .before .before in
+    let n = l .before .before in
+    ready-told (n .before .before .before .before .before .before .pre) (n .at .ensures) (l .load .ensures) (a .advance .ensures) (p .pass .ensures) (k .keep .ensures)
+
+pub next-found-spec : {M : Type 1} → statement M
+next-found-spec =
+    tie.close
+    (tie.spec
+    at-requires
+    load-requires
+    advance-requires
+    pass-requires
+    keep-requires
+    cast-t22
+    cast-t23
+    same-length
+    returns)

@@ -1,0 +1,2 @@
+-- What is stored into a lent list.
+pub mod Firsts
