@@ -1,8 +1,8 @@
-// Composing for programs and other languages: everything over slices of numbers.
+// Composing and finding for programs and other languages: everything over slices of numbers.
 ghost use mathlib.Core.Path.{_≡_};
 ghost use Rattle.words.specs.Lists.{over};
 ghost use Rattle.tables.specs.Tables.{table};
-ghost use Rattle.exports.specs.Flat.{CanCopy, FlatSays, ExportSays};
+ghost use Rattle.exports.specs.Flat.{CanCopy, FlatSays, ComposeExported, FindExported};
 use composing::Composed;
 use layout::JOINS;
 use layout::PLACES;
@@ -55,7 +55,7 @@ pub extern "C" fn kotsghane_compose(
     places: &mut [u16],
     answer: &mut [u32; 8],
 )
-    ensures { λ _. ⌜ ExportSays (now (letters .entry)) (now (ends .entry)) (now (work .entry)) (now (work .exit)) (now (legend .entry)) (now (legend .exit)) (now (joins .entry)) (now (joins .exit)) (now (places .entry)) (now (places .exit)) (now (answer .exit)) ⌝ }
+    ensures { λ _. ⌜ ComposeExported (now (letters .entry)) (now (ends .entry)) (now (work .entry)) (now (work .exit)) (now (legend .entry)) (now (legend .exit)) (now (joins .entry)) (now (joins .exit)) (now (places .entry)) (now (places .exit)) (now (answer .exit)) ⌝ }
 {
     let r = compose_flat(letters, ends, work, legend, joins, places);
     *answer = [
@@ -68,4 +68,20 @@ pub extern "C" fn kotsghane_compose(
         r.legend,
         r.joins,
     ];
+}
+
+// Finding for C: an occurrence is two numbers (end place, slip); the answer's number, detail, moves and count of occurrences are four numbers.
+#[no_mangle]
+pub extern "C" fn kotsghane_find(
+    letters: &[u8],
+    ends: &[u16],
+    text: &[u8],
+    work: &mut [u16],
+    found: &mut [u32],
+    answer: &mut [u32; 4],
+)
+    ensures { λ _. ⌜ FindExported (now (letters .entry)) (now (ends .entry)) (now (text .entry)) (now (work .entry)) (now (work .exit)) (now (found .entry)) (now (found .exit)) (now (answer .exit)) ⌝ }
+{
+    let r = finding::find_flat(letters, ends, text, work, found);
+    *answer = [r.number as u32, r.detail, r.moves, r.count];
 }
