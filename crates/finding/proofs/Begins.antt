@@ -1,5 +1,5 @@
 -- Finding up to where occurrences are stored.
---   heads-headed, prepared == the automaton with its output links and tallies
+--   prepared == the automaton with its output links and tallies
 --   begin-..               == moves and occurrences counted, 14 decided, and a scan that has read nothing
 use mathlib.Core.Path.{_≡_, refl, sym, ap, subst, _∙_}
 use mathlib.Core.List.{List, []}
@@ -17,7 +17,7 @@ use Rattle.layout.specs.WorkArea.{WorkKept}
 use Rattle.layout.proofs.Frames.{members-kept}
 use Rattle.automaton.specs.Built.{Built}
 use Rattle.owners.specs.Owners.{HeadsFilled}
-use Rattle.outputs.specs.Outputs.{Headed, OutputsFilled}
+use Rattle.outputs.specs.Outputs.{OutputsFilled}
 use Rattle.scanning.specs.declared.Counts.{Counts}
 use Rattle.scanning.specs.declared.Scan.{Scan}
 use Rattle.scanning.specs.Scanning.{SCAN, Able, CountsAre, Loadable, Standing, fresh, scanIn, Started}
@@ -30,9 +30,6 @@ use Rattle.finding.proofs.Checks.{silent-short, fault-list, fault-none}
 use Rattle.finding.proofs.Answering.{answer-found, core-refused}
 
 module _ {s es w w₁ w₂ : List ℕ} {count : ℕ} (b : Built s es w count w₁) (h : HeadsFilled s es (length es) count w₁ w₂) where
-  pub heads-headed : Headed s es (length es) count w₂
-  heads-headed = record { automaton = h .headed .automaton; heads = h .headed .heads }
-
   pub prepared : {w₃ : List ℕ} → OutputsFilled s es (length es) count w₂ w₃ → Prepared s es w count w₃
   prepared o =
       let few : length es ≤ maxSlips = b .automaton .branched .numbered .few-members in

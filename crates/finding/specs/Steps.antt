@@ -9,6 +9,7 @@
 --   turnedBack f             == the answer to a call that f turns back: nothing is stored
 --   CoreSays                 == finding up to where occurrences are stored: the answer, how many there are to store, and a scan before the first
 --   FlatTo .. i o o′         == the first i occurrences are written over the numbers o
+--   CanFlat, Flattened       == what storing count of them as numbers asks, and leaves
 use mathlib.Core.Path.{_≡_}
 use mathlib.Core.List.{List}
 use Prim.Native.Nat.{ℕ, _+_, _*_, _≤_, _<_}
@@ -68,7 +69,6 @@ pub record CoreSays (s es t w w′ : List ℕ) (room : ℕ) (r : Begun) : Type 0
 abbrev pub FlatTo : List ℕ → List ℕ → List ℕ → ℕ → List ℕ → List ℕ → Type 0
 FlatTo s es t i o o′ = o′ ≡ over (flatFound (take i (occurrences (slipsOf s es) t))) o
 
--- what storing them as numbers asks, and leaves
 pub record CanFlat (s es t : List ℕ) (count : ℕ) (w o : List ℕ) : Type 0 where
   pub room : 2 * count ≤ length o
   pub enough : Enough s es t count w

@@ -130,7 +130,7 @@ pub fn find_core(letters: &[u8], ends: &[u16], text: &[u8], work: &mut [u16], ro
 }
 
 // Occurrence `i`; the scan that the work area keeps goes past it.
-pub fn next_found(letters: &[u8], ends: &[u16], text: &[u8], work: &mut [u16], i: usize) -> Found
+fn next_found(letters: &[u8], ends: &[u16], text: &[u8], work: &mut [u16], i: usize) -> Found
     requires { ⌜ T.Ready (now letters) (now ends) (now text) i (now work) ⌝ }
     ensures { λ r. ⌜ T.Next (now (letters .entry)) (now (ends .entry)) (now (text .entry)) i (now (work .entry)) (now (work .exit)) r ⌝ }
 {
@@ -147,7 +147,7 @@ pub fn next_found(letters: &[u8], ends: &[u16], text: &[u8], work: &mut [u16], i
 }
 
 // The first `count` occurrences, stored from the start of the list.
-pub fn scan_found(
+fn scan_found(
     letters: &[u8],
     ends: &[u16],
     text: &[u8],

@@ -1,2 +1,3 @@
 -- Laws of the work area.
 pub mod Frames
+pub mod Heads

@@ -18,13 +18,13 @@ use Rattle.matching.specs.Nodes.{nodes, string, IsNode, Num}
 use Rattle.matching.proofs.States.{fail}
 use Rattle.matching.proofs.NodeLaws.{node-fails}
 use Rattle.matching.proofs.Finds.{endingOf}
-use Rattle.layout.specs.Layout.{FAIL, HEAD, TWIN, OUT, TALLY}
+use Rattle.layout.specs.Layout.{FAIL, HEAD, TWIN, MARK, OUT, TALLY}
 use Rattle.layout.specs.Tables.{cell, members, patterns, owners}
-use Rattle.layout.specs.Numbered.{patternsIn, Numbered, Kept}
-use Rattle.layout.proofs.Frames.{only-kept, members-kept}
-use Rattle.outputs.specs.Outputs.{OutOf, TallyOf, Headed, Owning, Telling, Tallied, OutputsFilled}
+use Rattle.layout.specs.Numbered.{patternsIn, Numbered, Kept, Headed}
+use Rattle.layout.proofs.Frames.{only-kept, kept-lower, members-kept}
+use Rattle.outputs.specs.Outputs.{OutOf, TallyOf, Owning, Telling, Tallied, OutputsFilled}
 use Rattle.outputs.proofs.Outs.{by-list, ending-most, ending-link, ending-root, out-root, out-here, out-next}
-use Rattle.outputs.proofs.Heads.{linked-head, member-some, member-letters, members-length, node-most, headed-kept}
+use Rattle.layout.proofs.Heads.{linked-head, member-some, member-letters, members-length, node-most, headed-kept}
 
 -- one node
 module _ {s es : List ℕ} {n count : ℕ} {w : List ℕ} {v : ℕ} (T : Telling s es n count w v) where
@@ -131,7 +131,7 @@ module _ {s es : List ℕ} {n count : ℕ} {w : List ℕ} (H : Headed s es n cou
 
   pub filling-start : {w′ : List ℕ} → Put w TALLY 0 0 w′ → Filling s es n count w′ w′ 1
   filling-start {w′} p =
-      let G = headed-kept (root-kept p) H in
+      let G = headed-kept (kept-lower MARK (omega arith) (root-kept p)) H in
       let N = G .automaton .branched .numbered in
       record {
         headed = G;
@@ -151,7 +151,7 @@ module _ {s es : List ℕ} {n count : ℕ} {w : List ℕ} (H : Headed s es n cou
       let k = root-kept p in
       record {
         told = record {
-          headed = headed-kept (F .kept) (F .headed);
+          headed = headed-kept (kept-lower MARK (omega arith) (F .kept)) (F .headed);
           outs = rw e (λ u m. F .outs u m (omega (arith, node-most N u m)));
           tallies = rw e (λ u l. F .tallies u (omega (arith, N .all-nodes)));
         };
@@ -168,7 +168,7 @@ module _ {s es : List ℕ} {n count : ℕ} {w₀ w : List ℕ} {v : ℕ} (F : Fi
   pub filling-telling : v ≤ count → Telling s es n count w v
   filling-telling h =
       record {
-        owning = record { headed = headed-kept (F .kept) (F .headed); node = rw same-members (at-node h) };
+        owning = record { headed = headed-kept (kept-lower MARK (omega arith) (F .kept)) (F .headed); node = rw same-members (at-node h) };
         outs = rw same-members (F .outs);
         tallies = rw same-members (F .tallies);
       }

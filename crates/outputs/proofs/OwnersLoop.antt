@@ -15,7 +15,7 @@ use Rattle.layout.specs.Tables.{cell, members, owners, Linked}
 use Rattle.layout.specs.Numbered.{patternsIn}
 use Rattle.outputs.specs.Outputs.{Owning}
 use Rattle.outputs.proofs.Outs.{by-list, length-those}
-use Rattle.outputs.proofs.Heads.{member-few, member-some, members-length, node-most}
+use Rattle.layout.proofs.Heads.{member-few, member-some, members-length, node-most}
 
 pub record Counting (s es : List ℕ) (n count : ℕ) (w : List ℕ) (v i k : ℕ) : Type 0 where
   pub owning : Owning s es n count w v

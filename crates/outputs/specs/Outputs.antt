@@ -4,7 +4,6 @@
 --   OutOf ss M v r           == r is the output link of node v: the node of the longest proper ending of its string that is a member's whole
 --                               string, which is the next such node on its failure path; 0 for none
 --   TallyOf ss M v r         == r is the tally of node v: how many members end its string
---   Headed .. w              == the automaton stands, and the members of each node's letters
 --   Owning .. v              == and v is the number of a node with a letter
 --   Telling .. w v           == the output links and tallies of the nodes below v are known too
 --   Tallied ss M v r         == r is the tally of node v, and fits a cell
@@ -18,9 +17,9 @@ use Rattle.words.specs.Lists.{tailOf}
 use Rattle.trays.specs.Slips.{slipsOf}
 use Rattle.matching.specs.Nodes.{nodes, string, IsNode, Num}
 use Rattle.matching.proofs.Finds.{endingOf}
-use Rattle.layout.specs.Layout.{HEAD, TWIN, OUT, TALLY}
-use Rattle.layout.specs.Tables.{cell, members, patterns, owners, HeadIs}
-use Rattle.layout.specs.Numbered.{patternsIn, Automaton, Kept}
+use Rattle.layout.specs.Layout.{OUT, TALLY}
+use Rattle.layout.specs.Tables.{cell, members, patterns, owners}
+use Rattle.layout.specs.Numbered.{patternsIn, Headed, Kept}
 
 abbrev pub longestOwned : List (List ℕ) → List ℕ → List ℕ → List ℕ
 longestOwned ss M [] = []
@@ -38,10 +37,6 @@ OutIs ss M out = (v : ℕ) → Num (patterns ss M) v → OutOf ss M v (out v)
 
 abbrev pub TallyIs : List (List ℕ) → List ℕ → (ℕ → ℕ) → Type 0
 TallyIs ss M tally = (v : ℕ) → v < length (nodes (patterns ss M)) → TallyOf ss M v (tally v)
-
-pub record Headed (s es : List ℕ) (n count : ℕ) (w : List ℕ) : Type 0 where
-  pub automaton : Automaton s es n count w
-  pub heads : HeadIs (slipsOf s es) (members w n) (cell w HEAD) (cell w TWIN)
 
 pub record Owning (s es : List ℕ) (n count : ℕ) (w : List ℕ) (v : ℕ) : Type 0 where
   pub headed : Headed s es n count w

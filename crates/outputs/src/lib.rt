@@ -5,7 +5,7 @@ ghost use lib.ListN.{length};
 ghost use Rattle.trays.specs.Slips.{slipsOf};
 ghost use Rattle.matching.specs.Nodes.{string};
 ghost use Rattle.layout.specs.Tables.{members, owners};
-ghost use Rattle.layout.specs.Numbered.{patternsIn};
+ghost use Rattle.layout.specs.Numbered.{patternsIn, Headed};
 ghost use Rattle.outputs.specs.Outputs as O;
 
 // How many members have all letters of node `v`.
@@ -52,7 +52,7 @@ fn tally(letters: &[u8], ends: &[u16], work: &[u16], n: usize, count: usize, v: 
 
 // Fills OUT and TALLY, node by node: a node's failure link has a lower number. Nothing ends the empty string.
 pub fn fill_outputs(letters: &[u8], ends: &[u16], work: &mut [u16], n: usize, count: usize)
-    requires { ⌜ O.Headed (now letters) (now ends) n count (now work) ⌝ }
+    requires { ⌜ Headed (now letters) (now ends) n count (now work) ⌝ }
     ensures { λ _. ⌜ O.OutputsFilled (now (letters .entry)) (now (ends .entry)) n count (now (work .entry)) (now (work .exit)) ⌝ }
 {
     tables::put(work, layout::TALLY, 0, 0);

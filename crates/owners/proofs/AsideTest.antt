@@ -28,7 +28,7 @@ use Rattle.layout.specs.Layout.{KID, MARK, HEAD, FAIL}
 use Rattle.layout.specs.Tables.{cell, members, owners}
 use Rattle.layout.specs.Numbered.{patternsIn, Numbered}
 use Rattle.owners.specs.Owners.{Among, Judged}
-use Rattle.owners.proofs.Threading.{linked-head}
+use Rattle.layout.proofs.Heads.{linked-head}
 use Rattle.owners.proofs.MemberNodes.{Member, in-member, node-num, node-most}
 
 -- the first of an ascending list

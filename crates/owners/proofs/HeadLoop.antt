@@ -1,7 +1,6 @@
 -- HEAD and TWIN: the members of each node's letters, filled from the last member on.
 --   Heading .. w j     == the members from the j-th on are in the lists
 --   heading-..         == none of them, one more, all
---   headed-kept        == what is written behind TWIN leaves the lists as they are
 -- A member has the letters of one node. It goes before those of the list that came already, which are higher.
 use mathlib.Core.Path.{_≡_, refl, sym, _∙_}
 use mathlib.Core.Bool.{false}
@@ -21,10 +20,10 @@ use Rattle.matching.specs.Nodes.{string, IsNode, Num}
 use Rattle.matching.proofs.NodeLaws.{node-one}
 use Rattle.layout.specs.Layout.{MEMBERS, HEAD, TWIN, MARK}
 use Rattle.layout.specs.Tables.{cell, members, owners}
-use Rattle.layout.specs.Numbered.{patternsIn, Automaton, Kept}
+use Rattle.layout.specs.Numbered.{patternsIn, Automaton, Kept, Headed}
 use Rattle.layout.proofs.Frames.{kept-lower, members-kept, automaton-kept}
-use Rattle.owners.specs.Owners.{Among, CanPush, Pushed, Lists, Headed, HeadsFilled}
-use Rattle.owners.proofs.Threading.{linked-same, drop-here, drop-later, push-lists}
+use Rattle.owners.specs.Owners.{Among, CanPush, Pushed, Lists, HeadsFilled}
+use Rattle.owners.proofs.Threading.{drop-here, drop-later, push-lists}
 use Rattle.owners.proofs.Keeping.{kept-trans, kept-filled, kept-pushed}
 use Rattle.owners.proofs.MemberNodes.{Member, in-member, got-member, members-length, node-num, node-most, num-most}
 
@@ -115,18 +114,3 @@ module _ {s es : List ℕ} {n count : ℕ} {w : List ℕ} where
                 (λ u q ne. those-no (λ i. same (slip ss i) (string ps u)) i xs (other u q ne))
                 (H .lists));
           }
-
-pub headed-kept : {s es : List ℕ} {n count : ℕ} {w w′ : List ℕ} → Kept MARK w w′ → Headed s es n count w → Headed s es n count w′
-headed-kept {s} {es} {n} {count} {w} {w′} k H =
-    let N = H .automaton .branched .numbered in
-    let ps = patternsIn s es n w in
-    let f : members w′ n ≡ members w n = members-kept n (omega (arith, N .few-members)) k in
-    record {
-      automaton = automaton-kept (kept-lower HEAD (omega arith) k) (H .automaton);
-      heads =
-          rw f (λ v m.
-          rw (k .cells (HEAD + v) (omega (arith, num-most N v m, N .few-nodes)))
-          (linked-same (cell w TWIN) (cell w′ TWIN) (cell w HEAD v) (owners (slipsOf s es) (members w n) (string ps v))
-          (λ r q. k .cells (TWIN + r) (omega (arith, in-member N r (in-those (λ i. same (slip (slipsOf s es) i) (string ps v)) (members w n) q .0) .few)))
-          (H .heads v m)));
-    }

@@ -24,7 +24,7 @@ use Rattle.layout.proofs.Frames.{kept-lower, members-kept, patterns-kept}
 use Rattle.owners.specs.Owners.{Marked, Judged, KeptFilled}
 use Rattle.owners.proofs.Keeping.{kept-refl, kept-trans, kept-put}
 use Rattle.owners.proofs.MemberNodes.{got-member, members-length, node-most, num-most}
-use Rattle.owners.proofs.HeadLoop.{headed-kept}
+use Rattle.layout.proofs.Heads.{headed-kept}
 
 pub marked-kept : {s es : List ℕ} {n count : ℕ} {w w′ : List ℕ} → Kept KEPT w w′ → Marked s es n count w → Marked s es n count w′
 marked-kept {s} {es} {n} {count} {w} {w′} k X =

@@ -12,12 +12,12 @@ use Rattle.tables.proofs.Tables.{put-here, put-other, filled-at, replicate-at}
 use Rattle.matching.specs.Nodes.{nodes, Num}
 use Rattle.layout.specs.Layout.{FAIL, MARK}
 use Rattle.layout.specs.Tables.{cell}
-use Rattle.layout.specs.Numbered.{patternsIn, Numbered, Kept}
+use Rattle.layout.specs.Numbered.{patternsIn, Numbered, Kept, Headed}
 use Rattle.layout.proofs.Frames.{patterns-kept}
-use Rattle.owners.specs.Owners.{Headed, MarkIs, MarksFilled}
+use Rattle.owners.specs.Owners.{MarkIs, MarksFilled}
 use Rattle.owners.proofs.Keeping.{kept-trans, kept-filled, kept-put}
 use Rattle.owners.proofs.MemberNodes.{node-most, num-most}
-use Rattle.owners.proofs.HeadLoop.{headed-kept}
+use Rattle.layout.proofs.Heads.{headed-kept}
 
 pub record Marking (s es : List ℕ) (n count : ℕ) (w : List ℕ) (v : ℕ) : Type 0 where
   pub headed : Headed s es n count w

@@ -16,7 +16,7 @@ use Rattle.layout.specs.Numbered.{patternsIn, Kept}
 use Rattle.layout.specs.Staging.{keptIn}
 use Rattle.layout.proofs.Frames.{kept-lower, members-kept}
 use Rattle.owners.specs.Owners.{Staged, HeadsFilled, MarksFilled, KeptFilled, StartsFilled, EndsFilled, Listed}
-use Rattle.owners.proofs.Threading.{linked-same}
+use Rattle.layout.proofs.Heads.{linked-same}
 use Rattle.owners.proofs.Keeping.{kept-trans}
 use Rattle.owners.proofs.MemberNodes.{num-most}
 use Rattle.owners.proofs.KeptMembers.{kept-member, kept-same}

@@ -21,16 +21,8 @@ use Rattle.words.proofs.Members.{In, by-in, Asc, those-yes, those-no}
 use Rattle.tables.specs.Tables.{Got, Put}
 use Rattle.tables.proofs.Tables.{put-only, put-here}
 use Rattle.layout.specs.Tables.{cell, Linked}
+use Rattle.layout.proofs.Heads.{linked-same}
 use Rattle.owners.specs.Owners.{CanPush, Pushed, Lists}
-
-pub linked-head : (next : ℕ → ℕ) (i : ℕ) (xs : List ℕ) → Linked next i xs → i ≡ headOr 0 xs
-linked-head next i [] l = l
-linked-head next i (x ∷ xs) l = l .0
-
-pub linked-same : (next next′ : ℕ → ℕ) (i : ℕ) (xs : List ℕ) → ((x : ℕ) → In x xs → next′ x ≡ next x) → Linked next i xs → Linked next′ i xs
-linked-same next next′ i [] e l = l
-linked-same next next′ i (x ∷ xs) e l =
-    (l .0, rw (e x (List·Memᴰ·head refl)) (linked-same next next′ (next x) xs (λ y m. e y (List·Memᴰ·tail m)) (l .1)))
 
 -- a list from a place on: its first member, and those behind it
 pub asc-drop : {A : Type 0} (R : A → A → Type 0) (j : ℕ) (xs : List A) → Asc R xs → Asc R (drop j xs)

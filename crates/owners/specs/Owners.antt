@@ -4,7 +4,6 @@
 --   Pushed w h u x p i w′      == w′ is w with i put before the list of node u, whose heads stand at h, and the rest of it at place p of x
 --   Lists P key head next list == for every v of P: from head v along next run the numbers of list v, where next of r stands at key v r
 --   startKey, endKey           == the place of a node's last letter in a slip that begins with it, of its first in a slip that ends with it
---   Headed                     == HEAD and TWIN are filled
 --   MarkIs ps fail mark        == mark is 1 exactly at the nodes that are the failure link of a node
 --   Marked                     == HEAD, TWIN and MARK are filled
 --   Judged .. i                == these are filled, and i is one of the members
@@ -20,9 +19,9 @@ use Rattle.trays.specs.Limits.{maxSlips}
 use Rattle.trays.specs.Slips.{slipsOf, startOf, endOf}
 use Rattle.trays.specs.Aside.{kept}
 use Rattle.matching.specs.Nodes.{nodes, string, Num}
-use Rattle.layout.specs.Layout.{AT, FAIL, HEAD, TWIN, MARK, KEPT, STARTS, STARTS-NEXT, ENDS, ENDS-NEXT}
-use Rattle.layout.specs.Tables.{cell, members, Linked, HeadIs, starters, enders, StartsIs, EndsIs}
-use Rattle.layout.specs.Numbered.{patternsIn, Automaton, Kept}
+use Rattle.layout.specs.Layout.{AT, FAIL, HEAD, MARK, KEPT, STARTS, STARTS-NEXT, ENDS, ENDS-NEXT}
+use Rattle.layout.specs.Tables.{cell, members, Linked, starters, enders, StartsIs, EndsIs}
+use Rattle.layout.specs.Numbered.{patternsIn, Automaton, Kept, Headed}
 use Rattle.layout.specs.Staging.{keptIn}
 
 -- a member of the automaton
@@ -53,10 +52,6 @@ abbrev pub endKey : List (List ℕ) → List ℕ → ℕ → ℕ → ℕ
 endKey ps es v l = endOf es l - length (string ps v)
 
 -- HEAD, TWIN
-pub record Headed (s es : List ℕ) (n count : ℕ) (w : List ℕ) : Type 0 where
-  pub automaton : Automaton s es n count w
-  pub heads : HeadIs (slipsOf s es) (members w n) (cell w HEAD) (cell w TWIN)
-
 pub record HeadsFilled (s es : List ℕ) (n count : ℕ) (w w′ : List ℕ) : Type 0 where
   pub headed : Headed s es n count w′
   pub below : Kept HEAD w w′

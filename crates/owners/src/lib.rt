@@ -6,7 +6,7 @@ ghost use Rattle.trays.specs.Slips.{slip, slipsOf};
 ghost use Rattle.trays.specs.Aside.{isAside};
 ghost use Rattle.matching.specs.Nodes.{IsNode};
 ghost use Rattle.layout.specs.Tables.{members};
-ghost use Rattle.layout.specs.Numbered.{patternsIn, Automaton};
+ghost use Rattle.layout.specs.Numbered.{patternsIn, Automaton, Headed};
 ghost use Rattle.owners.specs.Owners as O;
 
 // Puts `i` before the list of node `u`: the heads of the lists stand at `heads`, and what is behind `i` goes to place `p` of `nexts`.
@@ -46,7 +46,7 @@ pub fn fill_heads(letters: &[u8], ends: &[u16], work: &mut [u16], n: usize, coun
 
 // Fills MARK.
 pub fn fill_marks(letters: &[u8], ends: &[u16], work: &mut [u16], n: usize, count: usize)
-    requires { ⌜ O.Headed (now letters) (now ends) n count (now work) ⌝ }
+    requires { ⌜ Headed (now letters) (now ends) n count (now work) ⌝ }
     ensures { λ _. ⌜ O.MarksFilled (now (letters .entry)) (now (ends .entry)) n count (now (work .entry)) (now (work .exit)) ⌝ }
 {
     tables::clear(work, layout::MARK, count + 1);

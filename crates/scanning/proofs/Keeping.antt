@@ -17,13 +17,13 @@ use Rattle.words.proofs.Members.{In}
 use Rattle.trays.specs.Slips.{slipsOf}
 use Rattle.tables.specs.Tables.{Got, Put}
 use Rattle.tables.proofs.Tables.{put-only, put-here}
-use Rattle.layout.specs.Layout.{TWIN, OUT, TALLY}
+use Rattle.layout.specs.Layout.{TWIN, MARK, OUT, TALLY}
 use Rattle.layout.specs.Tables.{cell, members}
 use Rattle.layout.specs.Numbered.{patternsIn, Kept}
 use Rattle.layout.proofs.Frames.{kept-lower, members-kept}
 use Rattle.links.proofs.Steps.{node-within, state-none}
 use Rattle.outputs.specs.Outputs.{Told}
-use Rattle.outputs.proofs.Heads.{linked-same, member-few, node-most, headed-kept}
+use Rattle.layout.proofs.Heads.{linked-same, member-few, node-most, headed-kept}
 use Rattle.scanning.specs.declared.Scan.{Scan}
 use Rattle.scanning.specs.Scanning.{SCAN, Able, Pending, Standing, scanIn, CanKeep, Keeps, fresh, Started}
 use Rattle.scanning.proofs.Occurs.{occurs-all}
@@ -99,7 +99,7 @@ told-kept {n = n} {w = w} {w′} k T =
     let N = T .headed .automaton .branched .numbered in
     let f : members w′ n ≡ members w n = members-kept n (omega (arith, N .few-members)) k in
     record {
-      headed = headed-kept (kept-lower OUT (omega arith) k) (T .headed);
+      headed = headed-kept (kept-lower MARK (omega arith) k) (T .headed);
       outs = rw f (λ v m. rw (k .cells (OUT + v) (omega (arith, node-most N v m, N .few-nodes))) (T .outs v m));
       tallies = rw f (λ v l. k .cells (TALLY + v) (omega (arith, N .all-nodes, N .few-nodes)) ∙ T .tallies v l);
     }

@@ -1,4 +1,4 @@
-use Rattle.finding.proofs.Begins.{heads-headed, prepared}
+use Rattle.finding.proofs.Begins.{prepared}
 use borrow.Author.Needs.{needs}
 use Rattle.finding.proofs.prepare.Statement.{statement}
 use Rattle.finding.proofs.prepare.Tie as tie
@@ -10,7 +10,7 @@ fill-heads-requires : tie.Need-fill-heads-requires
 fill-heads-requires c κs = search needs
 
 fill-outputs-requires : tie.Need-fill-outputs-requires
-fill-outputs-requires c κs = search heads-headed
+fill-outputs-requires c κs = search needs
 
 same-length : tie.Need-same-length
 same-length c = search needs

@@ -2,7 +2,7 @@
 --   linked-..     == a list threaded through a table: its first number, another table with the same cells
 --   member-..     == a member has a letter, and a number up to the most slips
 --   node-most     == the number of a node is at most count
---   headed-kept   == what is written from OUT on leaves HEAD and TWIN as they are
+--   headed-kept   == what is written behind TWIN leaves HEAD and TWIN as they are
 use mathlib.Core.Path.{_≡_, refl, sym, ap, _∙_}
 use mathlib.Core.List.{List, [], _∷_, List·Memᴰ·head, List·Memᴰ·tail}
 use Prim.Native.Nat.{ℕ, _+_, _≤_, _<_}
@@ -16,11 +16,10 @@ use Rattle.trays.specs.Slips.{slipsOf, slip}
 use Rattle.trays.proofs.Accepted.{accepted-tells, span-rises, span-fits, span-slip}
 use Rattle.tables.proofs.Tables.{table-length}
 use Rattle.matching.specs.Nodes.{string, Num}
-use Rattle.layout.specs.Layout.{MEMBERS, HEAD, TWIN, OUT}
+use Rattle.layout.specs.Layout.{MEMBERS, HEAD, TWIN, MARK}
 use Rattle.layout.specs.Tables.{cell, members, owners, Linked}
-use Rattle.layout.specs.Numbered.{patternsIn, Numbered, Kept}
+use Rattle.layout.specs.Numbered.{patternsIn, Numbered, Headed, Kept}
 use Rattle.layout.proofs.Frames.{kept-lower, members-kept, automaton-kept}
-use Rattle.outputs.specs.Outputs.{Headed}
 
 pub linked-head : (next : ℕ → ℕ) (i : ℕ) (xs : List ℕ) → Linked next i xs → i ≡ headOr 0 xs
 linked-head next i [] l = l
@@ -50,7 +49,7 @@ module _ {s es : List ℕ} {n count : ℕ} {w : List ℕ} (N : Numbered s es n c
   pub node-most : (v : ℕ) → Num (patternsIn s es n w) v → v ≤ count
   node-most v m = omega (arith, m .inside, N .all-nodes)
 
-pub headed-kept : {s es : List ℕ} {n count : ℕ} {w w′ : List ℕ} → Kept OUT w w′ → Headed s es n count w → Headed s es n count w′
+pub headed-kept : {s es : List ℕ} {n count : ℕ} {w w′ : List ℕ} → Kept MARK w w′ → Headed s es n count w → Headed s es n count w′
 headed-kept {s} {es} {n} {count} {w} {w′} k H =
     let N = H .automaton .branched .numbered in
     let ss = slipsOf s es in
