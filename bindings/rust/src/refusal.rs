@@ -1,0 +1,54 @@
+//! What turns a call back.
+use std::error::Error;
+use std::fmt;
+
+/// A refusal: a number of the table of refusals, and one detail (0 where none is named).
+#[derive(Clone, Copy, Debug, PartialEq, Eq)]
+pub struct Refusal {
+    /// The number.
+    pub number: u32,
+    /// The detail: a slip, a place, a line or a count, by the number.
+    pub detail: u32,
+}
+
+impl fmt::Display for Refusal {
+    fn fmt(&self, f: &mut fmt::Formatter<'_>) -> fmt::Result {
+        let d = self.detail;
+        match self.number {
+            1 => write!(f, "the tray has over 200 slips"),
+            2 => write!(f, "the end of slip {d} is not above the one before"),
+            3 => write!(f, "slip {d} has over 40 letters"),
+            4 => write!(f, "the tray has over 2,000 letters"),
+            5 => write!(f, "the last end is not the count of letters"),
+            6 => write!(
+                f,
+                "slip {d} has a byte that is neither a capital A to Z nor the full stop"
+            ),
+            7 => write!(f, "the work area has under 32,000 cells"),
+            8 => write!(f, "the legend has {d} letters, more than its buffer takes"),
+            9 => write!(
+                f,
+                "there are {d} joins, and the list of joins takes fewer, or that of places under one a slip"
+            ),
+            10 => write!(f, "slip number {d} is 0 or above the count of slips"),
+            11 => write!(f, "the pair names slip {d} twice"),
+            12 => write!(f, "the text has over 2,000 bytes"),
+            13 => write!(
+                f,
+                "the byte at place {d} of the text is neither a capital A to Z nor the full stop"
+            ),
+            14 => write!(f, "there are {d} occurrences, more than their list takes"),
+            15 => write!(f, "the buffers take under 16,384 letters or under 1,700 ends"),
+            16 => write!(f, "the tray file has over 16,384 bytes"),
+            17 => write!(f, "line {d} of the tray file is not of the layout"),
+            18 => write!(f, "line {d} of the tray file has another slip number"),
+            19 => write!(
+                f,
+                "line {d} of the tray file states another length than its letters have"
+            ),
+            n => write!(f, "refused by {n}, detail {d}"),
+        }
+    }
+}
+
+impl Error for Refusal {}

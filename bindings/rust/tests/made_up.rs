@@ -1,0 +1,246 @@
+//! Thousands of made-up trays, long and short, valid and damaged, in buffers of many lengths, against the plain program.
+mod buffers;
+mod made;
+mod rival;
+
+use buffers::{trial, Buffers, Rooms, AMPLE};
+use kotsghane::{compose_tray, Refusal, Tray};
+use made::{lent, slips, within_limit, Chance, Slips, SHAPES};
+use rival::Rival;
+
+/// What is done to a tray before it is lent.
+#[derive(Clone, Copy, Debug)]
+enum Damage {
+    FallingEnd,
+    EqualEnd,
+    LongSlip,
+    BadByte,
+    LastEndLow,
+    LastEndHigh,
+    LettersMissing,
+    ManySlips,
+    ManyLetters,
+    AnyEnds,
+}
+
+const DAMAGES: [Damage; 10] = [
+    Damage::FallingEnd,
+    Damage::EqualEnd,
+    Damage::LongSlip,
+    Damage::BadByte,
+    Damage::LastEndLow,
+    Damage::LastEndHigh,
+    Damage::LettersMissing,
+    Damage::ManySlips,
+    Damage::ManyLetters,
+    Damage::AnyEnds,
+];
+
+/// A valid tray of up to `most` slips.
+fn valid(chance: &mut Chance, most: usize) -> Slips {
+    let shape = SHAPES[chance.below(SHAPES.len())];
+    let count = chance.between(1, most);
+    let high = chance.between(1, 40);
+    let low = chance.between(1, high);
+    let many = chance.between(1, 27);
+    let few = [1, 2, 3, many][chance.below(4)];
+    let signs = chance.signs(few);
+    within_limit(slips(shape, chance, count, low, high, &signs))
+}
+
+/// A tray with one of the faults; where it does not apply, the tray as it is.
+fn damaged(chance: &mut Chance, damage: Damage) -> (Vec<u8>, Vec<u16>) {
+    let mut all = valid(chance, 60);
+    let at = chance.below(all.len());
+    match damage {
+        Damage::LongSlip => all[at] = chance.word(b"AB", 41),
+        Damage::ManySlips => all.resize(201, b"A".to_vec()),
+        Damage::ManyLetters => {
+            let have: usize = all.iter().map(Vec::len).sum();
+            let more = chance.word(b"ABC", 2_001 - have);
+            all.extend(more.chunks(40).map(<[u8]>::to_vec));
+        }
+        _ => {}
+    }
+    let (mut letters, mut ends) = lent(&all);
+    let place = chance.below(letters.len());
+    match damage {
+        Damage::FallingEnd if at > 0 => ends[at] = chance.below(usize::from(ends[at - 1])) as u16,
+        Damage::EqualEnd if at > 0 => ends[at] = ends[at - 1],
+        Damage::FallingEnd | Damage::EqualEnd => ends[0] = 0,
+        Damage::BadByte => letters[place] = b"a@[/-\0\xff\n0z"[chance.below(10)],
+        Damage::LastEndLow => letters.push(b'A'),
+        Damage::LastEndHigh => *ends.last_mut().unwrap() += 1,
+        Damage::LettersMissing => letters.truncate(place),
+        Damage::AnyEnds => ends.iter_mut().for_each(|end| *end = chance.below(65_536) as u16),
+        _ => {}
+    }
+    (letters, ends)
+}
+
+/// How often each refusal was met, by number.
+#[derive(Default)]
+struct Tally([usize; 10]);
+
+impl Tally {
+    fn count(&mut self, number: u32) {
+        self.0[number as usize] += 1;
+    }
+
+    fn assert_all_from(&self, numbers: &[usize], least: usize) {
+        for &n in numbers {
+            assert!(self.0[n] >= least, "refusal {n} was met {} times", self.0[n]);
+        }
+    }
+}
+
+/// Room for `need`, one less, or some more.
+fn near(chance: &mut Chance, need: usize) -> usize {
+    match chance.below(4) {
+        0 => need.saturating_sub(1),
+        1 => need,
+        2 => need + 1,
+        _ => need + chance.below(50),
+    }
+}
+
+/// One tray, first in ample buffers, then in buffers of about the length that the outcome needs.
+fn try_tray(rival: &mut Rival, chance: &mut Chance, letters: &[u8], ends: &[u16], tally: &mut Tally) {
+    let ample = Buffers::of(AMPLE, chance);
+    let (answer, _) = trial(rival, letters, ends, &ample);
+    tally.count(answer.number);
+    let rooms = Rooms {
+        work: [32_000, 32_000, 32_007, 31_999][chance.below(4)],
+        legend: near(chance, answer.legend as usize),
+        joins: near(chance, answer.joins as usize),
+        places: near(chance, ends.len()),
+    };
+    let before = Buffers::of(rooms, chance);
+    let (answer, _) = trial(rival, letters, ends, &before);
+    tally.count(answer.number);
+}
+
+#[test]
+fn short_trays_agree() {
+    let (mut rival, mut chance, mut tally) = (Rival::new(), Chance::new(1), Tally::default());
+    for _ in 0..6_000 {
+        let (letters, ends) = lent(&valid(&mut chance, 8));
+        try_tray(&mut rival, &mut chance, &letters, &ends, &mut tally);
+    }
+    tally.assert_all_from(&[0, 7, 8, 9], 500);
+}
+
+#[test]
+fn long_trays_agree() {
+    let (mut rival, mut chance, mut tally) = (Rival::new(), Chance::new(2), Tally::default());
+    for _ in 0..1_000 {
+        let (letters, ends) = lent(&valid(&mut chance, 200));
+        try_tray(&mut rival, &mut chance, &letters, &ends, &mut tally);
+    }
+    tally.assert_all_from(&[0, 7, 8, 9], 100);
+}
+
+#[test]
+fn full_trays_agree() {
+    let (mut rival, mut chance, mut tally) = (Rival::new(), Chance::new(3), Tally::default());
+    for n in 0..150 {
+        let signs = chance.signs([2, 3, 5, 26, 27][n / 5 % 5]);
+        let all = slips(SHAPES[n % 5], &mut chance, 200, 10, 10, &signs);
+        let (letters, ends) = lent(&all);
+        assert_eq!((letters.len(), ends.len()), (2_000, 200));
+        try_tray(&mut rival, &mut chance, &letters, &ends, &mut tally);
+    }
+    tally.assert_all_from(&[0], 150);
+}
+
+#[test]
+fn damaged_trays_agree() {
+    let (mut rival, mut chance, mut tally) = (Rival::new(), Chance::new(4), Tally::default());
+    for n in 0..5_000 {
+        let (letters, ends) = damaged(&mut chance, DAMAGES[n % DAMAGES.len()]);
+        try_tray(&mut rival, &mut chance, &letters, &ends, &mut tally);
+    }
+    tally.assert_all_from(&[1, 2, 3, 4, 5, 6], 400);
+}
+
+/// Each buffer just long enough, then one short of it, all else ample.
+#[test]
+fn each_buffer_one_short() {
+    let (mut rival, mut chance, mut met) = (Rival::new(), Chance::new(5), 0);
+    for _ in 0..400 {
+        let (letters, ends) = lent(&valid(&mut chance, 30));
+        let before = Buffers::of(AMPLE, &mut chance);
+        let (answer, _) = trial(&mut rival, &letters, &ends, &before);
+        let (legend, joins) = (answer.legend as usize, answer.joins as usize);
+        let exact = Rooms {
+            work: 32_000,
+            legend,
+            joins,
+            places: ends.len(),
+        };
+        let short = |work, legend, joins, places| Rooms {
+            work,
+            legend,
+            joins,
+            places,
+        };
+        let mut cases = vec![
+            (exact, 0, 0),
+            (short(31_999, legend, joins, ends.len()), 7, 0),
+            (short(32_000, legend - 1, joins, ends.len()), 8, answer.legend),
+            (short(32_000, legend, joins, ends.len() - 1), 9, answer.joins),
+        ];
+        if joins > 0 {
+            cases.push((short(32_000, legend, joins - 1, ends.len()), 9, answer.joins));
+            met += 1;
+        }
+        for (rooms, number, detail) in cases {
+            let before = Buffers::of(rooms, &mut chance);
+            let (answer, _) = trial(&mut rival, &letters, &ends, &before);
+            assert_eq!((answer.number, answer.detail), (number, detail), "{rooms:?}");
+        }
+    }
+    assert!(met > 200, "trays with a join: {met}");
+}
+
+/// The comfortable form has the same outcome as the lent buffers.
+#[test]
+fn owned_trays_agree() {
+    let (mut rival, mut chance) = (Rival::new(), Chance::new(6));
+    for n in 0..1_000 {
+        let (letters, ends) = match n % 2 {
+            0 => lent(&valid(&mut chance, 40)),
+            _ => damaged(&mut chance, DAMAGES[n / 2 % DAMAGES.len()]),
+        };
+        let before = Buffers::of(AMPLE, &mut chance);
+        let (answer, after) = trial(&mut rival, &letters, &ends, &before);
+        match compose_tray(&Tray::from_parts(letters, ends.clone())) {
+            Err(refusal) => assert_eq!(Some(refusal), answer.refusal()),
+            Ok(legend) => {
+                assert_eq!(answer.number, 0);
+                assert_eq!(legend.text.as_bytes(), &after.legend[..answer.legend as usize]);
+                assert_eq!(legend.joins, after.joins[..answer.joins as usize]);
+                assert_eq!(legend.places, after.places[..ends.len()]);
+                assert_eq!(legend.kept, answer.kept as usize);
+                assert_eq!(legend.kept_letters, answer.letters as usize);
+                assert_eq!(legend.saved, answer.saved as usize);
+            }
+        }
+    }
+}
+
+/// Slips of which the ends would not fit 16 bits are refused by the row that they meet.
+#[test]
+fn slips_beyond_sixteen_bits() {
+    let long = "A".repeat(70_000);
+    let cases: [(&str, Vec<&str>, u32, u32); 4] = [
+        ("one long slip", vec!["AB", &long], 3, 2),
+        ("slips behind it", vec!["AB", &long, "CD", &long], 3, 2),
+        ("an empty slip behind it", vec!["AB", &long, ""], 2, 3),
+        ("too many long slips", vec![&long; 2_000], 1, 0),
+    ];
+    for (name, slips, number, detail) in cases {
+        let refusal = compose_tray(&Tray::of(&slips));
+        assert_eq!(refusal, Err(Refusal { number, detail }), "{name}");
+    }
+}

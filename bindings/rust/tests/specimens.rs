@@ -1,0 +1,310 @@
+//! The specimen trays of document 01, as tables of named cases.
+mod buffers;
+mod made;
+mod rival;
+
+use buffers::{trial, Buffers, Rooms, AMPLE};
+use kotsghane::{compose_tray, Join, Place, Refusal, Tray};
+use made::{lent, Chance};
+use rival::Rival;
+
+/// A tray and its outcome: joins are (left, right, overlap), places are written as on a sheet.
+struct Specimen {
+    name: &'static str,
+    slips: &'static [&'static str],
+    legend: &'static str,
+    joins: &'static [(u16, u16, u16)],
+    places: &'static [(u16, char)],
+}
+
+const COMPOSE: Specimen = Specimen {
+    name: "the compose tray",
+    slips: &["IMPCAES", "AES", "CAESAVG", "VGPIVS", "SIMP"],
+    legend: "SIMPCAESAVGPIVS",
+    joins: &[(1, 3, 4), (5, 1, 3), (3, 4, 2)],
+    places: &[(2, 'K'), (6, 'S'), (5, 'K'), (10, 'K'), (1, 'K')],
+};
+
+const SPECIMENS: &[Specimen] = &[
+    Specimen {
+        name: "empty tray",
+        slips: &[],
+        legend: "",
+        joins: &[],
+        places: &[],
+    },
+    Specimen {
+        name: "one slip",
+        slips: &["AVG"],
+        legend: "AVG",
+        joins: &[],
+        places: &[(1, 'K')],
+    },
+    Specimen {
+        name: "two equal slips",
+        slips: &["AVG", "AVG"],
+        legend: "AVG",
+        joins: &[],
+        places: &[(1, 'K'), (1, 'S')],
+    },
+    Specimen {
+        name: "a slip inside a longer one",
+        slips: &["AVG", "CAESAVG"],
+        legend: "CAESAVG",
+        joins: &[],
+        places: &[(5, 'S'), (1, 'K')],
+    },
+    Specimen {
+        name: "a slip that overlaps itself",
+        slips: &["ANNA"],
+        legend: "ANNA",
+        joins: &[],
+        places: &[(1, 'K')],
+    },
+    Specimen {
+        name: "a ring of two",
+        slips: &["AB", "BA"],
+        legend: "BAB",
+        joins: &[(2, 1, 1)],
+        places: &[(2, 'K'), (1, 'K')],
+    },
+    Specimen {
+        name: "chains by their first slip",
+        slips: &["CD", "AB"],
+        legend: "CDAB",
+        joins: &[],
+        places: &[(1, 'K'), (3, 'K')],
+    },
+    Specimen {
+        name: "the tray of document 003",
+        slips: &["AKI", "ELE", "KIKI", "KIRA", "LEA"],
+        legend: "ELEAKIKIRA",
+        joins: &[(1, 3, 2), (3, 4, 2), (2, 5, 2), (5, 1, 1)],
+        places: &[(4, 'K'), (1, 'K'), (5, 'K'), (7, 'K'), (2, 'K')],
+    },
+    Specimen {
+        name: "a longer ring stays open",
+        slips: &["ABC", "CDE", "EFA"],
+        legend: "EFABCDE",
+        joins: &[(3, 1, 1), (1, 2, 1)],
+        places: &[(3, 'K'), (5, 'K'), (1, 'K')],
+    },
+    Specimen {
+        name: "a kept slip stands earlier than it was laid",
+        slips: &["CC", "AB", "BA", "CA"],
+        legend: "CCABAB",
+        joins: &[(3, 2, 1), (1, 4, 1)],
+        places: &[(1, 'K'), (5, 'K'), (4, 'K'), (2, 'K')],
+    },
+    COMPOSE,
+];
+
+fn record(&(left, right, overlap): &(u16, u16, u16)) -> Join {
+    Join { left, right, overlap }
+}
+
+fn standing(&(place, mark): &(u16, char)) -> Place {
+    Place {
+        place,
+        kept: u16::from(mark == 'K'),
+    }
+}
+
+fn tray_of(slips: &[&str]) -> (Vec<u8>, Vec<u16>) {
+    let slips: Vec<Vec<u8>> = slips.iter().map(|x| x.as_bytes().to_vec()).collect();
+    lent(&slips)
+}
+
+#[test]
+fn specimen_trays() {
+    let (mut rival, mut chance) = (Rival::new(), Chance::new(7));
+    for case in SPECIMENS {
+        let name = case.name;
+        let legend = compose_tray(&Tray::of(case.slips)).expect(name);
+        let joins: Vec<Join> = case.joins.iter().map(record).collect();
+        let places: Vec<Place> = case.places.iter().map(standing).collect();
+        assert_eq!(legend.text, case.legend, "{name}");
+        assert_eq!(legend.joins, joins, "{name}");
+        assert_eq!(legend.places, places, "{name}");
+        assert_eq!(legend.kept, places.iter().filter(|p| p.is_kept()).count(), "{name}");
+        assert_eq!(legend.kept_letters, legend.saved + case.legend.len(), "{name}");
+        let (letters, ends) = tray_of(case.slips);
+        trial(&mut rival, &letters, &ends, &Buffers::of(AMPLE, &mut chance));
+    }
+}
+
+#[test]
+fn counts_of_the_compose_tray() {
+    let legend = compose_tray(&Tray::of(COMPOSE.slips)).unwrap();
+    assert_eq!((legend.places.len(), legend.kept), (5, 4));
+    assert_eq!((legend.kept_letters, legend.saved, legend.text.len()), (24, 9, 15));
+    assert_eq!(legend.to_string(), COMPOSE.legend);
+}
+
+/// The lengths of the four buffers for the compose tray, and number and detail of the refusal.
+struct Lending {
+    name: &'static str,
+    rooms: [usize; 4],
+    number: u32,
+    detail: u32,
+}
+
+const fn lending(name: &'static str, rooms: [usize; 4], number: u32, detail: u32) -> Lending {
+    Lending {
+        name,
+        rooms,
+        number,
+        detail,
+    }
+}
+
+const LENDINGS: &[Lending] = &[
+    lending("all exact", [32_000, 15, 3, 5], 0, 0),
+    lending("all longer", [32_100, 40, 10, 12], 0, 0),
+    lending("legend of 14", [32_000, 14, 3, 5], 8, 15),
+    lending("no legend", [32_000, 0, 3, 5], 8, 15),
+    lending("2 joins", [32_000, 15, 2, 5], 9, 3),
+    lending("no joins", [32_000, 15, 0, 5], 9, 3),
+    lending("4 places", [32_000, 15, 3, 4], 9, 3),
+    lending("no places", [32_000, 15, 3, 0], 9, 3),
+    lending("8 before 9", [32_000, 14, 2, 4], 8, 15),
+    lending("work area of 31,999", [31_999, 15, 3, 5], 7, 0),
+    lending("no work area", [0, 15, 3, 5], 7, 0),
+    lending("7 before 8 and 9", [31_999, 14, 2, 4], 7, 0),
+];
+
+#[test]
+fn buffers_of_the_compose_tray() {
+    let (mut rival, mut chance) = (Rival::new(), Chance::new(8));
+    let (letters, ends) = tray_of(COMPOSE.slips);
+    for case in LENDINGS {
+        let name = case.name;
+        let [work, legend, joins, places] = case.rooms;
+        let rooms = Rooms {
+            work,
+            legend,
+            joins,
+            places,
+        };
+        let before = Buffers::of(rooms, &mut chance);
+        let (answer, after) = trial(&mut rival, &letters, &ends, &before);
+        assert_eq!((answer.number, answer.detail), (case.number, case.detail), "{name}");
+        let mut expected = before.clone();
+        if case.number == 0 {
+            expected.legend[..15].copy_from_slice(COMPOSE.legend.as_bytes());
+            expected.joins[..3].copy_from_slice(&[1, 2, 3].map(|i| record(&COMPOSE.joins[i - 1])));
+            expected.places[..5].copy_from_slice(&[1, 2, 3, 4, 5].map(|i| standing(&COMPOSE.places[i - 1])));
+        }
+        assert_eq!(after.legend, expected.legend, "{name}");
+        assert_eq!(after.joins, expected.joins, "{name}");
+        assert_eq!(after.places, expected.places, "{name}");
+        assert_eq!(after.work.len(), before.work.len(), "{name}");
+        assert!(after.work == before.work || case.number != 7, "{name}");
+    }
+}
+
+/// Letters and ends, and number and detail of the refusal.
+struct Edge {
+    name: &'static str,
+    letters: Vec<u8>,
+    ends: Vec<u16>,
+    number: u32,
+    detail: u32,
+}
+
+fn edge(name: &'static str, letters: impl AsRef<[u8]>, ends: impl Into<Vec<u16>>, number: u32, detail: u32) -> Edge {
+    Edge {
+        name,
+        letters: letters.as_ref().to_vec(),
+        ends: ends.into(),
+        number,
+        detail,
+    }
+}
+
+fn tens(n: u16) -> Vec<u16> {
+    (1..=n).map(|i| 10 * i).collect()
+}
+
+fn edges() -> Vec<Edge> {
+    let many = "ABCDEFGHI.".repeat(201);
+    let ones: Vec<u16> = (1..=201).collect();
+    vec![
+        edge("200 slips", &many[..200], &ones[..200], 0, 0),
+        edge("201 slips", &many[..201], &ones[..], 1, 0),
+        edge("201 slips with equal ends", &many[..1], [1; 201], 1, 0),
+        edge("200 slips and 2,000 letters", &many[..2_000], tens(200), 0, 0),
+        edge("the first end is 0", "AB", [0, 2], 2, 1),
+        edge("an end equals the one before", "AB", [1, 1, 2], 2, 2),
+        edge("an end falls", "ABCD", [3, 2, 4], 2, 2),
+        edge("2 before 3", &many[..60], [50, 50, 60], 2, 2),
+        edge("40 letters", &many[..40], [40], 0, 0),
+        edge("41 letters", &many[..41], [41], 3, 1),
+        edge("41 letters in the second", &many[..43], [2, 43], 3, 2),
+        edge("3 before 4", &many[..2_001], [2_001], 3, 1),
+        edge("2,000 letters", &many[..2_000], tens(200), 0, 0),
+        edge(
+            "2,001 letters",
+            &many[..2_001],
+            [&tens(199)[..], &[2_001]].concat(),
+            4,
+            0,
+        ),
+        edge("4 before 5", &many[..2_001], tens(200), 4, 0),
+        edge("letters and no slip", "A", [], 5, 0),
+        edge("an end and no letters", "", [1], 5, 0),
+        edge("the last end is low", "ABC", [1, 2], 5, 0),
+        edge("the last end is high", "ABC", [1, 4], 5, 0),
+        edge("5 before 6", "ab", [1], 5, 0),
+        edge("a small letter", "AVGaVG", [3, 6], 6, 2),
+        edge("two bad slips", "A1B2", [2, 4], 6, 1),
+        edge("a blank", "AVG PIVS", [8], 6, 1),
+        edge("the sign below A", "AB@", [1, 2, 3], 6, 3),
+        edge("the sign above Z", "[AB", [1, 2, 3], 6, 1),
+        edge("the sign below the full stop", "A-", [2], 6, 1),
+        edge("the sign above the full stop", "A/", [2], 6, 1),
+        edge("a full stop", "A.V.G.", [2, 4, 6], 0, 0),
+        edge("every sign", made::SIGNS, [27], 0, 0),
+    ]
+}
+
+#[test]
+fn edge_trays() {
+    let (mut rival, mut chance) = (Rival::new(), Chance::new(9));
+    for case in edges() {
+        let name = case.name;
+        let before = Buffers::of(AMPLE, &mut chance);
+        let (answer, _) = trial(&mut rival, &case.letters, &case.ends, &before);
+        assert_eq!((answer.number, answer.detail), (case.number, case.detail), "{name}");
+        let short = Buffers::of(Rooms { work: 31_999, ..AMPLE }, &mut chance);
+        let (answer, _) = trial(&mut rival, &case.letters, &case.ends, &short);
+        let expected = if case.number == 0 { 7 } else { case.number };
+        assert_eq!(answer.number, expected, "{name}, work area of 31,999");
+    }
+}
+
+#[test]
+fn overlap_of_the_plain_program() {
+    let cases: [(&[u8], &[u8], usize); 6] = [
+        (b"AVG", b"AVG", 3),
+        (b"IMPCAES", b"CAESAVG", 4),
+        (b"CAESAVG", b"VGPIVS", 2),
+        (b"AB", b"BA", 1),
+        (b"CD", b"AB", 0),
+        (b"ANNA", b"ANA", 1),
+    ];
+    for (a, b, n) in cases {
+        assert_eq!(rival::overlap(a, b), n);
+    }
+}
+
+#[test]
+fn every_refusal_has_its_own_text() {
+    let text = |number| Refusal { number, detail: 77 }.to_string();
+    let texts: Vec<String> = (1..=19).map(text).collect();
+    let with_detail = [2, 3, 6, 8, 9, 10, 11, 13, 14, 17, 18, 19];
+    for (i, text) in texts.iter().enumerate() {
+        assert_eq!(text.contains("77"), with_detail.contains(&(i + 1)), "{text}");
+        assert!(!texts[..i].contains(text), "{text}");
+    }
+}
