@@ -14,7 +14,7 @@ use std::time::Instant;
 
 /// So many trays of each family, and so many calls on each, of which the fastest counts.
 const TRAYS: usize = 8;
-const CALLS: usize = 60;
+const CALLS: usize = 100;
 
 struct Family {
     name: &'static str,
@@ -123,95 +123,106 @@ impl Buffers {
     }
 }
 
-/// Microseconds, each summed over trays.
-#[derive(Default)]
-struct Times {
+/// A tray with its outcome, and the least time of each kind of call on it, in microseconds.
+struct Timed {
+    letters: Vec<u8>,
+    ends: Vec<u16>,
+    answer: Composed,
+    outcome: Buffers,
     ours: f64,
     plain: f64,
     /// Ours, turned back by 9 for want of places: all but the writing of legend, joins and places.
-    turned_back: f64,
+    unwritten: f64,
     /// The trial of places alone, by the plain program's loop.
     trial: f64,
-    aside: usize,
 }
 
-/// The time of one call, if it is less than `best`.
-fn clock(best: &mut f64, call: impl FnOnce()) {
-    let start = Instant::now();
-    call();
-    *best = best.min(start.elapsed().as_secs_f64() * 1e6);
-}
-
-fn compare(rival: &mut Rival, letters: &[u8], ends: &[u16]) -> (Composed, Buffers) {
-    let (mut ours, mut plain) = (Buffers::new(), Buffers::new());
-    let answer = ours.ours(letters, ends, 200);
+/// Composes the tray by both programs, and compares what they give.
+fn compare(rival: &mut Rival, slips: &[Vec<u8>]) -> Timed {
+    let (letters, ends) = lent(slips);
+    let (mut outcome, mut plain) = (Buffers::new(), Buffers::new());
+    let answer = outcome.ours(&letters, &ends, 200);
     assert_eq!((answer.number, answer.slips, letters.len()), (0, 200, 2_000));
-    assert_eq!(answer, plain.plain(rival, letters, ends));
-    assert_eq!(ours.legend, plain.legend);
-    assert_eq!(ours.joins, plain.joins);
-    assert_eq!(ours.places, plain.places);
-    (answer, ours)
-}
-
-fn trials(letters: &[u8], ends: &[u16], legend: &[u8], places: &[Place]) -> usize {
-    let aside = (1..=ends.len()).filter(|&i| !places[i - 1].is_kept());
-    aside
-        .filter_map(|i| lowest_place(slip(letters, ends, i), legend))
-        .fold(0, usize::wrapping_add)
-}
-
-fn time_tray(rival: &mut Rival, letters: &[u8], ends: &[u16], times: &mut Times) {
-    let (answer, outcome) = compare(rival, letters, ends);
-    let legend = &outcome.legend[..answer.legend as usize];
-    let mut buffers = Buffers::new();
-    let (mut ours, mut plain) = (f64::MAX, f64::MAX);
-    let (mut turned_back, mut trial) = (f64::MAX, f64::MAX);
-    for _ in 0..CALLS {
-        buffers.reset();
-        clock(&mut ours, || {
-            black_box(buffers.ours(black_box(letters), black_box(ends), 200));
-        });
-        buffers.reset();
-        clock(&mut plain, || {
-            black_box(buffers.plain(rival, black_box(letters), black_box(ends)));
-        });
-        buffers.reset();
-        clock(&mut turned_back, || {
-            black_box(buffers.ours(black_box(letters), black_box(ends), 199));
-        });
-        clock(&mut trial, || {
-            black_box(trials(black_box(letters), ends, legend, &outcome.places));
-        });
+    assert_eq!(answer, plain.plain(rival, &letters, &ends));
+    assert_eq!(outcome.legend, plain.legend);
+    assert_eq!(outcome.joins, plain.joins);
+    assert_eq!(outcome.places, plain.places);
+    Timed {
+        letters,
+        ends,
+        answer,
+        outcome,
+        ours: f64::MAX,
+        plain: f64::MAX,
+        unwritten: f64::MAX,
+        trial: f64::MAX,
     }
-    times.ours += ours;
-    times.plain += plain;
-    times.turned_back += turned_back;
-    times.trial += trial;
-    times.aside += (answer.slips - answer.kept) as usize;
+}
+
+/// The time of one call, if it is less than `least`.
+fn clock<T>(least: &mut f64, call: impl FnOnce() -> T) {
+    let start = Instant::now();
+    black_box(call());
+    *least = least.min(start.elapsed().as_secs_f64() * 1e6);
+}
+
+/// The places of all slips set aside, summed.
+fn trials(tray: &Timed) -> usize {
+    let legend = &tray.outcome.legend[..tray.answer.legend as usize];
+    let aside = (1..=tray.ends.len()).filter(|&i| !tray.outcome.places[i - 1].is_kept());
+    aside
+        .filter_map(|i| lowest_place(slip(&tray.letters, &tray.ends, i), legend))
+        .sum()
+}
+
+/// One round: each kind of call goes through all trays in turn, so that no program meets the tray that it has just left.
+fn round(rival: &mut Rival, trays: &mut [Timed], buffers: &mut Buffers) {
+    for tray in trays.iter_mut() {
+        buffers.reset();
+        let (letters, ends) = (black_box(&tray.letters), black_box(&tray.ends));
+        clock(&mut tray.ours, || buffers.ours(letters, ends, 200));
+    }
+    for tray in trays.iter_mut() {
+        buffers.reset();
+        let (letters, ends) = (black_box(&tray.letters), black_box(&tray.ends));
+        clock(&mut tray.plain, || buffers.plain(rival, letters, ends));
+    }
+    for tray in trays.iter_mut() {
+        buffers.reset();
+        let (letters, ends) = (black_box(&tray.letters), black_box(&tray.ends));
+        clock(&mut tray.unwritten, || buffers.ours(letters, ends, 199));
+    }
+    for tray in trays.iter_mut() {
+        let mut least = tray.trial;
+        clock(&mut least, || trials(black_box(tray)));
+        tray.trial = least;
+    }
+}
+
+fn print_row(name: &str, trays: &[Timed]) {
+    let mean = |time: fn(&Timed) -> f64| trays.iter().map(time).sum::<f64>() / TRAYS as f64;
+    let aside: u32 = trays.iter().map(|t| t.answer.slips - t.answer.kept).sum();
+    let (ours, plain) = (mean(|t| t.ours), mean(|t| t.plain));
+    let (unwritten, trial) = (mean(|t| t.unwritten), mean(|t| t.trial));
+    let aside = aside / TRAYS as u32;
+    println!(
+        "| {name} | {aside} | {ours:.1} | {plain:.0} | {:.1} | {unwritten:.1} | {trial:.1} |",
+        plain / ours,
+    );
 }
 
 fn main() {
-    let mut rival = Rival::new();
+    let (mut rival, mut buffers) = (Rival::new(), Buffers::new());
     println!("200 slips, 2,000 letters; microseconds a call, the mean of {TRAYS} trays");
-    println!("| family | set aside | ours | all pairs | ratio | ours before writing | trial of places alone |");
+    println!("| family | set aside | ours | all pairs | ratio | ours, turned back by 9 | trial of places alone |");
     println!("|---|---:|---:|---:|---:|---:|---:|");
     for (seed, family) in FAMILIES.iter().enumerate() {
         let mut chance = Chance::new(seed as u64);
-        let mut times = Times::default();
-        for _ in 0..TRAYS {
-            let (letters, ends) = lent(&(family.make)(&mut chance));
-            time_tray(&mut rival, &letters, &ends, &mut times);
+        let made = |_| compare(&mut rival, &(family.make)(&mut chance));
+        let mut trays: Vec<Timed> = (0..TRAYS).map(made).collect();
+        for _ in 0..CALLS {
+            round(&mut rival, &mut trays, &mut buffers);
         }
-        let mean = |sum: f64| sum / TRAYS as f64;
-        println!(
-            "| {} | {} | {:.1} | {:.0} | {:.1} | {:.1} | {:.1} |",
-            family.name,
-            times.aside / TRAYS,
-            mean(times.ours),
-            mean(times.plain),
-            times.plain / times.ours,
-            mean(times.turned_back),
-            mean(times.trial),
-        );
+        print_row(family.name, &trays);
     }
 }
