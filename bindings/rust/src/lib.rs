@@ -87,6 +87,19 @@ pub struct Composed {
 }
 
 impl Composed {
+    fn of([number, detail, slips, kept, letters, saved, legend, joins]: [u32; 8]) -> Composed {
+        Composed {
+            number,
+            detail,
+            slips,
+            kept,
+            letters,
+            saved,
+            legend,
+            joins,
+        }
+    }
+
     /// The refusal, if the tray or a buffer was turned back.
     pub fn refusal(&self) -> Option<Refusal> {
         match self.number {
@@ -167,15 +180,5 @@ pub fn compose(
             answer.as_mut_ptr(),
         );
     }
-    let [number, detail, slips, kept, letters, saved, legend, joins] = answer;
-    Composed {
-        number,
-        detail,
-        slips,
-        kept,
-        letters,
-        saved,
-        legend,
-        joins,
-    }
+    Composed::of(answer)
 }

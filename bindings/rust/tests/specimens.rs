@@ -242,7 +242,6 @@ fn edges() -> Vec<Edge> {
         edge("41 letters", &many[..41], [41], 3, 1),
         edge("41 letters in the second", &many[..43], [2, 43], 3, 2),
         edge("3 before 4", &many[..2_001], [2_001], 3, 1),
-        edge("2,000 letters", &many[..2_000], tens(200), 0, 0),
         edge(
             "2,001 letters",
             &many[..2_001],
