@@ -1,0 +1,2 @@
+-- What one read answers.
+pub mod Came

@@ -1,0 +1,3 @@
+-- Laws behind the functions from file bytes to sheets.
+pub mod TraySteps
+pub mod FileSteps

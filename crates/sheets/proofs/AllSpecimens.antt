@@ -1,0 +1,61 @@
+-- Computed specimens of the sheets: document 01's two, whole, the empty tray's, refusals, and what `compose` prints for files. Modules are checked in the order of their
+-- names: an edited layout is refused here first.
+use mathlib.Core.Path.{_≡_, refl}
+use mathlib.Core.List.{List, [], _∷_, map}
+use Prim.Native.Nat.{ℕ}
+use Rattle.words.specs.Quoted.{word}
+use Rattle.trays.specs.Faults.{refusal}
+use Rattle.trays.specs.Faults.{trayFault}
+use Rattle.files.specs.Faults.{readFault}
+use Rattle.sheets.specs.Sheets.{decimal, column, composeSheetOf, findSheetOf, refusedLine}
+use Rattle.sheets.specs.Programs.{fileFault, composeSheet}
+
+abbrev tray : List (List ℕ)
+tray = map word ("IMPCAES" ∷ "AES" ∷ "CAESAVG" ∷ "VGPIVS" ∷ "SIMP" ∷ [])
+
+pub decimal-specimens :
+    map decimal (0 ∷ 9 ∷ 10 ∷ 105 ∷ 2000 ∷ 65535 ∷ []) ≡ map word ("0" ∷ "9" ∷ "10" ∷ "105" ∷ "2000" ∷ "65535" ∷ [])
+unfolding decimal
+decimal-specimens = refl
+
+pub compose-specimen :
+    composeSheetOf tray
+    ≡ word "TRAY   5   4   24    9   15\n   1   7    2 K\n   2   3    6 S\n   3   7    5 K\n   4   6   10 K\n   5   4    1 K\n   1   3   4\n   5   1   3\n   3   4   2\nSIMPCAESAVGPIVS\n"
+unfolding decimal column composeSheetOf
+compose-specimen = refl
+
+pub find-specimen : findSheetOf tray (word "IMPCAESAVG") ≡ word "FIND  10  11     3\n   7   1\n   7   2\n  10   3\n"
+unfolding decimal column findSheetOf
+find-specimen = refl
+
+pub empty-specimen : composeSheetOf [] ≡ word "TRAY   0   0    0    0    0\n\n"
+unfolding decimal column composeSheetOf
+empty-specimen = refl
+
+pub refused-specimens :
+    map refusedLine (refusal 16 0 ∷ refusal 2 7 ∷ refusal 13 2000 ∷ refusal 14 400000 ∷ [])
+    ≡ (word "REFUSED  16     0\n" ∷ word "REFUSED   2     7\n" ∷ word "REFUSED  13  2000\n" ∷ word "REFUSED  14400000\n" ∷ [])
+unfolding decimal column
+refused-specimens = refl
+
+-- from the file's bytes: document 01's tray, an empty file, and files that are turned back
+pub compose-file-specimens :
+    map composeSheet
+    (word "   1   7 IMPCAES\n   2   3 AES\n   3   7 CAESAVG\n   4   6 VGPIVS\n   5   4 SIMP\n"
+    ∷ []
+    ∷ word "   1   3 AVG\n   2   3 AVG"
+    ∷ word "   1   3 AVG\n   3   3 AVG\n"
+    ∷ word "   2   0 \n"
+    ∷ word "   1   2 AVG\n"
+    ∷ word "   1   0 \n"
+    ∷ word "   1   2 av\n" ∷ [])
+    ≡ (word "TRAY   5   4   24    9   15\n   1   7    2 K\n   2   3    6 S\n   3   7    5 K\n   4   6   10 K\n   5   4    1 K\n   1   3   4\n   5   1   3\n   3   4   2\nSIMPCAESAVGPIVS\n"
+    ∷ word "TRAY   0   0    0    0    0\n\n"
+    ∷ word "REFUSED  17     2\n"
+    ∷ word "REFUSED  18     2\n"
+    ∷ word "REFUSED  18     1\n"
+    ∷ word "REFUSED  19     1\n"
+    ∷ word "REFUSED   2     1\n"
+    ∷ word "REFUSED   6     1\n" ∷ [])
+unfolding decimal column composeSheetOf trayFault readFault fileFault composeSheet
+compose-file-specimens = refl

@@ -1,0 +1,116 @@
+-- Every slip stands in the legend, and its place is within it.
+--   aside-held    == a slip stands in a kept slip
+--   legend-every  == the legend holds every slip
+--   place-most    == a place is at most the legend's length
+-- A slip set aside stands in a longer one, or equals a lower one; going on from there the slips grow longer or their numbers fall, so a
+-- kept slip is reached. The legend holds the kept slips, and the lowest place of what stands in a text is within it.
+use mathlib.Core.Path.{_≡_, ap, subst}
+use mathlib.Core.Bool.{true, _&&_}
+use mathlib.Core.Logic.{inl, inr}
+use mathlib.Core.List.{List, [], _∷_}
+use Prim.Native.Nat.{ℕ, zero, suc, _+_, _-_, _*_, _≤_, _<_}
+use borrow.Author.Tests.{ltb-true}
+use native.Mathlib.Omega.{arith}
+use lib.Dec.{ltb}
+use lib.ListN.{length, drop, length-drop}
+use Rattle.words.specs.Words.{begins, same, standsIn}
+use Rattle.words.proofs.Tests.{by-test, tell, both, either}
+use Rattle.words.proofs.Members.{In, any-in, in-upFrom, upFrom-in}
+use Rattle.words.proofs.Sums.{in-held}
+use Rattle.words.proofs.Orders.{same-is}
+use Rattle.words.proofs.Strings.{begins-refl, begins-length, begins-stands, stands-drop, stands-trans}
+use Rattle.trays.specs.Limits.{maxSlips, maxSlip}
+use Rattle.trays.specs.Slips.{slipsOf, slip, numbers}
+use Rattle.trays.specs.Aside.{asideFor, isAside, kept, counted}
+use Rattle.trays.specs.Faults.{trayFault}
+use Rattle.trays.proofs.Accepted.{accepted-tells, slips-count, span-rises}
+use Rattle.trays.proofs.Kept.{kept-in}
+use Rattle.numbering.proofs.Spans.{accepted-spanned}
+use Rattle.greedy.specs.Joins.{plainFor}
+use Rattle.greedy.specs.Legends.{legendOf, piecesFor, lowest, placeIn, placeOf, placeFor}
+use Rattle.greedy.proofs.Chains.{Chain, Rep}
+use Rattle.greedy.proofs.Letters.{weight, laid-at}
+use Rattle.greedy.proofs.Bound.{kept-rep}
+use Rattle.greedy.proofs.Demand3.{numbers-rise, numbers-positive}
+
+lowest-most : (p : ℕ) (x t : List ℕ) → standsIn x t ≡ true → 1 ≤ length x → lowest p x t < p + length t
+lowest-most p x [] h n = absurd (omega (arith, begins-length x [] h))
+lowest-most p x (y ∷ ys) h n =
+    by-test (begins x (y ∷ ys))
+    (λ e. rw (e, lowest) (omega arith))
+    (λ e. rw (e, lowest) (omega (arith, lowest-most (suc p) x ys (rw e at h) n)))
+
+module _ (s es : List ℕ) (acc : trayFault s es .number ≡ 0) where
+  abbrev ss : List (List ℕ)
+  ss = slipsOf s es
+
+  abbrev K : List ℕ
+  K = kept ss (numbers ss)
+
+  pub joins-rep : (Cs : List Chain) × Rep (weight counted ss) K (plainFor counted ss K) Cs
+  joins-rep = kept-rep ss (numbers ss) (numbers-rise ss) (numbers-positive ss) counted
+
+  some : (i : ℕ) → 1 ≤ i → i ≤ length es → 1 ≤ length (slip ss i)
+  some i p l = omega (arith, accepted-spanned s es acc .long i p l, span-rises s es acc i p l)
+
+  -- it falls from a slip to one that sets it aside
+  abbrev left : ℕ → ℕ
+  left i = (maxSlip - length (slip ss i)) * suc maxSlips + i
+
+  pub record Sooner (i k : ℕ) : Type 0 where
+    pub real : (1 ≤ k) × (k ≤ length es)
+    pub holds : standsIn (slip ss i) (slip ss k) ≡ true
+    pub falls : left k < left i
+
+  aside-next : (i : ℕ) → isAside ss (numbers ss) i ≡ true → (k : ℕ) × Sooner i k
+  aside-next i e =
+      let (k, m, a) = any-in (asideFor ss i) (numbers ss) e in
+      let x = slip ss i in
+      let y = slip ss k in
+      let r : (1 ≤ k) × (k ≤ length es) = (in-upFrom 1 (length ss) m .0, omega (arith, in-upFrom 1 (length ss) m .1, slips-count s es)) in
+      let few : k ≤ maxSlips = omega (arith, r .1, accepted-tells s es acc .few) in (
+        k,
+        elim (either (ltb (length x) (length y) && standsIn x y) (ltb k i && same x y) a) [
+          | inl b ↦
+              let (c, h) = both (ltb (length x) (length y)) (standsIn x y) b in
+              let l : length x < length y = ltb-true (length x) (length y) c in
+              record { real = r; holds = h; falls = omega (arith, accepted-spanned s es acc .short k (r .0) (r .1)) }
+          | inr b ↦
+              let (c, h) = both (ltb k i) (same x y) b in
+              let q : x ≡ y = same-is x y h in
+              record {
+                real = r;
+                holds = begins-stands x y (subst (λ z. begins x z ≡ true) q (begins-refl x));
+                falls = omega (arith, ltb-true k i c, ap length q);
+              }
+        ],
+      )
+
+  aside-held : (f i : ℕ) → 1 ≤ i → i ≤ length es → left i ≤ f → (k : ℕ) × In k K × (standsIn (slip ss i) (slip ss k) ≡ true)
+  aside-held zero i p l h = absurd (omega arith)
+  aside-held (suc f) i p l h =
+      elim (tell (isAside ss (numbers ss) i)) [
+        | inr e ↦
+            (i, kept-in ss (numbers ss) (upFrom-in 1 (length ss) i p (omega (arith, slips-count s es))) e, begins-stands (slip ss i) (slip ss i) (begins-refl (slip ss i)))
+        | inl e ↦
+            let (k, n) = aside-next i e in
+            let (g, m, t) = aside-held f k (n .real .0) (n .real .1) (omega (arith, n .falls)) in
+            (g, m, stands-trans (slip ss i) (slip ss k) (slip ss g) (n .holds) t)
+      ]
+
+  laid : (i : ℕ) → In i K → (1 ≤ placeIn ss i 1 (piecesFor counted ss (numbers ss))) × (begins (slip ss i) (drop (placeIn ss i 1 (piecesFor counted ss (numbers ss)) - 1) (legendOf ss)) ≡ true)
+  laid i m = laid-at counted ss (joins-rep .1) i (in-held i K m)
+
+  pub legend-every : (i : ℕ) → 1 ≤ i → i ≤ length es → standsIn (slip ss i) (legendOf ss) ≡ true
+  legend-every i p l =
+      let (k, m, t) = aside-held (left i) i p l (omega arith) in
+      stands-trans (slip ss i) (slip ss k) (legendOf ss) t (stands-drop (placeIn ss k 1 (piecesFor counted ss (numbers ss)) - 1) (slip ss k) (legendOf ss) (laid k m .1))
+
+  pub place-most : (i : ℕ) → 1 ≤ i → i ≤ length es → placeOf ss i ≤ length (legendOf ss)
+  place-most i p l =
+      by-test (isAside ss (numbers ss) i)
+      (λ e. rw (e, placeFor) (omega (arith, lowest-most 1 (slip ss i) (legendOf ss) (legend-every i p l) (some i p l))))
+      (λ e.
+      let r = laid i (kept-in ss (numbers ss) (upFrom-in 1 (length ss) i p (omega (arith, slips-count s es))) e) in
+      let k = placeIn ss i 1 (piecesFor counted ss (numbers ss)) - 1 in
+      rw (e, placeFor) (omega (arith, r .0, some i p l, begins-length (slip ss i) (drop k (legendOf ss)) (r .1), length-drop k (legendOf ss))))

@@ -1,0 +1,66 @@
+use Prim.Native.Nat.{_-_, _*_, _≤_}
+use Rattle.sheets.specs.Sheets.{foundSize, lines, foundLineAt}
+use Rattle.sheets.specs.Printing.{Put}
+use Rattle.sheets.proofs.Puts.{put-none}
+use Rattle.sheets.proofs.LineLoops.{founds-end, found-place, found-slip, found-turn}
+use native.Mathlib.Omega.{arith}
+use borrow.Author.Needs.{needs}
+use Rattle.sheets.proofs.found_lines.Statement.{statement}
+use Rattle.sheets.proofs.found_lines.Tie as tie
+
+abbrev Inv-loop : tie.InvT-loop
+Inv-loop out₀ at found count next₀ i₀ out next i = (i ≤ count) × Put at (foundSize * i) (lines (foundLineAt found) i) out₀ out next
+
+abbrev μ-loop : tie.MeasureT-loop
+μ-loop out₀ at found count next₀ i₀ out next i = count - i
+
+loop-holds : tie.Need-loop-holds Inv-loop μ-loop
+loop-holds c = (search needs, put-none _ _ (omega arith))
+
+mul-k : tie.Need-mul-k Inv-loop μ-loop
+mul-k c = search needs
+
+large-requires : tie.Need-large-requires Inv-loop μ-loop
+large-requires c κs = search needs
+
+add-large : tie.Need-add-large Inv-loop μ-loop
+add-large c = search needs
+
+large-requires-2 : tie.Need-large-requires-2 Inv-loop μ-loop
+large-requires-2 c κs = search needs
+
+found-line-requires : tie.Need-found-line-requires Inv-loop μ-loop
+found-line-requires c κs = (search found-place, search found-slip, search needs)
+
+add-i : tie.Need-add-i Inv-loop μ-loop
+add-i c = search needs
+
+loop-less : tie.Need-loop-less Inv-loop μ-loop
+loop-less c = search needs
+
+loop-again : tie.Need-loop-again Inv-loop μ-loop
+loop-again c = (search needs, search found-turn)
+
+same-length : tie.Need-same-length Inv-loop μ-loop
+same-length c = search needs
+
+returns : tie.Need-returns Inv-loop μ-loop
+returns c = search founds-end
+
+pub found-lines-spec : {M : Type 1} → statement M
+found-lines-spec =
+    tie.close
+    (tie.spec
+    Inv-loop
+    μ-loop
+    loop-holds
+    mul-k
+    large-requires
+    add-large
+    large-requires-2
+    found-line-requires
+    add-i
+    loop-less
+    loop-again
+    same-length
+    returns)

@@ -1,0 +1,12 @@
+use Rattle.sheets.proofs.LineLoops.{sign-aside, sign-kept}
+use Rattle.sheets.proofs.sign.Statement.{statement}
+use Rattle.sheets.proofs.sign.Tie as tie
+
+returns : tie.Need-returns
+returns c = search sign-aside
+
+returns-2 : tie.Need-returns-2
+returns-2 c = search sign-kept
+
+pub sign-spec : {M : Type 1} → statement M
+sign-spec = tie.close (tie.spec returns returns-2)
