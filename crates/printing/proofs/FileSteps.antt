@@ -1,9 +1,9 @@
--- From reading the tray file to the sheet.
---   file-silent, file-speaks  == the two cases of a file's sheet
---   refused-.., read-..       == the two ways through compose_sheet
+-- From reading the tray file to the two sheets.
+--   refused-..                == a file that is turned back
+--   letters-.., ends-..       == the letters and ends that were read
+--   compose-.., find-..       == the two ways through compose_sheet and find_sheet
 -- Refusal 15 is silent: the lent letters and ends are enough.
 use mathlib.Core.Path.{_≡_, refl, sym, _∙_, ap}
-use mathlib.Core.Bool.{_||_}
 use mathlib.Core.List.{List}
 use Prim.Native.Nat.{ℕ, zero, suc, _^_, _≤_, _<_}
 use borrow.Author.Tests.{le-ltb}
@@ -20,11 +20,11 @@ use Rattle.files.specs.Faults.{readFault}
 use Rattle.files.specs.Answers.{goodOf, readOf, Reading}
 use Rattle.files.proofs.CopyTurns.{length-ends}
 use Rattle.files.proofs.SlipsRead.{letters-first, ends-first}
-use Rattle.sheets.specs.Sheets.{detailWidth, refusedLine, refusedSize, composeSheetOf}
+use Rattle.sheets.specs.Sheets.{detailWidth, refusedLine, refusedSize, composeSheetOf, findSheetOf}
 use Rattle.sheets.specs.Printing.{Printed}
-use Rattle.sheets.specs.Programs.{lettersIn, endsIn, traySheet, fileFault, composeSheet}
+use Rattle.sheets.specs.Programs.{lettersIn, endsIn, traySheet, fileFault, composeSheet, textOf, textFault, textSheet, findFault, findSheet}
 use Rattle.sheets.proofs.RefusalsFit.{read-refusal-fits}
-use Rattle.printing.specs.Lent.{ComposeRoom}
+use Rattle.printing.specs.Lent.{FileRoom, ComposeRoom, FindRoom, Trimmed}
 use Rattle.printing.proofs.TraySteps.{printed-is}
 
 -- what turns the file itself back, whatever is lent
@@ -35,22 +35,7 @@ own s = readFault s maxFile endsNeed
 abbrev badOf : ℕ → ℕ → Read
 badOf n d = record { number = n; detail = d; letters = 0; slips = 0 }
 
--- what is printed, where f turns the file back
-abbrev printed : List ℕ → Refusal → List ℕ
-printed s f = elim (f .number) [ zero ↦ composeSheetOf (slipsOf (lettersIn s) (endsIn s)) | suc n ↦ refusedLine f ]
-
--- the two cases of a file's sheet
-file-silent : (s : List ℕ) → own s .number ≡ 0 → composeSheet s ≡ traySheet (lettersIn s) (endsIn s)
-unfolding composeSheet fileFault
-file-silent s h = ap (printed s) (or-zero (own s) (trayFault (lettersIn s) (endsIn s)) h)
-
-file-speaks : (s : List ℕ) (n : ℕ) → own s .number ≡ suc n → composeSheet s ≡ refusedLine (own s)
-unfolding composeSheet fileFault
-file-speaks s n h =
-    ap (printed s) (or-some (own s) (trayFault (lettersIn s) (endsIn s)) (omega arith))
-    ∙ ap {B = List ℕ} (λ (m : ℕ). elim m [ zero ↦ composeSheetOf (slipsOf (lettersIn s) (endsIn s)) | suc k ↦ refusedLine (own s) ]) h
-
-module _ (s a b w l o : List ℕ) (room : ComposeRoom a b w l o) where
+module _ (s a b : List ℕ) (room : FileRoom a b) where
   fault-own : readFault s (length a) (length b) ≡ own s
   unfolding readFault
   fault-own = rw (le-ltb (length a) maxFile (room .letters), le-ltb (length b) endsNeed (room .ends))
@@ -67,10 +52,10 @@ module _ (s a b w l o : List ℕ) (room : ComposeRoom a b w l o) where
     bad-as : (n : ℕ) → own s .number ≡ suc n → r ≡ badOf (suc n) (own s .detail)
     bad-as n h = answer-own ∙ rw (h, readOf)
 
-    -- turned back: the line of the file's own refusal
+    -- turned back
     module _ (z : r .number ≡ 0 → ⊥) where
-      speaks : (n : ℕ) × (own s .number ≡ suc n)
-      speaks = go (own s .number) refl
+      refused-number : (n : ℕ) × (own s .number ≡ suc n)
+      refused-number = go (own s .number) refl
         where
           go : (n : ℕ) → own s .number ≡ n → (k : ℕ) × (own s .number ≡ suc k)
           go zero h = absurd (z (ap (λ (c : Read). c .number) (good-as h)))
@@ -78,21 +63,13 @@ module _ (s a b w l o : List ℕ) (room : ComposeRoom a b w l o) where
 
       refused-as : refusal (r .number) (r .detail) ≡ own s
       refused-as =
-          let (n, h) = speaks in
+          let (n, h) = refused-number in
           ap (λ (c : Read). refusal (c .number) (c .detail)) (bad-as n h) ∙ ap (λ (m : ℕ). refusal m (own s .detail)) (sym h)
 
-      pub refused-can : (r .detail < 10 ^ detailWidth) × (refusedSize ≤ length o)
-      refused-can = (
-        rw (ap (λ (f : Refusal). f .detail) refused-as) (read-refusal-fits s maxFile endsNeed .detail-fits),
-        omega (arith, room .tray .sheet),
-      )
+      refused-can : (o : List ℕ) → refusedSize ≤ length o → (r .detail < 10 ^ detailWidth) × (refusedSize ≤ length o)
+      refused-can o h = (rw (ap (λ (f : Refusal). f .detail) refused-as) (read-refusal-fits s maxFile endsNeed .detail-fits), h)
 
-      pub file-refused : (o′ : List ℕ) (k : ℕ) → Printed (refusedLine (refusal (r .number) (r .detail))) o o′ k → Printed (composeSheet s) o o′ k
-      file-refused o′ k p =
-          printed-is (refusedLine (refusal (r .number) (r .detail))) (composeSheet s) o o′ k
-          (ap refusedLine refused-as ∙ sym (file-speaks s (speaks .0) (speaks .1))) p
-
-    -- read: the sheet of the tray
+    -- read
     module _ (z : r .number ≡ 0) where
       silent : own s .number ≡ 0
       silent = go (own s .number) refl
@@ -119,7 +96,63 @@ module _ (s a b w l o : List ℕ) (room : ComposeRoom a b w l o) where
       pub ends-within : r .slips ≤ length b′
       ends-within = omega (arith, ends-count, length-take (r .slips) b′)
 
-      pub file-printed : (o′ : List ℕ) (k : ℕ) → Printed (traySheet (take (r .letters) a′) (take (r .slips) b′)) o o′ k → Printed (composeSheet s) o o′ k
-      file-printed o′ k p =
-          printed-is (traySheet (take (r .letters) a′) (take (r .slips) b′)) (composeSheet s) o o′ k
-          (rw (letters-first s a a′ b b′ r t z, ends-first s a a′ b b′ r t z) (sym (file-silent s silent))) p
+-- what `compose` prints, where f turns the file back
+abbrev composed : List ℕ → Refusal → List ℕ
+composed s f = elim (f .number) [ zero ↦ composeSheetOf (slipsOf (lettersIn s) (endsIn s)) | suc n ↦ refusedLine f ]
+
+module _ (s : List ℕ) where
+  compose-silent : own s .number ≡ 0 → composeSheet s ≡ traySheet (lettersIn s) (endsIn s)
+  unfolding composeSheet fileFault
+  compose-silent h = ap (composed s) (or-zero (own s) (trayFault (lettersIn s) (endsIn s)) h)
+
+  compose-speaks : (n : ℕ) → own s .number ≡ suc n → composeSheet s ≡ refusedLine (own s)
+  unfolding composeSheet fileFault
+  compose-speaks n h =
+      ap (composed s) (or-some (own s) (trayFault (lettersIn s) (endsIn s)) (omega arith))
+      ∙ ap {B = List ℕ} (λ (m : ℕ). elim m [ zero ↦ composeSheetOf (slipsOf (lettersIn s) (endsIn s)) | suc k ↦ refusedLine (own s) ]) h
+
+  module _ (a b w l o : List ℕ) (room : ComposeRoom a b w l o) (a′ b′ : List ℕ) (r : Read) (t : Reading s a a′ b b′ r) where
+    pub compose-can : (r .number ≡ 0 → ⊥) → (r .detail < 10 ^ detailWidth) × (refusedSize ≤ length o)
+    compose-can z = refused-can s a b (room .file) a′ b′ r t z o (omega (arith, room .tray .sheet))
+
+    pub compose-refused : (r .number ≡ 0 → ⊥) → (o′ : List ℕ) (k : ℕ) → Printed (refusedLine (refusal (r .number) (r .detail))) o o′ k → Printed (composeSheet s) o o′ k
+    compose-refused z o′ k p =
+        let (n, h) = refused-number s a b (room .file) a′ b′ r t z in
+        printed-is (refusedLine (refusal (r .number) (r .detail))) (composeSheet s) o o′ k
+        (ap refusedLine (refused-as s a b (room .file) a′ b′ r t z) ∙ sym (compose-speaks n h)) p
+
+    pub compose-printed : r .number ≡ 0 → (o′ : List ℕ) (k : ℕ) → Printed (traySheet (take (r .letters) a′) (take (r .slips) b′)) o o′ k → Printed (composeSheet s) o o′ k
+    compose-printed z o′ k p =
+        printed-is (traySheet (take (r .letters) a′) (take (r .slips) b′)) (composeSheet s) o o′ k
+        (rw (letters-first s a a′ b b′ r t z, ends-first s a a′ b b′ r t z) (sym (compose-silent (silent s a b (room .file) a′ b′ r t z)))) p
+
+-- what `find` prints, where f turns the files back
+abbrev found : List ℕ → List ℕ → Refusal → List ℕ
+found s x f = elim (f .number) [ zero ↦ findSheetOf (slipsOf (lettersIn s) (endsIn s)) (textOf x) | suc n ↦ refusedLine f ]
+
+pub find-can : (s a b w f o : List ℕ) → FindRoom a b w f o → (a′ b′ : List ℕ) (r : Read) → Reading s a a′ b b′ r → (r .number ≡ 0 → ⊥)
+    → (r .detail < 10 ^ detailWidth) × (refusedSize ≤ length o)
+find-can s a b w f o room a′ b′ r t z = refused-can s a b (room .file) a′ b′ r t z o (omega (arith, room .text .sheet))
+
+module _ (s x : List ℕ) where
+  find-silent : own s .number ≡ 0 → findSheet s x ≡ textSheet (lettersIn s) (endsIn s) (textOf x)
+  unfolding findSheet findFault
+  find-silent h = ap (found s x) (or-zero (own s) (textFault (lettersIn s) (endsIn s) (textOf x)) h)
+
+  find-speaks : (n : ℕ) → own s .number ≡ suc n → findSheet s x ≡ refusedLine (own s)
+  unfolding findSheet findFault
+  find-speaks n h =
+      ap (found s x) (or-some (own s) (textFault (lettersIn s) (endsIn s) (textOf x)) (omega arith))
+      ∙ ap {B = List ℕ} (λ (m : ℕ). elim m [ zero ↦ findSheetOf (slipsOf (lettersIn s) (endsIn s)) (textOf x) | suc k ↦ refusedLine (own s) ]) h
+
+  module _ (a b w f o : List ℕ) (room : FindRoom a b w f o) (a′ b′ : List ℕ) (r : Read) (t : Reading s a a′ b b′ r) where
+    pub find-refused : (r .number ≡ 0 → ⊥) → (o′ : List ℕ) (k : ℕ) → Printed (refusedLine (refusal (r .number) (r .detail))) o o′ k → Printed (findSheet s x) o o′ k
+    find-refused z o′ k p =
+        let (n, h) = refused-number s a b (room .file) a′ b′ r t z in
+        printed-is (refusedLine (refusal (r .number) (r .detail))) (findSheet s x) o o′ k
+        (ap refusedLine (refused-as s a b (room .file) a′ b′ r t z) ∙ sym (find-speaks n h)) p
+
+    pub find-printed : r .number ≡ 0 → (m : ℕ) → Trimmed x m → (o′ : List ℕ) (k : ℕ) → Printed (textSheet (take (r .letters) a′) (take (r .slips) b′) (take m x)) o o′ k → Printed (findSheet s x) o o′ k
+    find-printed z m q o′ k p =
+        printed-is (textSheet (take (r .letters) a′) (take (r .slips) b′) (take m x)) (findSheet s x) o o′ k
+        (rw (letters-first s a a′ b b′ r t z, ends-first s a a′ b b′ r t z, q .is) (sym (find-silent (silent s a b (room .file) a′ b′ r t z)))) p

@@ -2,11 +2,13 @@
 use layout::JOINS;
 use layout::PLACES;
 ghost use Rattle.sheets.specs.Printing.{Printed};
-ghost use Rattle.sheets.specs.Programs.{traySheet, composeSheet};
-ghost use Rattle.printing.specs.Lent.{TrayRoom, ComposeRoom};
+ghost use Rattle.sheets.specs.Programs.{traySheet, composeSheet, textSheet, findSheet};
+ghost use Rattle.printing.specs.Lent.{TrayRoom, ComposeRoom, TextRoom, FindRoom, Trimmed};
 
 // So many joins and places are taken: no accepted tray has more.
 const ROWS: usize = 200;
+
+const LF: u8 = b'\n';
 
 // The sheet of a tray, or the line of its refusal. Answers how many bytes it has.
 fn tray_sheet(
@@ -55,4 +57,64 @@ pub fn compose_sheet(
     let n = read.letters as usize;
     let k = read.slips as usize;
     tray_sheet(&letters[..n], &ends[..k], work, legend, out)
+}
+
+// The length of the text in a text file: one final LF is not counted.
+fn text_length(text: &[u8]) -> usize
+    ensures { λ r. ⌜ Trimmed (now (text .entry)) r ⌝ }
+{
+    let n = text.len();
+    if n == 0 {
+        return 0;
+    }
+    let last = n - 1;
+    if text[last] == LF {
+        return last;
+    }
+    n
+}
+
+// The sheet of a tray and a text, or the line of its refusal. Answers how many bytes it has.
+fn text_sheet(
+    letters: &[u8],
+    ends: &[u16],
+    text: &[u8],
+    work: &mut [u16],
+    found: &mut [u32],
+    out: &mut [u8],
+) -> usize
+    requires { ⌜ TextRoom (now work) (now found) (now out) ⌝ }
+    ensures { λ r. ⌜ Printed (textSheet (now (letters .entry)) (now (ends .entry)) (now (text .entry))) (now (out .entry)) (now (out .exit)) r ⌝ }
+{
+    let a = finding::find_flat(letters, ends, text, work, found);
+    if a.number != 0 {
+        return sheets::refused_line(a.number, a.detail, out);
+    }
+    let moves = a.moves as usize;
+    let count = a.count as usize;
+    let numbers = 2 * count;
+    sheets::find_lines(text.len(), moves, count, &found[..numbers], out)
+}
+
+// The sheet that `find` prints for a tray file and a text file. Letters, ends, work area and occurrences are lent for the work.
+pub fn find_sheet(
+    tray: &[u8],
+    text: &[u8],
+    letters: &mut [u8],
+    ends: &mut [u16],
+    work: &mut [u16],
+    found: &mut [u32],
+    out: &mut [u8],
+) -> usize
+    requires { ⌜ FindRoom (now letters) (now ends) (now work) (now found) (now out) ⌝ }
+    ensures { λ r. ⌜ Printed (findSheet (now (tray .entry)) (now (text .entry))) (now (out .entry)) (now (out .exit)) r ⌝ }
+{
+    let got = files::read_tray(tray, letters, ends);
+    if got.number != 0 {
+        return sheets::refused_line(got.number, got.detail, out);
+    }
+    let n = got.letters as usize;
+    let k = got.slips as usize;
+    let m = text_length(text);
+    text_sheet(&letters[..n], &ends[..k], &text[..m], work, found, out)
 }

@@ -1,14 +1,14 @@
--- Computed specimens of the sheets: document 01's two, whole, the empty tray's, refusals, and what `compose` prints for files. Modules are checked in the order of their
--- names: an edited layout is refused here first.
+-- Computed specimens of the sheets: document 01's two, whole, the empty tray's, refusals, and what `compose` and `find` print for files.
+-- Modules are checked in the order of their names: an edited layout is refused here first.
 use mathlib.Core.Path.{_≡_, refl}
-use mathlib.Core.List.{List, [], _∷_, map}
+use mathlib.Core.List.{List, [], _∷_, _++_, map}
 use Prim.Native.Nat.{ℕ}
+use lib.ListN.{replicate}
 use Rattle.words.specs.Quoted.{word}
-use Rattle.trays.specs.Faults.{refusal}
-use Rattle.trays.specs.Faults.{trayFault}
+use Rattle.trays.specs.Faults.{refusal, trayFault}
 use Rattle.files.specs.Faults.{readFault}
 use Rattle.sheets.specs.Sheets.{decimal, column, composeSheetOf, findSheetOf, refusedLine}
-use Rattle.sheets.specs.Programs.{fileFault, composeSheet}
+use Rattle.sheets.specs.Programs.{fileFault, composeSheet, textFault, findFault, findSheet}
 
 abbrev tray : List (List ℕ)
 tray = map word ("IMPCAES" ∷ "AES" ∷ "CAESAVG" ∷ "VGPIVS" ∷ "SIMP" ∷ [])
@@ -59,3 +59,32 @@ pub compose-file-specimens :
     ∷ word "REFUSED   6     1\n" ∷ [])
 unfolding decimal column composeSheetOf trayFault readFault fileFault composeSheet
 compose-file-specimens = refl
+
+-- from both files' bytes: document 01's text with and without LF, no text, and what is turned back, the tray before the text
+abbrev sample : List ℕ
+sample = word "   1   7 IMPCAES\n   2   3 AES\n   3   7 CAESAVG\n   4   6 VGPIVS\n   5   4 SIMP\n"
+
+pub find-file-specimens :
+    map (findSheet sample) (word "IMPCAESAVG\n" ∷ word "IMPCAESAVG" ∷ [] ∷ word "\n" ∷ word "IMPCAESAVG\n\n" ∷ word "AVg" ∷ [])
+    ≡ (word "FIND  10  11     3\n   7   1\n   7   2\n  10   3\n"
+    ∷ word "FIND  10  11     3\n   7   1\n   7   2\n  10   3\n"
+    ∷ word "FIND   0   0     0\n"
+    ∷ word "FIND   0   0     0\n"
+    ∷ word "REFUSED  13    11\n"
+    ∷ word "REFUSED  13     3\n" ∷ [])
+unfolding decimal column findSheetOf trayFault readFault textFault findFault findSheet
+find-file-specimens = refl
+
+pub find-tray-specimens :
+    map (λ (file : List ℕ). findSheet file (word "av"))
+    (word "   1   3 AVG\n   2   3 AVG" ∷ word "   1   2 av\n   3   2 av\n" ∷ word "   1   2 av\n" ∷ [] ∷ [])
+    ≡ (word "REFUSED  17     2\n" ∷ word "REFUSED  18     2\n" ∷ word "REFUSED   6     1\n" ∷ word "REFUSED  13     1\n" ∷ [])
+unfolding decimal column findSheetOf trayFault readFault textFault findFault findSheet
+find-tray-specimens = refl
+
+-- 2,000 letters with their LF, and one more
+pub long-text-specimens :
+    map (findSheet []) ((replicate 2000 65 ++ word "\n") ∷ (replicate 2001 65 ++ word "\n") ∷ [])
+    ≡ (word "FIND20002000     0\n" ∷ word "REFUSED  12     0\n" ∷ [])
+unfolding decimal column findSheetOf trayFault readFault textFault findFault findSheet
+long-text-specimens = refl

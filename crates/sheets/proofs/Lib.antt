@@ -11,4 +11,6 @@ pub mod Fitting
 pub mod RefusalsFit
 pub mod Sizes
 pub mod ProgramSizes
+pub mod TextRows
+pub mod LongFiles
 pub mod Printing

@@ -1,0 +1,36 @@
+-- The text of a text file: one final LF is not counted.
+--   trim-..        == the three ways through text_length
+--   trimmed-count  == the text is the first part of the file
+use mathlib.Core.Path.{_≡_, refl, sym, _∙_, ap}
+use mathlib.Core.Bool.{Bool, true, false}
+use mathlib.Core.List.{List, [], _∷_}
+use Prim.Native.Nat.{ℕ, _-_}
+use borrow.Author.Tests.{eq-eqb, ne-eqb}
+use native.Mathlib.Omega.{arith}
+use lib.ListN.{length, getD, take}
+use lib.Seq.{take-length, length-take-le}
+use Rattle.words.specs.Lists.{lastOr}
+use Rattle.trays.proofs.CheckLoops.{last-some}
+use Rattle.files.specs.Lines.{lf}
+use Rattle.printing.specs.Lent.{Trimmed}
+
+pub trim-empty : (x : List ℕ) → length x ≡ 0 → Trimmed x 0
+trim-empty [] z = record { within = omega arith; is = refl }
+trim-empty (b ∷ x) z = absurd (omega arith)
+
+-- the text, where the test for a final LF says b
+abbrev told : List ℕ → Bool → List ℕ
+told x b = elim b [ true ↦ take (length x - 1) x | false ↦ x ]
+
+module _ (x : List ℕ) (some : length x ≡ 0 → ⊥) where
+  last : getD x (length x - 1) 0 ≡ lastOr 0 x
+  last = last-some x (getD x (length x - 1) 0) some refl
+
+  pub trim-ended : getD x (length x - 1) 0 ≡ lf → Trimmed x (length x - 1)
+  trim-ended e = record { within = omega arith; is = sym (ap (told x) (eq-eqb (lastOr 0 x) lf (sym last ∙ e))) }
+
+  pub trim-open : (getD x (length x - 1) 0 ≡ lf → ⊥) → Trimmed x (length x)
+  trim-open e = record { within = omega arith; is = take-length x ∙ sym (ap (told x) (ne-eqb (lastOr 0 x) lf (λ q. e (last ∙ q)))) }
+
+pub trimmed-count : (x : List ℕ) (m : ℕ) → Trimmed x m → m ≡ length (take m x)
+trimmed-count x m q = sym (length-take-le m x (q .within))
