@@ -119,8 +119,8 @@ module _ {s es : List ℕ} {n count : ℕ} {w₀ w : List ℕ} {v : ℕ} (F : Fi
         known = record {
           branched = branched-kept near-kept (F .branched);
           near = rw near-patterns (λ x c l i a b.
-          let k : x ≤ count = omega (arith, i, F .branched .numbered .all-nodes) in
-          F .done x c (h x l k) k a b);
+              let k : x ≤ count = omega (arith, i, F .branched .numbered .all-nodes) in
+              F .done x c (h x l k) k a b);
         };
         only = F .only;
       }
