@@ -1,11 +1,11 @@
 -- What the work area keeps of its meaning when cells above a place are written.
 --   only-kept       == a frame whose places are all from b on keeps the cells below b
 --   members-kept    == the members, patterns-kept == their letters
---   numbered-kept   == the numbering, branched-kept == the children, automaton-kept == the failure links
+--   numbered-kept   == the numbering, branched-kept == the children, near-kept == those of the first nodes, automaton-kept == the failure links
 -- The tables of each stage stand below those of the next, and their meaning depends on their cells alone.
 use mathlib.Core.Path.{_≡_, sym, ap, _∙_}
 use mathlib.Core.List.{List}
-use Prim.Native.Nat.{ℕ, suc, _+_, _-_, _≤_, _<_}
+use Prim.Native.Nat.{ℕ, suc, _+_, _-_, _*_, _≤_, _<_}
 use native.Mathlib.Omega.{arith}
 use lib.ListN.{length, getD, drop, length-take, length-drop}
 use lib.Seq.{getD-take, getD-drop}
@@ -17,8 +17,8 @@ use Rattle.trays.proofs.Accepted.{accepted-tells, span-fits, span-slip}
 use Rattle.tables.specs.Tables.{Only}
 use Rattle.tables.proofs.Tables.{table-same}
 use Rattle.matching.specs.Nodes.{nodes}
-use Rattle.layout.specs.Layout.{MEMBERS, AT, OWN, LEVEL, KID, FAIL, HEAD}
-use Rattle.layout.specs.Tables.{cell, members, patterns, LevelIs, KidIs}
+use Rattle.layout.specs.Layout.{MEMBERS, AT, OWN, LEVEL, KID, NEAR, FAIL, HEAD, nearLetters, firstSign}
+use Rattle.layout.specs.Tables.{cell, members, patterns, LevelIs, KidIs, NearIs}
 use Rattle.layout.specs.Numbered.{patternsIn, Numbered, Branched, Automaton, Kept}
 
 pub only-kept : {P : ℕ → Type 0} {w w′ : List ℕ} (b : ℕ) → Only P w w′ → ((p : ℕ) → P p → b ≤ p) → Kept b w w′
@@ -89,7 +89,7 @@ module _ {w w′ : List ℕ} where
           level = rw m (level-same _ _ (cell w LEVEL) (cell w′ LEVEL) (λ d h. k .cells (LEVEL + d) (omega arith)) (N .level));
         }
 
-    pub branched-kept : Kept FAIL w w′ → Branched s es n count w → Branched s es n count w′
+    pub branched-kept : Kept NEAR w w′ → Branched s es n count w → Branched s es n count w′
     branched-kept k B =
         let N = B .numbered in
         let e = patterns-kept N (omega arith) k in
@@ -99,11 +99,17 @@ module _ {w w′ : List ℕ} where
               rw e (kid-same _ (cell w KID) (cell w′ KID) (λ v h. k .cells (KID + v) (omega (arith, N .all-nodes, N .few-nodes))) (B .kids));
         }
 
+    pub near-kept : Kept FAIL w w′ → Numbered s es n count w → NearIs (patternsIn s es n w) (cell w NEAR) → NearIs (patternsIn s es n w′) (cell w′ NEAR)
+    near-kept k N f =
+        rw (patterns-kept N (omega arith) k) (λ v c h i a b.
+        rw (k .cells (NEAR + (nearLetters * v + (c - firstSign))) (omega arith)) (f v c h i a b))
+
     pub automaton-kept : Kept HEAD w w′ → Automaton s es n count w → Automaton s es n count w′
     automaton-kept k A =
         let N = A .branched .numbered in
         let e = patterns-kept N (omega arith) k in
         record {
-          branched = branched-kept (kept-lower FAIL (omega arith) k) (A .branched);
+          branched = branched-kept (kept-lower NEAR (omega arith) k) (A .branched);
+          near = near-kept (kept-lower FAIL (omega arith) k) N (A .near);
           fails = rw e (λ v m. rw (k .cells (FAIL + v) (omega (arith, m .inside, N .all-nodes, N .few-nodes))) (A .fails v m));
         }

@@ -29,54 +29,71 @@ OWN = 2642
 abbrev pub KID : ℕ
 KID = 4643
 
+-- 1260 cells: for each of the first nodes and each letter the child, 0 for none
+abbrev pub NEAR : ℕ
+NEAR = 6645
+
+-- so many nodes and letters NEAR has, and its first and last letter: the root and the nodes of one letter are among the first
+abbrev pub nearNodes : ℕ
+nearNodes = 28
+
+abbrev pub nearLetters : ℕ
+nearLetters = 45
+
+abbrev pub firstSign : ℕ
+firstSign = 46
+
+abbrev pub lastSign : ℕ
+lastSign = 90
+
 -- 2001 cells: for each node its failure link
 abbrev pub FAIL : ℕ
-FAIL = 6645
+FAIL = 7905
 
 -- 2001 cells: for each node the lowest member whose letters it is, 0 for none
 abbrev pub HEAD : ℕ
-HEAD = 8646
+HEAD = 9906
 
 -- 201 cells: for each member the next higher one of the same letters, 0 for none
 abbrev pub TWIN : ℕ
-TWIN = 10647
+TWIN = 11907
 
 -- 2001 cells: 1 for a node that is some node's failure link
 abbrev pub MARK : ℕ
-MARK = 10848
+MARK = 12108
 
 -- 200 cells: the kept members, ascending
 abbrev pub KEPT : ℕ
-KEPT = 12849
+KEPT = 14109
 
 -- 2001 cells: for each node the lowest kept member that begins with it, 0 for none
 abbrev pub STARTS : ℕ
-STARTS = 13049
+STARTS = 14309
 
 -- 2000 cells: the next such member, at the position of the node's last letter in the one before
 abbrev pub STARTS-NEXT : ℕ
-STARTS-NEXT = 15050
+STARTS-NEXT = 16310
 
 -- 2001 cells: for each node the lowest kept member that properly ends with it, 0 for none
 abbrev pub ENDS : ℕ
-ENDS = 17050
+ENDS = 18310
 
 -- 2000 cells: the next such member, at the position of the node's first letter in the one before
 abbrev pub ENDS-NEXT : ℕ
-ENDS-NEXT = 19051
+ENDS-NEXT = 20311
 
 -- 600 cells: the joins in the order made: left slip, right slip, overlap
 abbrev pub JOINS : ℕ
-JOINS = 21051
+JOINS = 22311
 
 -- 400 cells: for each slip its place, and 1 if it is kept
 abbrev pub PLACES : ℕ
-PLACES = 21651
+PLACES = 22911
 
 -- 2001 cells: for each node the next node on its failure path that is a member, 0 for none
 abbrev pub OUT : ℕ
-OUT = 22051
+OUT = 23311
 
 -- 2001 cells: for each node how many members end it
 abbrev pub TALLY : ℕ
-TALLY = 24052
+TALLY = 25312

@@ -2,7 +2,7 @@
 --   patternsIn s es n w         == the letters of the members
 --   Numbered s es n count w     == the tray is accepted, and the nodes of the members' letters are numbered up to count
 --   Branched s es n count w     == and the children of each node are known
---   Automaton s es n count w    == and its failure link
+--   Automaton s es n count w    == and those of the first nodes by letters, and the failure link of each node
 --   Headed s es n count w       == and the members of each node's letters
 --   Kept b w w′                 == w′ is as long as w, and has its cells below b
 use mathlib.Core.Path.{_≡_}
@@ -14,8 +14,8 @@ use Rattle.trays.specs.Limits.{maxSlips, maxSlip, maxLetters, workNeed}
 use Rattle.trays.specs.Slips.{slipsOf}
 use Rattle.trays.specs.Faults.{trayFault}
 use Rattle.matching.specs.Nodes.{nodes}
-use Rattle.layout.specs.Layout.{AT, OWN, LEVEL, KID, FAIL, HEAD, TWIN}
-use Rattle.layout.specs.Tables.{cell, members, patterns, AtIs, OwnIs, LevelIs, KidIs, FailIs, HeadIs}
+use Rattle.layout.specs.Layout.{AT, OWN, LEVEL, KID, NEAR, FAIL, HEAD, TWIN}
+use Rattle.layout.specs.Tables.{cell, members, patterns, AtIs, OwnIs, LevelIs, KidIs, NearIs, FailIs, HeadIs}
 
 abbrev pub patternsIn : List ℕ → List ℕ → ℕ → List ℕ → List (List ℕ)
 patternsIn s es n w = patterns (slipsOf s es) (members w n)
@@ -38,6 +38,7 @@ pub record Branched (s es : List ℕ) (n count : ℕ) (w : List ℕ) : Type 0 wh
 
 pub record Automaton (s es : List ℕ) (n count : ℕ) (w : List ℕ) : Type 0 where
   pub branched : Branched s es n count w
+  pub near : NearIs (patternsIn s es n w) (cell w NEAR)
   pub fails : FailIs (patternsIn s es n w) (cell w FAIL)
 
 pub record Headed (s es : List ℕ) (n count : ℕ) (w : List ℕ) : Type 0 where

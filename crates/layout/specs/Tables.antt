@@ -4,20 +4,22 @@
 --   members w n           == the members, n of them
 --   patterns ss M         == the letters of the members
 --   AtIs, OwnIs, ..       == the meaning of the table AT, OWN, .. (see Layout)
+--   Child ps v c r        == r is the node of the string of v with the letter c, 0 if that is no node
 --   FailUpTo ps k fail    == the failure links of the nodes up to k are right
 --   Linked next i xs      == from i along next run the numbers xs, then 0
 use mathlib.Core.Path.{_≡_}
+use mathlib.Core.Bool.{false}
 use mathlib.Core.List.{List, [], _∷_, _++_, map}
-use Prim.Native.Nat.{ℕ, suc, _+_, _-_, _≤_, _<_}
+use Prim.Native.Nat.{ℕ, suc, _+_, _-_, _*_, _≤_, _<_}
 use lib.ListN.{length, getD, take}
 use Rattle.words.specs.Lists.{those, headOr, tailOf}
 use Rattle.words.specs.Words.{same, begins, endsProperly}
 use Rattle.words.proofs.Members.{In}
 use Rattle.trays.specs.Slips.{slip, startOf, endOf}
 use Rattle.tables.specs.Tables.{table}
-use Rattle.matching.specs.Moves.{longestEnding}
+use Rattle.matching.specs.Moves.{beginsSome, longestEnding}
 use Rattle.matching.specs.Nodes.{nodes, string, IsNode, Num}
-use Rattle.layout.specs.Layout.{MEMBERS}
+use Rattle.layout.specs.Layout.{MEMBERS, nearNodes, nearLetters, firstSign, lastSign}
 
 abbrev pub cell : List ℕ → ℕ → ℕ → ℕ
 cell w base i = getD w (base + i) 0
@@ -58,6 +60,15 @@ pub record KidIs (ps : List (List ℕ)) (kid : ℕ → ℕ) : Type 0 where
   pub some : (v : ℕ) → v ≤ length (nodes ps) → (1 ≤ kid v) × (kid v ≤ length (nodes ps))
   pub into : (v u c : ℕ) → v < length (nodes ps) → Num ps u → string ps u ≡ string ps v ++ (c ∷ []) → (kid v ≤ u) × (u < kid (suc v))
   pub back : (v u : ℕ) → v < length (nodes ps) → Num ps u → kid v ≤ u → u < kid (suc v) → (c : ℕ) × (string ps u ≡ string ps v ++ (c ∷ []))
+
+-- NEAR: the child of each of the first nodes by each letter
+pub record Child (ps : List (List ℕ)) (v c r : ℕ) : Type 0 where
+  pub node : (r ≡ 0 → ⊥) → IsNode ps r (string ps v ++ (c ∷ []))
+  pub none : r ≡ 0 → beginsSome (string ps v ++ (c ∷ [])) ps ≡ false
+
+abbrev pub NearIs : List (List ℕ) → (ℕ → ℕ) → Type 0
+NearIs ps near =
+    (v c : ℕ) → v < nearNodes → v < length (nodes ps) → firstSign ≤ c → c ≤ lastSign → Child ps v c (near (nearLetters * v + (c - firstSign)))
 
 -- FAIL: the failure link of a node is the longest proper ending of its string that begins a member
 abbrev pub FailUpTo : List (List ℕ) → ℕ → (ℕ → ℕ) → Type 0

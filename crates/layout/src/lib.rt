@@ -16,28 +16,38 @@ pub const OWN: usize = 2642;
 
 pub const KID: usize = 4643;
 
-pub const FAIL: usize = 6645;
+pub const NEAR: usize = 6645;
 
-pub const HEAD: usize = 8646;
+pub const NEAR_NODES: usize = 28;
 
-pub const TWIN: usize = 10647;
+pub const NEAR_LETTERS: usize = 45;
 
-pub const MARK: usize = 10848;
+pub const FIRST_SIGN: u8 = 46;
 
-pub const KEPT: usize = 12849;
+pub const LAST_SIGN: u8 = 90;
 
-pub const STARTS: usize = 13049;
+pub const FAIL: usize = 7905;
 
-pub const STARTS_NEXT: usize = 15050;
+pub const HEAD: usize = 9906;
 
-pub const ENDS: usize = 17050;
+pub const TWIN: usize = 11907;
 
-pub const ENDS_NEXT: usize = 19051;
+pub const MARK: usize = 12108;
 
-pub const JOINS: usize = 21051;
+pub const KEPT: usize = 14109;
 
-pub const PLACES: usize = 21651;
+pub const STARTS: usize = 14309;
 
-pub const OUT: usize = 22051;
+pub const STARTS_NEXT: usize = 16310;
 
-pub const TALLY: usize = 24052;
+pub const ENDS: usize = 18310;
+
+pub const ENDS_NEXT: usize = 20311;
+
+pub const JOINS: usize = 22311;
+
+pub const PLACES: usize = 22911;
+
+pub const OUT: usize = 23311;
+
+pub const TALLY: usize = 25312;

@@ -15,9 +15,9 @@ use Rattle.matching.specs.Moves.{beginsSome}
 use Rattle.matching.specs.Nodes.{nodes, string, Num}
 use Rattle.matching.proofs.NodeLaws.{node-of}
 use Rattle.layout.specs.Layout.{KID}
-use Rattle.layout.specs.Tables.{cell}
+use Rattle.layout.specs.Tables.{cell, Child}
 use Rattle.layout.specs.Numbered.{patternsIn, Branched}
-use Rattle.links.specs.Links.{parentOf, letterOf, Lettered, Child}
+use Rattle.links.specs.Links.{parentOf, letterOf, Lettered}
 use Rattle.links.proofs.Parents.{parents-ascend, child-parent, lettered}
 
 -- no node has the string of v with the letter c

@@ -15,11 +15,11 @@ use Rattle.matching.specs.Nodes.{nodes, string, IsNode, Num}
 use Rattle.matching.proofs.States.{fail, step-state}
 use Rattle.matching.proofs.NodeLaws.{nodes-numbered, is-root, node-fails}
 use Rattle.matching.proofs.Paths.{fail-root, fail-from}
-use Rattle.layout.specs.Layout.{FAIL}
+use Rattle.layout.specs.Layout.{NEAR, FAIL}
 use Rattle.layout.specs.Tables.{cell, FailUpTo}
-use Rattle.layout.specs.Numbered.{patternsIn, Branched, Kept}
-use Rattle.layout.proofs.Frames.{only-kept, patterns-kept, branched-kept}
-use Rattle.links.specs.Links.{parentOf, letterOf, StepIs, LinkIs, CanStep, CanLink, KidsFilled, FailsFilled, LinksFilled}
+use Rattle.layout.specs.Numbered.{patternsIn, Kept}
+use Rattle.layout.proofs.Frames.{only-kept, kept-lower, patterns-kept, branched-kept, near-kept}
+use Rattle.links.specs.Links.{parentOf, letterOf, StepIs, LinkIs, Near, CanStep, CanLink, KidsFilled, NearFilled, FailsFilled, LinksFilled}
 use Rattle.links.proofs.Parents.{parents-tree, parent-below}
 
 module _ {s es : List ℕ} {n count : ℕ} {w : List ℕ} {v p : ℕ} (C : CanLink s es n count w v) (e : p ≡ parentOf w v) where
@@ -51,6 +51,7 @@ module _ {s es : List ℕ} {n count : ℕ} {w : List ℕ} {v p : ℕ} (C : CanLi
         let l = node-fails ps p parent from in
         record {
           branched = C .branched;
+          near = C .near;
           node = omega (arith, above, C .node);
           links = C .links f (omega (arith, above));
         }
@@ -66,16 +67,16 @@ module _ {s es : List ℕ} {n count : ℕ} {w : List ℕ} {v p : ℕ} (C : CanLi
         }
 
 pub record FillingFails (s es : List ℕ) (n count : ℕ) (w₀ w : List ℕ) (v : ℕ) : Type 0 where
-  pub branched : Branched s es n count w₀
+  pub known : Near s es n count w₀
   pub only : Only (Cells FAIL 2001) w₀ w
   pub some : 1 ≤ v
   pub upto : v ≤ count + 1
   pub links : (k : ℕ) → k < v → FailUpTo (patternsIn s es n w₀) k (cell w FAIL)
 
-pub fails-start : {s es : List ℕ} {n count : ℕ} {w : List ℕ} → Branched s es n count w → FillingFails s es n count w w 1
-fails-start B =
+pub fails-start : {s es : List ℕ} {n count : ℕ} {w : List ℕ} → Near s es n count w → FillingFails s es n count w w 1
+fails-start K =
     record {
-      branched = B;
+      known = K;
       only = only-refl;
       some = omega arith;
       upto = omega arith;
@@ -87,15 +88,21 @@ module _ {s es : List ℕ} {n count : ℕ} {w₀ w : List ℕ} {v : ℕ} (F : Fi
   kept = only-kept FAIL (F .only) (λ p q. q .from)
 
   same-patterns : patternsIn s es n w ≡ patternsIn s es n w₀
-  same-patterns = patterns-kept (F .branched .numbered) (omega arith) kept
+  same-patterns = patterns-kept (F .known .branched .numbered) (omega arith) kept
+
+  known : Near s es n count w
+  known =
+      let B = F .known .branched in
+      record { branched = branched-kept (kept-lower NEAR (omega arith) kept) B; near = near-kept kept (B .numbered) (F .known .near) }
 
   pub fails-can : v ≤ count → CanLink s es n count w v
-  fails-can h = record { branched = branched-kept kept (F .branched); some = F .some; node = h; links = rw same-patterns (F .links) }
+  fails-can h =
+      record { branched = known .branched; near = known .near; some = F .some; node = h; links = rw same-patterns (F .links) }
 
   module _ {r : ℕ} (h : v ≤ count) (i : LinkIs (patternsIn s es n w) v r) where
     pub fails-room : Room w FAIL v r
     fails-room =
-        let N = F .branched .numbered in
+        let N = F .known .branched .numbered in
         let f = N .few-nodes in
         record {
           within = omega (arith, F .only .same, N .room);
@@ -106,8 +113,8 @@ module _ {s es : List ℕ} {n count : ℕ} {w₀ w : List ℕ} {v : ℕ} (F : Fi
     fails-put v′ p e =
         let here : FAIL + v < length w = fails-room .within in
         record {
-          branched = F .branched;
-          only = cells-put (F .only) p (omega (arith, F .branched .numbered .few-nodes));
+          known = F .known;
+          only = cells-put (F .only) p (omega (arith, F .known .branched .numbered .few-nodes));
           some = omega arith;
           upto = omega arith;
           links = λ k l x m q. elim (ℕ-discrete x v) [
@@ -120,15 +127,18 @@ module _ {s es : List ℕ} {n count : ℕ} {w₀ w : List ℕ} {v : ℕ} (F : Fi
   fails-all h =
       record {
         automaton = record {
-          branched = branched-kept kept (F .branched);
-          fails = rw same-patterns (λ x m. F .links x (omega (arith, m .inside, F .branched .numbered .all-nodes)) x m (omega arith));
+          branched = known .branched;
+          near = known .near;
+          fails = rw same-patterns (λ x m. F .links x (omega (arith, m .inside, F .known .branched .numbered .all-nodes)) x m (omega arith));
         };
         only = F .only;
       }
 
-pub links-filled : {s es : List ℕ} {n count : ℕ} {w w₁ w₂ : List ℕ} → KidsFilled s es n count w w₁ → FailsFilled s es n count w₁ w₂ → LinksFilled s es n count w w₂
-links-filled k f =
+pub links-filled : {s es : List ℕ} {n count : ℕ} {w w₁ w₂ w₃ : List ℕ} → KidsFilled s es n count w w₁ → NearFilled s es n count w₁ w₂ → FailsFilled s es n count w₂ w₃
+    → LinksFilled s es n count w w₃
+links-filled k g f =
     record {
       automaton = f .automaton;
-      only = only-trans (only-wider (k .only) (λ p q. omega (arith, q .from, q .below))) (only-wider (f .only) (λ p q. omega (arith, q .from, q .below)));
+      only = only-trans (only-wider (k .only) (λ p q. omega (arith, q .from, q .below)))
+          (only-trans (only-wider (g .only) (λ p q. omega (arith, q .from, q .below))) (only-wider (f .only) (λ p q. omega (arith, q .from, q .below))));
     }

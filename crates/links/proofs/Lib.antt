@@ -2,5 +2,6 @@
 pub mod Parents
 pub mod Kids
 pub mod Children
+pub mod Near
 pub mod Steps
 pub mod Fails

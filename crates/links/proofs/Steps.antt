@@ -18,8 +18,9 @@ use Rattle.matching.specs.Nodes.{string, IsNode, Num}
 use Rattle.matching.proofs.States.{fail, step-hit, step-stop, step-drop, step-enough, longest-length, longest-next}
 use Rattle.matching.proofs.NodeLaws.{node-root, is-root, node-some, node-fails}
 use Rattle.layout.specs.Layout.{FAIL}
+use Rattle.layout.specs.Tables.{Child}
 use Rattle.layout.specs.Numbered.{patternsIn, Numbered, Automaton}
-use Rattle.links.specs.Links.{Child, StepIs, CanStep}
+use Rattle.links.specs.Links.{StepIs, CanLook, CanStep}
 
 -- one drop of a state with a letter
 step-fall : (ps : List (List ℕ)) (x : List ℕ) (c d : ℕ) → 1 ≤ length x → beginsSome (x ++ (c ∷ [])) ps ≡ false
@@ -46,8 +47,11 @@ module _ {s es : List ℕ} {n count : ℕ} {w : List ℕ} {v c u d : ℕ} (D : D
   reached : {r : ℕ} {x : List ℕ} → step ps (string ps v) c ≡ stepped x d → IsNode ps r x → StepIs ps v c r d
   reached e m = record { state = record { inside = m .inside; is = m .is ∙ sym (ap (λ y. y .state) e) }; drops = sym (ap (λ y. y .drops) e) }
 
-  pub dropping-inside : u ≤ count
+  dropping-inside : u ≤ count
   dropping-inside = omega (arith, D .low, D .can .node)
+
+  pub dropping-looks : CanLook s es n count w u
+  dropping-looks = record { branched = D .can .branched; near = D .can .near; node = dropping-inside }
 
   pub dropping-extends : {r : ℕ} → Child ps u c r → (r ≡ 0 → ⊥) → StepIs ps v c r d
   dropping-extends {r} k h =
@@ -82,7 +86,7 @@ module _ {s es : List ℕ} {n count : ℕ} {w : List ℕ} {v c u d : ℕ} (D : D
 
 -- where all links are known a step is made from any node
 pub automaton-steps : {s es : List ℕ} {n count : ℕ} {w : List ℕ} (v : ℕ) → Automaton s es n count w → v ≤ count → CanStep s es n count w v
-automaton-steps v A h = record { branched = A .branched; node = h; links = λ x m l. A .fails x m }
+automaton-steps v A h = record { branched = A .branched; near = A .near; node = h; links = λ x m l. A .fails x m }
 
 pub node-within : {s es : List ℕ} {n count : ℕ} {w : List ℕ} {u : ℕ} {x : List ℕ} → Numbered s es n count w → IsNode (patternsIn s es n w) u x → u ≤ count
 node-within N m = omega (arith, m .inside, N .all-nodes)

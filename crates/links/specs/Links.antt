@@ -3,24 +3,27 @@
 --   letterOf s w u        == its last letter
 --   Placed w u            == the cells that tell the parent of u are there
 --   Lettered s w u        == those that tell its letter
---   Child ps v c r        == r is the node of the string of v with the letter c, 0 if that is no node
 --   StepIs ps v c u d     == one letter c read in the state of node v leads to the state of node u by d drops
 --   LinkIs ps v r         == r is the failure link of node v
---   CanStep .. v          == the children are known, and the failure links of the nodes up to v
---   CanLink .. v          == the children are known, and the failure links of the nodes below v
---   KidsFilled, FailsFilled, LinksFilled == only the table KID, or FAIL, or both were written, and they are right
+--   Near ..               == the children are known, and the table NEAR of those of the first nodes
+--   CanFill .. v          == the children are known, and v has a row in NEAR
+--   CanLook .. v          == v is a node of a work area with NEAR
+--   CanStep .. v          == and the failure links of the nodes up to v are known
+--   CanLink .. v          == and those of the nodes below v
+--   RowFilled .. v w w′   == only the row of v in NEAR was written, and it is right
+--   KidsFilled, NearFilled, FailsFilled, LinksFilled == only the table KID, or NEAR, or FAIL, or these three were written, and they are right
 use mathlib.Core.Path.{_≡_}
-use mathlib.Core.Bool.{false, cond}
-use mathlib.Core.List.{List, [], _∷_, _++_}
-use Prim.Native.Nat.{ℕ, _+_, _-_, _≤_, _<_}
+use mathlib.Core.Bool.{cond}
+use mathlib.Core.List.{List}
+use Prim.Native.Nat.{ℕ, _+_, _-_, _*_, _≤_, _<_}
 use lib.Dec.{ltb}
 use lib.ListN.{length, getD}
 use Rattle.words.specs.Lists.{tailOf}
 use Rattle.tables.specs.Tables.{Cells, Only}
-use Rattle.matching.specs.Moves.{beginsSome, longestEnding, step}
+use Rattle.matching.specs.Moves.{longestEnding, step}
 use Rattle.matching.specs.Nodes.{string, IsNode}
-use Rattle.layout.specs.Layout.{AT, OWN, LEVEL, KID, FAIL}
-use Rattle.layout.specs.Tables.{cell, FailUpTo}
+use Rattle.layout.specs.Layout.{AT, OWN, LEVEL, KID, NEAR, FAIL, nearNodes, nearLetters, firstSign, lastSign}
+use Rattle.layout.specs.Tables.{cell, Child, NearIs, FailUpTo}
 use Rattle.layout.specs.Numbered.{patternsIn, Branched, Automaton}
 
 -- a string of one letter has the empty string before it; the last letter of any other stands behind its parent's
@@ -39,10 +42,6 @@ pub record Lettered (s w : List ℕ) (u : ℕ) : Type 0 where
   pub own : OWN + u < length w
   pub within : cell w OWN u < length s
 
-pub record Child (ps : List (List ℕ)) (v c r : ℕ) : Type 0 where
-  pub node : (r ≡ 0 → ⊥) → IsNode ps r (string ps v ++ (c ∷ []))
-  pub none : r ≡ 0 → beginsSome (string ps v ++ (c ∷ [])) ps ≡ false
-
 pub record StepIs (ps : List (List ℕ)) (v c u d : ℕ) : Type 0 where
   pub state : IsNode ps u (step ps (string ps v) c .state)
   pub drops : d ≡ step ps (string ps v) c .drops
@@ -50,13 +49,29 @@ pub record StepIs (ps : List (List ℕ)) (v c u d : ℕ) : Type 0 where
 abbrev pub LinkIs : List (List ℕ) → ℕ → ℕ → Type 0
 LinkIs ps v r = IsNode ps r (longestEnding (tailOf (string ps v)) ps)
 
+pub record Near (s es : List ℕ) (n count : ℕ) (w : List ℕ) : Type 0 where
+  pub branched : Branched s es n count w
+  pub near : NearIs (patternsIn s es n w) (cell w NEAR)
+
+pub record CanFill (s es : List ℕ) (n count : ℕ) (w : List ℕ) (v : ℕ) : Type 0 where
+  pub branched : Branched s es n count w
+  pub node : v ≤ count
+  pub close : v < nearNodes
+
+pub record CanLook (s es : List ℕ) (n count : ℕ) (w : List ℕ) (v : ℕ) : Type 0 where
+  pub branched : Branched s es n count w
+  pub near : NearIs (patternsIn s es n w) (cell w NEAR)
+  pub node : v ≤ count
+
 pub record CanStep (s es : List ℕ) (n count : ℕ) (w : List ℕ) (v : ℕ) : Type 0 where
   pub branched : Branched s es n count w
+  pub near : NearIs (patternsIn s es n w) (cell w NEAR)
   pub node : v ≤ count
   pub links : FailUpTo (patternsIn s es n w) v (cell w FAIL)
 
 pub record CanLink (s es : List ℕ) (n count : ℕ) (w : List ℕ) (v : ℕ) : Type 0 where
   pub branched : Branched s es n count w
+  pub near : NearIs (patternsIn s es n w) (cell w NEAR)
   pub some : 1 ≤ v
   pub node : v ≤ count
   pub links : (k : ℕ) → k < v → FailUpTo (patternsIn s es n w) k (cell w FAIL)
@@ -65,10 +80,18 @@ pub record KidsFilled (s es : List ℕ) (n count : ℕ) (w w′ : List ℕ) : Ty
   pub branched : Branched s es n count w′
   pub only : Only (Cells KID 2002) w w′
 
+pub record RowFilled (s es : List ℕ) (n count v : ℕ) (w w′ : List ℕ) : Type 0 where
+  pub row : (c : ℕ) → firstSign ≤ c → c ≤ lastSign → Child (patternsIn s es n w) v c (cell w′ NEAR (nearLetters * v + (c - firstSign)))
+  pub only : Only (Cells (NEAR + nearLetters * v) nearLetters) w w′
+
+pub record NearFilled (s es : List ℕ) (n count : ℕ) (w w′ : List ℕ) : Type 0 where
+  pub known : Near s es n count w′
+  pub only : Only (Cells NEAR 1260) w w′
+
 pub record FailsFilled (s es : List ℕ) (n count : ℕ) (w w′ : List ℕ) : Type 0 where
   pub automaton : Automaton s es n count w′
   pub only : Only (Cells FAIL 2001) w w′
 
 pub record LinksFilled (s es : List ℕ) (n count : ℕ) (w w′ : List ℕ) : Type 0 where
   pub automaton : Automaton s es n count w′
-  pub only : Only (Cells KID 4003) w w′
+  pub only : Only (Cells KID 5263) w w′

@@ -2,8 +2,10 @@
 // A tray has `letters` and `ends`; its `n` members stand in the work area, and the nodes of their beginnings have the numbers up to `count`.
 ghost use mathlib.Core.Path.{_≡_};
 ghost use mathlib.Core.Bool.{_&&_};
-ghost use Prim.Native.Nat.{ℕ, _≤_, _<_};
+ghost use Prim.Native.Nat.{ℕ, _+_, _*_, _-_, _≤_, _<_};
 ghost use lib.Dec.{leb, ltb};
+ghost use Rattle.layout.specs.Layout.{nearNodes, nearLetters, firstSign, lastSign};
+ghost use Rattle.layout.specs.Tables.{Child};
 ghost use Rattle.layout.specs.Numbered.{patternsIn, Numbered, Branched};
 ghost use Rattle.links.specs.Links as L;
 
@@ -65,7 +67,7 @@ pub fn fill_kids(letters: &[u8], ends: &[u16], work: &mut [u16], n: usize, count
 }
 
 // The node of the string of node `v` with the letter `c`, or 0 if that is no node. Children ascend by their letters.
-pub fn child(
+fn scan_child(
     letters: &[u8],
     ends: &[u16],
     work: &[u16],
@@ -76,7 +78,7 @@ pub fn child(
 ) -> usize
     requires { ⌜ Branched (now letters) (now ends) n count (now work) ⌝ }
     requires { ⌜ v ≤ count ⌝ }
-    ensures { λ r. ⌜ L.Child (patternsIn (now (letters .entry)) (now (ends .entry)) n (now (work .entry))) v c r ⌝ }
+    ensures { λ r. ⌜ Child (patternsIn (now (letters .entry)) (now (ends .entry)) n (now (work .entry))) v c r ⌝ }
 {
     let end = tables::at(work, layout::KID, v + 1);
     let mut u = tables::at(work, layout::KID, v);
@@ -91,6 +93,69 @@ pub fn child(
         u += 1;
     }
     0
+}
+
+// The cell of NEAR for node `v` and the letter `c`.
+fn near_cell(v: usize, c: u8) -> usize
+    requires { ⌜ v < nearNodes ⌝ }
+    requires { ⌜ firstSign ≤ c ⌝ }
+    ensures { λ r. ⌜ r ≡ nearLetters * v + (c - firstSign) ⌝ }
+{
+    let sign = c - layout::FIRST_SIGN;
+    layout::NEAR_LETTERS * v + sign as usize
+}
+
+// The row of NEAR for node `v`, filled by scans.
+fn fill_row(letters: &[u8], ends: &[u16], work: &mut [u16], n: usize, count: usize, v: usize)
+    requires { ⌜ L.CanFill (now letters) (now ends) n count (now work) v ⌝ }
+    ensures { λ _. ⌜ L.RowFilled (now (letters .entry)) (now (ends .entry)) n count v (now (work .entry)) (now (work .exit)) ⌝ }
+{
+    let mut c: u8 = layout::FIRST_SIGN;
+    while c <= layout::LAST_SIGN {
+        let u = scan_child(letters, ends, work, n, count, v, c);
+        let cell = near_cell(v, c);
+        tables::put(work, layout::NEAR, cell, u);
+        c += 1;
+    }
+}
+
+// Fills NEAR, for the root and the nodes next to it: most steps look at these.
+fn fill_near(letters: &[u8], ends: &[u16], work: &mut [u16], n: usize, count: usize)
+    requires { ⌜ Branched (now letters) (now ends) n count (now work) ⌝ }
+    ensures { λ _. ⌜ L.NearFilled (now (letters .entry)) (now (ends .entry)) n count (now (work .entry)) (now (work .exit)) ⌝ }
+{
+    let mut v: usize = 0;
+    while v < layout::NEAR_NODES {
+        if count < v {
+            return;
+        }
+        fill_row(letters, ends, work, n, count, v);
+        v += 1;
+    }
+}
+
+// The child of node `v` by the letter `c`, or 0 if there is none: looked up near the root, found by a scan elsewhere.
+pub fn child(
+    letters: &[u8],
+    ends: &[u16],
+    work: &[u16],
+    n: usize,
+    count: usize,
+    v: usize,
+    c: u8,
+) -> usize
+    requires { ⌜ L.CanLook (now letters) (now ends) n count (now work) v ⌝ }
+    ensures { λ r. ⌜ Child (patternsIn (now (letters .entry)) (now (ends .entry)) n (now (work .entry))) v c r ⌝ }
+{
+    if v < layout::NEAR_NODES {
+        if layout::FIRST_SIGN <= c {
+            if c <= layout::LAST_SIGN {
+                let cell = near_cell(v, c);
+                return tables::at(work, layout::NEAR, cell);
+            }
+        }
+    }
+    scan_child(letters, ends, work, n, count, v, c)
 }
 
 // One letter read in the state of node `v`: the state drops along its failure links until the letter extends it or it is empty.
@@ -144,7 +209,7 @@ fn failure(letters: &[u8], ends: &[u16], work: &[u16], n: usize, count: usize, v
 
 // Fills FAIL, node by node: a node's parent and its link have lower numbers.
 pub fn fill_fails(letters: &[u8], ends: &[u16], work: &mut [u16], n: usize, count: usize)
-    requires { ⌜ Branched (now letters) (now ends) n count (now work) ⌝ }
+    requires { ⌜ L.Near (now letters) (now ends) n count (now work) ⌝ }
     ensures { λ _. ⌜ L.FailsFilled (now (letters .entry)) (now (ends .entry)) n count (now (work .entry)) (now (work .exit)) ⌝ }
 {
     let mut v: usize = 1;
@@ -155,11 +220,12 @@ pub fn fill_fails(letters: &[u8], ends: &[u16], work: &mut [u16], n: usize, coun
     }
 }
 
-// Fills KID and FAIL.
+// Fills KID, NEAR and FAIL.
 pub fn fill_links(letters: &[u8], ends: &[u16], work: &mut [u16], n: usize, count: usize)
     requires { ⌜ Numbered (now letters) (now ends) n count (now work) ⌝ }
     ensures { λ _. ⌜ L.LinksFilled (now (letters .entry)) (now (ends .entry)) n count (now (work .entry)) (now (work .exit)) ⌝ }
 {
     fill_kids(letters, ends, work, n, count);
+    fill_near(letters, ends, work, n, count);
     fill_fails(letters, ends, work, n, count);
 }

@@ -32,7 +32,7 @@ use Rattle.scanning.specs.declared.Scan.{Scan}
 
 -- behind the table TALLY
 abbrev pub SCAN : ℕ
-SCAN = 26053
+SCAN = 27313
 
 abbrev pub occursFrom : List (List ℕ) → List ℕ → ℕ → List Found
 occursFrom ss t e = each (λ p. map (found p) (endingAt ss (take p t))) (upFrom (suc e) (length t - e))

@@ -10,7 +10,7 @@ ghost use Rattle.layout.specs.Numbered.{patternsIn};
 ghost use Rattle.scanning.specs.Scanning as S;
 
 // Where a scan is kept in the work area, behind the tables.
-pub const SCAN: usize = 26053;
+pub const SCAN: usize = 27313;
 
 // The moves of a text, and how many occurrences it has.
 pub struct Counts {

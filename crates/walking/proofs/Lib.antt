@@ -1,4 +1,5 @@
 -- Laws of the walk over the tables, and the proofs of its functions.
+pub mod AllSpecimens
 pub mod RunLaws
 pub mod NextSlips
 pub mod ScanLaws

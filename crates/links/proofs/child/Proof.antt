@@ -1,62 +1,23 @@
-use Prim.Native.Nat.{_-_}
-use Rattle.links.proofs.Children.{Scanning, scan-start, scan-lettered, scan-hit, scan-past, scan-more, scan-none}
+use Rattle.links.proofs.Near.{near-got}
 use borrow.Author.Needs.{needs}
 use Rattle.links.proofs.child.Statement.{statement}
 use Rattle.links.proofs.child.Tie as tie
 
-abbrev Inv-loop : tie.InvT-loop
-Inv-loop letters ends work n count v c end u₀ u = Scanning letters ends n count work v c end u
+near-cell-requires : tie.Need-near-cell-requires
+near-cell-requires c κs = search needs
 
-abbrev μ-loop : tie.MeasureT-loop
-μ-loop letters ends work n count v c end u₀ u = end - u
-
-add-at : tie.Need-add-at Inv-loop μ-loop
-add-at c = search needs
-
-at-requires : tie.Need-at-requires Inv-loop μ-loop
+at-requires : tie.Need-at-requires
 at-requires c κs = search needs
 
-at-requires-2 : tie.Need-at-requires-2 Inv-loop μ-loop
-at-requires-2 c κs = search needs
+returns : tie.Need-returns
+returns c = search near-got
 
-loop-holds : tie.Need-loop-holds Inv-loop μ-loop
-loop-holds c = search scan-start
+scan-child-requires : tie.Need-scan-child-requires
+scan-child-requires c κs = search needs
 
-letter-requires : tie.Need-letter-requires Inv-loop μ-loop
-letter-requires c κs = search scan-lettered
-
-returns : tie.Need-returns Inv-loop μ-loop
-returns c = search scan-hit
-
-returns-2 : tie.Need-returns-2 Inv-loop μ-loop
-returns-2 c = search scan-past
-
-add-u : tie.Need-add-u Inv-loop μ-loop
-add-u c = search needs
-
-loop-less : tie.Need-loop-less Inv-loop μ-loop
-loop-less c = search needs
-
-loop-again : tie.Need-loop-again Inv-loop μ-loop
-loop-again c = search scan-more
-
-returns-3 : tie.Need-returns-3 Inv-loop μ-loop
-returns-3 c = search scan-none
+returns-2 : tie.Need-returns-2
+returns-2 c = search needs
 
 pub child-spec : {M : Type 1} → statement M
 child-spec =
-    tie.close
-    (tie.spec
-    Inv-loop
-    μ-loop
-    add-at
-    at-requires
-    at-requires-2
-    loop-holds
-    letter-requires
-    returns
-    returns-2
-    add-u
-    loop-less
-    loop-again
-    returns-3)
+    tie.close (tie.spec near-cell-requires at-requires returns scan-child-requires returns-2)

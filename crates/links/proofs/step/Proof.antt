@@ -1,4 +1,4 @@
-use Rattle.links.proofs.Steps.{Dropping, dropping-start, dropping-inside, dropping-extends, dropping-ends, dropping-falls, dropping-more}
+use Rattle.links.proofs.Steps.{Dropping, dropping-start, dropping-looks, dropping-extends, dropping-ends, dropping-falls, dropping-more}
 use borrow.Author.Needs.{needs}
 use Rattle.links.proofs.step.Statement.{statement}
 use Rattle.links.proofs.step.Tie as tie
@@ -13,7 +13,7 @@ loop-holds : tie.Need-loop-holds Inv-loop μ-loop
 loop-holds c = search dropping-start
 
 child-requires : tie.Need-child-requires Inv-loop μ-loop
-child-requires c κs = (search needs, search dropping-inside)
+child-requires c κs = search dropping-looks
 
 returns : tie.Need-returns Inv-loop μ-loop
 returns c = search dropping-extends

@@ -1,0 +1,36 @@
+-- Computed specimens of the definitions on the walk over the tables. The outcomes are worked out by hand from document 01's sentences. Modules
+-- are checked in the order of their names: an edited definition is refused here first.
+--   partners == whom a slip is joined behind, for some right neighbours, lists of slips that end with a node, and ends of the slip's chain
+--   visits   == the strings that the walk visits, for the slips AB and B
+use mathlib.Core.Path.{_≡_, refl}
+use mathlib.Core.List.{List, [], _∷_}
+use Prim.Native.Nat.{ℕ}
+use lib.ListN.{getD}
+use Rattle.words.specs.Quoted.{word}
+use Rattle.matching.specs.Nodes.{nodes}
+use Rattle.walking.specs.Walking.{partnerIn, rows}
+
+abbrev pub partners : List ℕ
+partners =
+    -- the lowest waiting slip
+    partnerIn (0 ∷ 0 ∷ 0 ∷ []) (1 ∷ 2 ∷ 3 ∷ []) 4
+    -- the lowest is the last of the slip's own chain: the second lowest
+    ∷ partnerIn (0 ∷ 0 ∷ 0 ∷ []) (1 ∷ 2 ∷ 3 ∷ []) 1
+    -- slip 1 has a right neighbour: it does not wait
+    ∷ partnerIn (5 ∷ 0 ∷ 0 ∷ []) (1 ∷ 2 ∷ 3 ∷ []) 4
+    ∷ partnerIn (5 ∷ 0 ∷ 0 ∷ []) (1 ∷ 2 ∷ 3 ∷ []) 2
+    -- none is left
+    ∷ partnerIn (0 ∷ 0 ∷ 0 ∷ []) (1 ∷ []) 1
+    ∷ partnerIn (5 ∷ 6 ∷ 0 ∷ []) (1 ∷ 2 ∷ []) 4
+    ∷ []
+
+pub partners-computed : partners ≡ (1 ∷ 2 ∷ 2 ∷ 3 ∷ 0 ∷ 0 ∷ [])
+partners-computed = refl
+
+-- The nodes are the empty string, A, B, AB: those of one letter are from number 1 on, that of two letters is number 3.
+abbrev pub visits : List (List ℕ)
+visits = rows (word "AB" ∷ word "B" ∷ []) (λ d. getD (0 ∷ 1 ∷ 3 ∷ 4 ∷ []) d 0) 2
+
+pub visits-computed : visits ≡ (word "AB" ∷ word "A" ∷ word "B" ∷ [])
+unfolding nodes
+visits-computed = refl
