@@ -3,10 +3,10 @@
 --   FillingRow .. w₀ w v c      == the cells of v for the letters below c are right, and only cells of its row have changed
 --   FillingNear .. w₀ w v       == the rows of the nodes below v are right, and only cells of NEAR have changed
 -- A row is 45 cells, so the cells of different rows differ.
-use mathlib.Core.Path.{_≡_, sym, ap, _∙_}
+use mathlib.Core.Path.{_≡_, ap}
 use mathlib.Core.List.{List}
-use Prim.Native.Nat.{ℕ, suc, _+_, _-_, _*_, _≤_, _<_}
-use native.Mathlib.Decide.{decLt, ℕ-discrete}
+use Prim.Native.Nat.{ℕ, _+_, _-_, _*_, _≤_, _<_}
+use native.Mathlib.Decide.{ℕ-discrete}
 use native.Mathlib.Omega.{arith}
 use lib.ListN.{length}
 use Rattle.tables.specs.Tables.{Got, Cells, Only, Put, Room}
@@ -16,7 +16,7 @@ use Rattle.layout.specs.Layout.{NEAR, nearNodes, nearLetters, firstSign, lastSi
 use Rattle.layout.specs.Tables.{cell, Child}
 use Rattle.layout.specs.Numbered.{patternsIn, Branched, Kept}
 use Rattle.layout.proofs.Frames.{only-kept, patterns-kept, branched-kept}
-use Rattle.links.specs.Links.{Near, CanFill, CanLook, RowFilled, NearFilled}
+use Rattle.links.specs.Links.{CanFill, CanLook, RowFilled, NearFilled}
 
 module _ {s es : List ℕ} {n count : ℕ} {w : List ℕ} {v c k : ℕ} (C : CanLook s es n count w v) (close : v < nearNodes) (from : firstSign ≤ c) (upto : c ≤ lastSign)
     (e : k ≡ nearLetters * v + (c - firstSign)) where

@@ -4,7 +4,7 @@ ghost use mathlib.Core.Path.{_≡_};
 ghost use mathlib.Core.Bool.{_&&_};
 ghost use Prim.Native.Nat.{ℕ, _+_, _*_, _-_, _≤_, _<_};
 ghost use lib.Dec.{leb, ltb};
-ghost use Rattle.layout.specs.Layout.{nearNodes, nearLetters, firstSign, lastSign};
+ghost use Rattle.layout.specs.Layout.{nearNodes, nearLetters, firstSign};
 ghost use Rattle.layout.specs.Tables.{Child};
 ghost use Rattle.layout.specs.Numbered.{patternsIn, Numbered, Branched};
 ghost use Rattle.links.specs.Links as L;
