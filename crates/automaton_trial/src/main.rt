@@ -134,6 +134,7 @@ fn slip_tables(sums: &[u64]) {
     table(b"AT", sums, compare::AT);
     table(b"OWN", sums, compare::OWN);
     table(b"KID", sums, compare::KID);
+    table(b"NEAR", sums, compare::NEAR);
     table(b"FAIL", sums, compare::FAIL);
     table(b"HEAD", sums, compare::HEAD);
     table(b"TWIN", sums, compare::TWIN);

@@ -19,6 +19,8 @@ pub const OWN: usize = 10;
 
 pub const KID: usize = 12;
 
+pub const NEAR: usize = 36;
+
 pub const FAIL: usize = 14;
 
 pub const HEAD: usize = 16;
@@ -41,7 +43,7 @@ pub const OUT: usize = 32;
 
 pub const TALLY: usize = 34;
 
-pub const COUNTS: usize = 36;
+pub const COUNTS: usize = 38;
 
 fn cell(work: &[u16], base: usize, i: usize, wanted: usize, sums: &mut [u64], table: usize) {
     let found = cells::get(work, base, i);
@@ -206,6 +208,20 @@ fn places(
     }
 }
 
+// The children of node `v` by their letters, where these are looked up.
+fn near(letters: &[u8], work: &[u16], plain: &[u16], nodes: usize, v: usize, sums: &mut [u64]) {
+    if v < layout::NEAR_NODES {
+        let row = layout::NEAR + layout::NEAR_LETTERS * v;
+        let mut c = layout::FIRST_SIGN;
+        while c <= layout::LAST_SIGN {
+            let wanted = asked::child(letters, plain, nodes, v, c);
+            let i = (c - layout::FIRST_SIGN) as usize;
+            cell(work, row, i, wanted, sums, NEAR);
+            c += 1;
+        }
+    }
+}
+
 // What node `v` has whether or not it is the empty string.
 fn any_node(
     letters: &[u8],
@@ -241,6 +257,7 @@ fn any_node(
         sums,
         TALLY,
     );
+    near(letters, work, plain, nodes, v, sums);
 }
 
 // Any place where the string of node `v` stands at the beginning of a slip will do for OWN.

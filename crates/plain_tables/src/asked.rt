@@ -67,6 +67,20 @@ pub fn first_child(plain: &[u16], nodes: usize, v: usize) -> usize {
     child
 }
 
+// The string that is string `v` with the letter `c` behind it, 0 for none.
+pub fn child(letters: &[u8], plain: &[u16], nodes: usize, v: usize, c: u8) -> usize {
+    let mut u: usize = 1;
+    while u < nodes {
+        if cells::get(plain, p::PARENT, u) == v {
+            if strings::last(letters, p::node(plain, u)) == c {
+                return u;
+            }
+        }
+        u += 1;
+    }
+    0
+}
+
 // 1 if string `v` is the longest proper ending of one of the list, else 0.
 pub fn is_link(plain: &[u16], nodes: usize, v: usize) -> usize {
     let mut u: usize = 1;

@@ -22,6 +22,14 @@ fn letter(letters: &[u8], at: usize, c: usize) -> u8 {
     0
 }
 
+// The last letter of `x`.
+pub fn last(letters: &[u8], x: Part) -> u8 {
+    if x.size == 0 {
+        return 0;
+    }
+    letter(letters, x.at, x.size - 1)
+}
+
 // How many letters the stretches at `a` and at `b` have in common from their first on, at most `most`.
 pub fn common(letters: &[u8], a: usize, b: usize, most: usize) -> usize {
     let mut c: usize = 0;
