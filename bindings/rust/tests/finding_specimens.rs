@@ -216,12 +216,15 @@ fn edge_texts() {
     }
 }
 
+/// A name, letters and ends, and number and detail of the refusal.
+type Turned<'a> = (&'a str, &'a [u8], Vec<u16>, u32, u32);
+
 /// A tray that is turned back is so before text, work area and list are looked at.
 #[test]
 fn the_tray_is_judged_first() {
     let (mut chance, bad) = (Chance::new(23), b"bad text".repeat(300));
     let ones = [b'A'; 201];
-    let cases: [(&str, &[u8], Vec<u16>, u32, u32); 6] = [
+    let cases: [Turned; 6] = [
         ("201 slips", &ones, (1..=201).collect(), 1, 0),
         ("an end equals the one before", b"AB", vec![1, 1, 2], 2, 2),
         ("41 letters", &ones[..41], vec![41], 3, 1),
