@@ -6,9 +6,9 @@ mod made;
 mod rival;
 
 use kotsghane::{compose, Composed, Join, Place, WORK_CELLS};
+use made::full::{different, many_inside, mixed_lengths};
 use made::{lent, slips, Chance, Shape, Slips, SIGNS};
 use rival::{lowest_place, slip, Rival};
-use std::collections::HashSet;
 use std::hint::black_box;
 use std::time::Instant;
 
@@ -44,7 +44,7 @@ const FAMILIES: [Family; 8] = [
     },
     Family {
         name: "lengths 4 to 16",
-        make: mixed_lengths,
+        make: |chance| mixed_lengths(chance, &SIGNS[1..]),
     },
     Family {
         name: "many inside others",
@@ -55,37 +55,6 @@ const FAMILIES: [Family; 8] = [
         make: |chance| slips(Shape::Inside, chance, 200, 10, 10, &SIGNS[1..]),
     },
 ];
-
-/// 200 slips of 10 letters, no two equal.
-fn different(chance: &mut Chance, shape: Shape, signs: &[u8]) -> Slips {
-    let mut seen = HashSet::new();
-    let mut all = slips(shape, chance, 4_000, 10, 10, signs);
-    all.retain(|x| seen.insert(x.clone()));
-    all.truncate(200);
-    all
-}
-
-/// 200 slips of 4 to 16 letters, two by two of 20 together.
-fn mixed_lengths(chance: &mut Chance) -> Slips {
-    let mut all = Slips::new();
-    for _ in 0..100 {
-        let n = chance.between(4, 16);
-        all.push(chance.word(&SIGNS[1..], n));
-        all.push(chance.word(&SIGNS[1..], 20 - n));
-    }
-    all
-}
-
-/// 40 slips of 30 letters, and 160 of 5 letters that stand in them.
-fn many_inside(chance: &mut Chance) -> Slips {
-    let mut all = slips(Shape::Random, chance, 40, 30, 30, &SIGNS[1..]);
-    for _ in 0..160 {
-        let (i, start) = (chance.below(40), chance.below(26));
-        all.push(all[i][start..start + 5].to_vec());
-    }
-    chance.shuffle(&mut all);
-    all
-}
 
 /// What is lent besides the tray, in the same state before every call.
 struct Buffers {

@@ -1,7 +1,7 @@
 //! Coin legends composed from worn readings: a safe form over the proved library.
 //!
-//! Slips of letters, together a tray, are joined by their overlaps into one legend. [`compose_tray`] takes care of all
-//! buffers; [`compose`] is for callers who lend their own.
+//! Slips of letters, together a tray, are joined by their overlaps into one legend, and found in a text. [`compose_tray`]
+//! and [`find_slips`] take care of all buffers; [`compose`] and [`find`] are for callers who lend their own.
 //!
 //! ```
 //! use kotsghane::{compose_tray, Tray};
@@ -18,9 +18,11 @@
 //! ```
 #![deny(missing_docs, unsafe_code)]
 
+mod finding;
 mod refusal;
 mod tray;
 
+pub use finding::{find, find_slips, Finding, Found, Search};
 pub use refusal::Refusal;
 pub use tray::{compose_tray, Legend, Tray};
 
@@ -35,6 +37,9 @@ pub const MAX_SLIP: usize = 40;
 
 /// The most letters that a tray has (refusal 4).
 pub const MAX_LETTERS: usize = 2_000;
+
+/// The most letters that a text has (refusal 12).
+pub const MAX_TEXT: usize = 2_000;
 
 /// Two slips joined: the right one is laid behind the left one and shares `overlap` letters with it.
 #[repr(C)]
@@ -102,13 +107,7 @@ impl Composed {
 
     /// The refusal, if the tray or a buffer was turned back.
     pub fn refusal(&self) -> Option<Refusal> {
-        match self.number {
-            0 => None,
-            number => Some(Refusal {
-                number,
-                detail: self.detail,
-            }),
-        }
+        Refusal::of(self.number, self.detail)
     }
 }
 

@@ -11,6 +11,13 @@ pub struct Refusal {
     pub detail: u32,
 }
 
+impl Refusal {
+    /// The refusal of an answer with this number and detail: none for number 0.
+    pub(crate) fn of(number: u32, detail: u32) -> Option<Refusal> {
+        (number != 0).then_some(Refusal { number, detail })
+    }
+}
+
 impl fmt::Display for Refusal {
     fn fmt(&self, f: &mut fmt::Formatter<'_>) -> fmt::Result {
         let d = self.detail;

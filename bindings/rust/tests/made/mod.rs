@@ -1,6 +1,8 @@
 //! Made-up trays of many shapes, from a small generator with a fixed seed.
 #![allow(dead_code)] // each program that takes this file in uses a part of it
 
+pub mod full;
+
 /// The 27 signs in byte order.
 pub const SIGNS: &[u8] = b".ABCDEFGHIJKLMNOPQRSTUVWXYZ";
 

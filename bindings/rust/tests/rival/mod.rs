@@ -2,6 +2,8 @@
 //! The library does not use it. Its lists are made once and serve every tray, so that it can be timed fairly.
 #![allow(dead_code)] // each program that takes this file in uses a part of it
 
+pub mod finding;
+
 use kotsghane::{Composed, Join, Place};
 use std::cmp::Ordering;
 
