@@ -1,0 +1,3 @@
+-- Lemmas of the walks by hand.
+mod Arrays
+mod Records

@@ -1,0 +1,52 @@
+// Composing and finding for callers that hold their lists as arrays: each array is taken by value, lent for the call, and handed back.
+ghost use Rattle.legends.specs.Says.{ComposeSays};
+ghost use Rattle.finding.specs.Answers.{FindSays};
+use composing::Composed;
+use finding::Found;
+use finding::Search;
+use legends::Join;
+use legends::Place;
+
+// The answer of composing, and the two lists behind the call.
+pub struct Composition {
+    pub answer: Composed,
+    pub joins: [Join; 200],
+    pub places: [Place; 200],
+}
+
+// The answer of finding, and the list behind the call.
+pub struct Finding {
+    pub answer: Search,
+    pub found: [Found; 2000],
+}
+
+pub fn compose(
+    letters: &[u8],
+    ends: &[u16],
+    work: &mut [u16],
+    legend: &mut [u8],
+    mut joins: [Join; 200],
+    mut places: [Place; 200],
+) -> Composition
+    ensures { λ r. ⌜ ComposeSays (now (letters .entry)) (now (ends .entry)) (now (work .entry)) (now (work .exit)) (now (legend .entry)) (now (legend .exit)) joins (r .joins) places (r .places) (r .answer) ⌝ }
+{
+    let answer = legends::compose_tray(letters, ends, work, legend, &mut joins, &mut places);
+    Composition {
+        answer,
+        joins,
+        places,
+    }
+}
+
+pub fn find(
+    letters: &[u8],
+    ends: &[u16],
+    text: &[u8],
+    work: &mut [u16],
+    mut found: [Found; 2000],
+) -> Finding
+    ensures { λ r. ⌜ FindSays (now (letters .entry)) (now (ends .entry)) (now (text .entry)) (now (work .entry)) (now (work .exit)) found (r .found) (r .answer) ⌝ }
+{
+    let answer = finding::find_slips(letters, ends, text, work, &mut found);
+    Finding { answer, found }
+}
