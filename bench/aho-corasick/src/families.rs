@@ -1,6 +1,7 @@
 //! The timed inputs: trays of 200 slips and 2,000 letters, and texts of 2,000 letters.
-use crate::made::full::{different, many_inside, mixed_lengths};
-use crate::made::{slips, Chance, Shape, Slips, SIGNS};
+use plain::made::full::{different, many_inside, mixed_lengths};
+use plain::made::{slips, Chance, Shape, Slips};
+use plain::SIGNS;
 
 /// How many letters a text has.
 const LETTERS: usize = 2_000;

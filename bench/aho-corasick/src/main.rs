@@ -1,19 +1,13 @@
 //! Times finding and the overlapping search of the aho-corasick library on the same trays and texts.
 //! First what both find is compared, on the timed inputs and on many made-up ones.
 mod families;
-#[path = "../../../bindings/rust/tests/made/mod.rs"]
-mod made;
-#[path = "../../../bindings/rust/tests/rival/mod.rs"]
-mod rival;
-#[path = "../../../bindings/rust/tests/searches/mod.rs"]
-mod searches;
-#[path = "../../../bindings/rust/tests/trays/mod.rs"]
-mod trays;
 
 use aho_corasick::{AhoCorasick, AhoCorasickBuilder};
 use families::{Family, FAMILIES};
 use kotsghane::{find, find_slips, Found, Search, Tray, WORK_CELLS};
-use made::{lent, Chance};
+use plain::made::texts::text;
+use plain::made::{valid, Chance};
+use plain::tray;
 use std::cmp::Reverse;
 use std::hint::black_box;
 use std::time::Instant;
@@ -61,9 +55,9 @@ fn compare(slips: &[Vec<u8>], text: &[u8]) -> Vec<Found> {
 fn compare_made_up() -> usize {
     let mut chance = Chance::new(77);
     let mut one = |n: usize| {
-        let slips = trays::valid(&mut chance, [8, 40, 200][n % 3]);
+        let slips = valid(&mut chance, [8, 40, 200][n % 3], 40);
         let letters = chance.below([80, 400, 2_001][n % 3]);
-        let text = searches::text(&mut chance, &slips, letters);
+        let text = text(&mut chance, &slips, letters);
         compare(&slips, &text).len()
     };
     (0..COMPARED).map(&mut one).sum()
@@ -71,8 +65,7 @@ fn compare_made_up() -> usize {
 
 struct Input {
     slips: Vec<Vec<u8>>,
-    letters: Vec<u8>,
-    ends: Vec<u16>,
+    tray: tray::Tray,
     text: Vec<u8>,
     count: usize,
     nfa: AhoCorasick,
@@ -83,14 +76,13 @@ struct Input {
 
 impl Input {
     fn of((slips, text): (Vec<Vec<u8>>, Vec<u8>)) -> Input {
-        let (letters, ends) = lent(&slips);
-        assert_eq!((ends.len(), letters.len(), text.len()), (200, 2_000, 2_000));
+        let tray = tray::Tray::of(&slips);
+        assert_eq!((tray.ends.len(), tray.letters.len(), text.len()), (200, 2_000, 2_000));
         let count = compare(&slips, &text).len();
         let (nfa, dfa) = (built(&slips, false), built(&slips, true));
         Input {
             slips,
-            letters,
-            ends,
+            tray,
             text,
             count,
             nfa,
@@ -113,7 +105,7 @@ impl Buffers {
     }
 
     fn ours(&mut self, input: &Input, text: &[u8]) -> Search {
-        find(&input.letters, &input.ends, text, &mut self.work, &mut self.found)
+        find(&input.tray.letters, &input.tray.ends, text, &mut self.work, &mut self.found)
     }
 
     fn both(&mut self, input: &Input, dfa: bool) -> (AhoCorasick, usize) {

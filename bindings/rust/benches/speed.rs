@@ -1,14 +1,11 @@
 //! Times the library and the plain program on the same trays and the same state of buffers: `cargo bench`.
 //! First the outcomes are compared, places included.
-#[path = "../tests/made/mod.rs"]
-mod made;
-#[path = "../tests/rival/mod.rs"]
-mod rival;
-
 use kotsghane::{compose, Composed, Join, Place, WORK_CELLS};
-use made::full::{different, many_inside, mixed_lengths};
-use made::{lent, slips, Chance, Shape, Slips, SIGNS};
-use rival::{lowest_place, slip, Rival};
+use plain::compose::{compose_tray, lowest_place, Rooms};
+use plain::made::full::{different, many_inside, mixed_lengths};
+use plain::made::{slips, Chance, Shape, Slips};
+use plain::tray::Tray;
+use plain::SIGNS;
 use std::hint::black_box;
 use std::time::Instant;
 
@@ -81,21 +78,23 @@ impl Buffers {
         self.places.fill(Place::default());
     }
 
-    fn ours(&mut self, letters: &[u8], ends: &[u16], places: usize) -> Composed {
-        let places = &mut self.places[..places];
-        compose(letters, ends, &mut self.work, &mut self.legend, &mut self.joins, places)
-    }
-
-    fn plain(&mut self, rival: &mut Rival, letters: &[u8], ends: &[u16]) -> Composed {
-        let (legend, joins, places) = (&mut self.legend, &mut self.joins, &mut self.places);
-        rival.compose(letters, ends, self.work.len(), legend, joins, places)
+    fn ours(&mut self, tray: &Tray, places: usize) -> Composed {
+        let (legend, joins, places) = (&mut self.legend, &mut self.joins, &mut self.places[..places]);
+        compose(&tray.letters, &tray.ends, &mut self.work, legend, joins, places)
     }
 }
 
+/// Rooms that are enough for every tray.
+const AMPLE: Rooms = Rooms {
+    work: WORK_CELLS,
+    legend: 2_000,
+    joins: 200,
+    places: 200,
+};
+
 /// A tray with its outcome, and the least time of each kind of call on it, in microseconds.
 struct Timed {
-    letters: Vec<u8>,
-    ends: Vec<u16>,
+    tray: Tray,
     answer: Composed,
     outcome: Buffers,
     ours: f64,
@@ -107,18 +106,20 @@ struct Timed {
 }
 
 /// Composes the tray by both programs, and compares what they give.
-fn compare(rival: &mut Rival, slips: &[Vec<u8>]) -> Timed {
-    let (letters, ends) = lent(slips);
-    let (mut outcome, mut plain) = (Buffers::new(), Buffers::new());
-    let answer = outcome.ours(&letters, &ends, 200);
-    assert_eq!((answer.number, answer.slips, letters.len()), (0, 200, 2_000));
-    assert_eq!(answer, plain.plain(rival, &letters, &ends));
-    assert_eq!(outcome.legend, plain.legend);
-    assert_eq!(outcome.joins, plain.joins);
-    assert_eq!(outcome.places, plain.places);
+fn compare(slips: &[Vec<u8>]) -> Timed {
+    let (tray, mut outcome) = (Tray::of(slips), Buffers::new());
+    let answer = outcome.ours(&tray, 200);
+    assert_eq!((answer.number, answer.slips, tray.letters.len()), (0, 200, 2_000));
+    let made = compose_tray(&tray, AMPLE).expect("a tray within the limits");
+    assert_eq!(outcome.legend[..answer.legend as usize], made.legend);
+    let joins = outcome.joins[..answer.joins as usize].iter();
+    assert!(joins
+        .map(|x| [x.left, x.right, x.overlap].map(usize::from))
+        .eq(made.joins.iter().map(|x| [x.left, x.right, x.overlap])));
+    let places = outcome.places.iter().map(|x| (usize::from(x.place), x.is_kept()));
+    assert!(places.eq(made.places.iter().map(|x| (x.place, x.kept))));
     Timed {
-        letters,
-        ends,
+        tray,
         answer,
         outcome,
         ours: f64::MAX,
@@ -136,35 +137,30 @@ fn clock<T>(least: &mut f64, call: impl FnOnce() -> T) {
 }
 
 /// The places of all slips set aside, summed.
-fn trials(tray: &Timed) -> usize {
-    let legend = &tray.outcome.legend[..tray.answer.legend as usize];
-    let aside = (1..=tray.ends.len()).filter(|&i| !tray.outcome.places[i - 1].is_kept());
-    aside
-        .filter_map(|i| lowest_place(slip(&tray.letters, &tray.ends, i), legend))
-        .sum()
+fn trials(timed: &Timed) -> usize {
+    let legend = &timed.outcome.legend[..timed.answer.legend as usize];
+    let slips = timed.tray.slips().into_iter().zip(&timed.outcome.places);
+    let aside = slips.filter(|(_, place)| !place.is_kept());
+    aside.filter_map(|(slip, _)| lowest_place(slip, legend)).sum()
 }
 
 /// One round: each kind of call goes through all trays in turn, so that no program meets the tray that it has just left.
-fn round(rival: &mut Rival, trays: &mut [Timed], buffers: &mut Buffers) {
-    for tray in trays.iter_mut() {
+fn round(trays: &mut [Timed], buffers: &mut Buffers) {
+    for timed in trays.iter_mut() {
         buffers.reset();
-        let (letters, ends) = (black_box(&tray.letters), black_box(&tray.ends));
-        clock(&mut tray.ours, || buffers.ours(letters, ends, 200));
+        clock(&mut timed.ours, || buffers.ours(black_box(&timed.tray), 200));
     }
-    for tray in trays.iter_mut() {
+    for timed in trays.iter_mut() {
+        clock(&mut timed.plain, || compose_tray(black_box(&timed.tray), AMPLE));
+    }
+    for timed in trays.iter_mut() {
         buffers.reset();
-        let (letters, ends) = (black_box(&tray.letters), black_box(&tray.ends));
-        clock(&mut tray.plain, || buffers.plain(rival, letters, ends));
+        clock(&mut timed.unwritten, || buffers.ours(black_box(&timed.tray), 199));
     }
-    for tray in trays.iter_mut() {
-        buffers.reset();
-        let (letters, ends) = (black_box(&tray.letters), black_box(&tray.ends));
-        clock(&mut tray.unwritten, || buffers.ours(letters, ends, 199));
-    }
-    for tray in trays.iter_mut() {
-        let mut least = tray.trial;
-        clock(&mut least, || trials(black_box(tray)));
-        tray.trial = least;
+    for timed in trays.iter_mut() {
+        let mut least = timed.trial;
+        clock(&mut least, || trials(black_box(timed)));
+        timed.trial = least;
     }
 }
 
@@ -181,16 +177,16 @@ fn print_row(name: &str, trays: &[Timed]) {
 }
 
 fn main() {
-    let (mut rival, mut buffers) = (Rival::new(), Buffers::new());
+    let mut buffers = Buffers::new();
     println!("200 slips, 2,000 letters; microseconds a call, the mean of {TRAYS} trays");
     println!("| family | set aside | ours | all pairs | ratio | ours, turned back by 9 | trial of places alone |");
     println!("|---|---:|---:|---:|---:|---:|---:|");
     for (seed, family) in FAMILIES.iter().enumerate() {
         let mut chance = Chance::new(seed as u64);
-        let made = |_| compare(&mut rival, &(family.make)(&mut chance));
+        let made = |_| compare(&(family.make)(&mut chance));
         let mut trays: Vec<Timed> = (0..TRAYS).map(made).collect();
         for _ in 0..CALLS {
-            round(&mut rival, &mut trays, &mut buffers);
+            round(&mut trays, &mut buffers);
         }
         print_row(family.name, &trays);
     }

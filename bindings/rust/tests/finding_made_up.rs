@@ -1,14 +1,14 @@
 //! Finding in thousands of made-up trays and texts, valid and damaged, in buffers of many lengths, against the plain program.
-mod made;
-mod rival;
 mod searches;
-mod trays;
+mod tally;
 
 use kotsghane::{find_slips, Search, Tray};
-use made::{lent, slips, Chance, SHAPES};
-use rival::finding::{longest_ending, walk};
-use searches::{text, trial, Lent};
-use trays::{damaged, near, valid, Tally, DAMAGES};
+use plain::made::damage::{damaged, DAMAGES};
+use plain::made::texts::{damaged_text, text};
+use plain::made::{near, slips, valid, Chance, SHAPES};
+use plain::tray;
+use searches::{trial, Lent};
+use tally::Tally;
 
 /// The occurrences that an answer tells of.
 fn occurrences(answer: &Search) -> usize {
@@ -19,13 +19,13 @@ fn occurrences(answer: &Search) -> usize {
 }
 
 /// One tray and text, first without a list, then with one of about the length that the outcome needs.
-fn try_search(chance: &mut Chance, letters: &[u8], ends: &[u16], text: &[u8], tally: &mut Tally) {
+fn try_search(chance: &mut Chance, tray: &tray::Tray, text: &[u8], tally: &mut Tally) {
     let none = Lent::of(32_000, 0, chance);
-    let (answer, _) = trial(letters, ends, text, &none);
+    let (answer, _) = trial(tray, text, &none);
     tally.count(answer.number);
     let cells = [32_000, 32_000, 32_007, 31_999][chance.below(4)];
     let records = near(chance, occurrences(&answer));
-    let (answer, _) = trial(letters, ends, text, &Lent::of(cells, records, chance));
+    let (answer, _) = trial(tray, text, &Lent::of(cells, records, chance));
     tally.count(answer.number);
 }
 
@@ -33,11 +33,10 @@ fn try_search(chance: &mut Chance, letters: &[u8], ends: &[u16], text: &[u8], ta
 fn short_texts_agree() {
     let (mut chance, mut tally) = (Chance::new(31), Tally::default());
     for _ in 0..6_000 {
-        let all = valid(&mut chance, 8);
+        let all = valid(&mut chance, 8, 40);
         let n = chance.below(80);
         let text = text(&mut chance, &all, n);
-        let (letters, ends) = lent(&all);
-        try_search(&mut chance, &letters, &ends, &text, &mut tally);
+        try_search(&mut chance, &tray::Tray::of(&all), &text, &mut tally);
     }
     tally.assert_all_from(&[0, 7, 14], 1_000);
 }
@@ -46,11 +45,10 @@ fn short_texts_agree() {
 fn long_texts_agree() {
     let (mut chance, mut tally) = (Chance::new(32), Tally::default());
     for _ in 0..400 {
-        let all = valid(&mut chance, 200);
+        let all = valid(&mut chance, 200, 40);
         let n = chance.below(2_001);
         let text = text(&mut chance, &all, n);
-        let (letters, ends) = lent(&all);
-        try_search(&mut chance, &letters, &ends, &text, &mut tally);
+        try_search(&mut chance, &tray::Tray::of(&all), &text, &mut tally);
     }
     tally.assert_all_from(&[0, 7, 14], 50);
 }
@@ -62,9 +60,9 @@ fn full_trays_and_texts_agree() {
         let signs = chance.signs([2, 3, 5, 26, 27][n / 5 % 5]);
         let all = slips(SHAPES[n % 5], &mut chance, 200, 10, 10, &signs);
         let text = text(&mut chance, &all, 2_000);
-        let (letters, ends) = lent(&all);
-        assert_eq!((letters.len(), ends.len(), text.len()), (2_000, 200, 2_000));
-        try_search(&mut chance, &letters, &ends, &text, &mut tally);
+        let tray = tray::Tray::of(&all);
+        assert_eq!((tray.letters.len(), tray.ends.len(), text.len()), (2_000, 200, 2_000));
+        try_search(&mut chance, &tray, &text, &mut tally);
     }
     tally.assert_all_from(&[0, 14], 20);
 }
@@ -73,13 +71,13 @@ fn full_trays_and_texts_agree() {
 fn damaged_trays_agree() {
     let (mut chance, mut tally) = (Chance::new(34), Tally::default());
     for n in 0..4_000 {
-        let (letters, ends) = damaged(&mut chance, DAMAGES[n % DAMAGES.len()]);
+        let tray = damaged(&mut chance, DAMAGES[n % DAMAGES.len()], 60);
         let n = [chance.below(60), chance.below(2_100)][chance.below(2)];
         let mut text = chance.word(b"ABC.", n);
         if n > 0 && chance.below(2) == 0 {
             text[chance.below(n)] = b'a';
         }
-        try_search(&mut chance, &letters, &ends, &text, &mut tally);
+        try_search(&mut chance, &tray, &text, &mut tally);
     }
     tally.assert_all_from(&[1, 2, 3, 4, 5, 6], 300);
 }
@@ -89,20 +87,9 @@ fn damaged_trays_agree() {
 fn damaged_texts_agree() {
     let (mut chance, mut tally) = (Chance::new(35), Tally::default());
     for n in 0..3_000 {
-        let all = valid(&mut chance, 20);
-        let long = n % 4 == 0 || n % 4 == 1;
-        let letters = if long {
-            chance.between(1_995, 2_010)
-        } else {
-            chance.between(1, 60)
-        };
-        let mut text = text(&mut chance, &all, letters);
-        for _ in 0..n % 4 {
-            let place = chance.below(letters);
-            text[place] = b"a@[/-\0\xff\n0z"[chance.below(10)];
-        }
-        let (letters, ends) = lent(&all);
-        try_search(&mut chance, &letters, &ends, &text, &mut tally);
+        let all = valid(&mut chance, 20, 40);
+        let text = damaged_text(&mut chance, &all, n % 4 < 2, n % 4);
+        try_search(&mut chance, &tray::Tray::of(&all), &text, &mut tally);
     }
     tally.assert_all_from(&[12, 13], 1_000);
 }
@@ -112,11 +99,11 @@ fn damaged_texts_agree() {
 fn each_buffer_one_short() {
     let (mut chance, mut met) = (Chance::new(36), 0);
     for _ in 0..1_000 {
-        let all = valid(&mut chance, 30);
+        let all = valid(&mut chance, 30, 40);
         let n = chance.below(200);
         let text = text(&mut chance, &all, n);
-        let (letters, ends) = lent(&all);
-        let (answer, _) = trial(&letters, &ends, &text, &Lent::of(32_000, 0, &mut chance));
+        let tray = tray::Tray::of(&all);
+        let (answer, _) = trial(&tray, &text, &Lent::of(32_000, 0, &mut chance));
         let count = occurrences(&answer);
         let mut cases = vec![(32_000, count, 0, 0), (31_999, count, 7, 0)];
         if count > 0 {
@@ -125,7 +112,7 @@ fn each_buffer_one_short() {
         }
         for (cells, records, number, detail) in cases {
             let before = Lent::of(cells, records, &mut chance);
-            let (answer, after) = trial(&letters, &ends, &text, &before);
+            let (answer, after) = trial(&tray, &text, &before);
             assert_eq!((answer.number, answer.detail), (number, detail));
             assert!(number == 0 || after.found == before.found);
         }
@@ -138,23 +125,23 @@ fn each_buffer_one_short() {
 fn owned_trays_agree() {
     let (mut chance, mut tally) = (Chance::new(37), Tally::default());
     for n in 0..2_000 {
-        let all = valid(&mut chance, 40);
+        let all = valid(&mut chance, 40, 40);
         let letters = chance.below(300);
         let mut text = text(&mut chance, &all, letters);
-        let (letters, ends) = match n % 4 {
-            0 => damaged(&mut chance, DAMAGES[n / 4 % DAMAGES.len()]),
-            _ => lent(&all),
+        let tray = match n % 4 {
+            0 => damaged(&mut chance, DAMAGES[n / 4 % DAMAGES.len()], 60),
+            _ => tray::Tray::of(&all),
         };
         match n % 8 {
             1 => text.push(b' '),
             2 => text.resize(2_001, b'A'),
             _ => {}
         }
-        let (answer, _) = trial(&letters, &ends, &text, &Lent::of(32_000, 0, &mut chance));
+        let (answer, _) = trial(&tray, &text, &Lent::of(32_000, 0, &mut chance));
         let before = Lent::of(32_000, occurrences(&answer), &mut chance);
-        let (answer, after) = trial(&letters, &ends, &text, &before);
+        let (answer, after) = trial(&tray, &text, &before);
         tally.count(answer.number);
-        match find_slips(&Tray::from_parts(letters, ends), &text) {
+        match find_slips(&Tray::from_parts(tray.letters, tray.ends), &text) {
             Err(refusal) => assert_eq!(Some(refusal), answer.refusal()),
             Ok(finding) => {
                 assert_eq!(answer.number, 0);
@@ -164,19 +151,4 @@ fn owned_trays_agree() {
         }
     }
     tally.assert_all_from(&[0, 12, 13], 100);
-}
-
-/// Of the plain program: the state by its steps is the longest ending of the text so far that begins a slip.
-#[test]
-fn both_sentences_of_the_state() {
-    let mut chance = Chance::new(38);
-    for _ in 0..1_000 {
-        let all = valid(&mut chance, 6);
-        let n = chance.below(60);
-        let text = text(&mut chance, &all, n);
-        let slips: Vec<&[u8]> = all.iter().map(Vec::as_slice).collect();
-        let (state, moves) = walk(&slips, &text);
-        assert_eq!(state, longest_ending(&slips, &text));
-        assert!((text.len()..=2 * text.len()).contains(&(moves as usize)));
-    }
 }

@@ -1,142 +1,24 @@
 //! Finding: the specimen of document 01 and its edges, as tables of named cases.
-mod made;
-mod rival;
 mod searches;
 
 use kotsghane::{find_slips, Found, Refusal, Tray};
-use made::{lent, Chance};
-use rival::finding::occurrence;
-use searches::{trial, Lent};
-
-/// A tray and a text, and the outcome: occurrences are (end place, slip).
-struct Specimen {
-    name: &'static str,
-    slips: &'static [&'static str],
-    text: &'static str,
-    moves: usize,
-    found: &'static [(usize, usize)],
-}
-
-const FIND: Specimen = Specimen {
-    name: "the find text",
-    slips: &["IMPCAES", "AES", "CAESAVG", "VGPIVS", "SIMP"],
-    text: "IMPCAESAVG",
-    moves: 11,
-    found: &[(7, 1), (7, 2), (10, 3)],
-};
-
-const SPECIMENS: &[Specimen] = &[
-    FIND,
-    Specimen {
-        name: "overlapping occurrences",
-        slips: &["ANA"],
-        text: "ANANANA",
-        moves: 9,
-        found: &[(3, 1), (5, 1), (7, 1)],
-    },
-    Specimen {
-        name: "a slip that ends inside another",
-        slips: &["CAESAR", "AES"],
-        text: "CAESAR",
-        moves: 6,
-        found: &[(4, 2), (6, 1)],
-    },
-    Specimen {
-        name: "a slip that ends inside the beginning of another",
-        slips: &["CAESAR", "AES"],
-        text: "CAESX",
-        moves: 7,
-        found: &[(4, 2)],
-    },
-    Specimen {
-        name: "longer slips first at one end",
-        slips: &["AVG", "CAESAVG", "G"],
-        text: "CAESAVG",
-        moves: 7,
-        found: &[(7, 2), (7, 1), (7, 3)],
-    },
-    Specimen {
-        name: "equal slips",
-        slips: &["AVG", "AVG"],
-        text: "AVGAVG",
-        moves: 7,
-        found: &[(3, 1), (3, 2), (6, 1), (6, 2)],
-    },
-    Specimen {
-        name: "slips that begin each other",
-        slips: &["A", "AA", "AAA"],
-        text: "AAAA",
-        moves: 5,
-        found: &[(1, 1), (2, 2), (2, 1), (3, 3), (3, 2), (3, 1), (4, 3), (4, 2), (4, 1)],
-    },
-    Specimen {
-        name: "full stops",
-        slips: &["A.", "."],
-        text: "A.A.",
-        moves: 6,
-        found: &[(2, 1), (2, 2), (4, 1), (4, 2)],
-    },
-    Specimen {
-        name: "beginnings and no occurrence",
-        slips: &["AVG"],
-        text: "AVAVA",
-        moves: 7,
-        found: &[],
-    },
-    Specimen {
-        name: "other letters alone",
-        slips: &["AVG"],
-        text: "XYZ",
-        moves: 3,
-        found: &[],
-    },
-    Specimen {
-        name: "a text shorter than every slip",
-        slips: &["AVG", "GVA"],
-        text: "VG",
-        moves: 2,
-        found: &[],
-    },
-    Specimen {
-        name: "empty text",
-        slips: &["AVG"],
-        text: "",
-        moves: 0,
-        found: &[],
-    },
-    Specimen {
-        name: "empty tray",
-        slips: &[],
-        text: "AVG",
-        moves: 3,
-        found: &[],
-    },
-    Specimen {
-        name: "empty tray and empty text",
-        slips: &[],
-        text: "",
-        moves: 0,
-        found: &[],
-    },
-];
-
-fn tray_of(slips: &[&str]) -> (Vec<u8>, Vec<u16>) {
-    let slips: Vec<Vec<u8>> = slips.iter().map(|x| x.as_bytes().to_vec()).collect();
-    lent(&slips)
-}
+use plain::by_hand::{FIND, SEARCHES};
+use plain::made::Chance;
+use plain::tray;
+use searches::{occurrence, trial, Lent};
 
 #[test]
 fn specimen_texts() {
     let mut chance = Chance::new(21);
-    for case in SPECIMENS {
+    for case in SEARCHES {
         let name = case.name;
         let found: Vec<Found> = case.found.iter().map(|&(end, slip)| occurrence(end, slip)).collect();
         let finding = find_slips(&Tray::of(case.slips), case.text).expect(name);
         assert_eq!((&finding.found, finding.moves), (&found, case.moves), "{name}");
-        let (letters, ends) = tray_of(case.slips);
+        let tray = tray::Tray::of(case.slips);
         for room in [found.len(), found.len() + 9] {
             let before = Lent::of(32_000, room, &mut chance);
-            let (answer, after) = trial(&letters, &ends, case.text.as_bytes(), &before);
+            let (answer, after) = trial(&tray, case.text.as_bytes(), &before);
             assert_eq!((answer.number, answer.moves as usize), (0, case.moves), "{name}");
             assert_eq!(after.found[..found.len()], found, "{name}");
         }
@@ -202,17 +84,16 @@ fn edges() -> Vec<Edge> {
 #[test]
 fn edge_texts() {
     let mut chance = Chance::new(22);
-    let (letters, ends) = tray_of(FIND.slips);
+    let tray = tray::Tray::of(FIND.slips);
     for case in edges() {
         let name = case.name;
         let before = Lent::of(case.cells, case.records, &mut chance);
-        let (answer, after) = trial(&letters, &ends, &case.text, &before);
+        let (answer, after) = trial(&tray, &case.text, &before);
         assert_eq!((answer.number, answer.detail), (case.number, case.detail), "{name}");
         if case.number != 0 {
             assert_eq!((answer.moves, answer.count), (0, 0), "{name}");
             assert!(after.found == before.found, "{name}");
         }
-        assert_eq!(after.work.len(), before.work.len(), "{name}");
     }
 }
 
@@ -239,13 +120,15 @@ fn the_tray_is_judged_first() {
         ("a small letter", b"AVGaVG", vec![3, 6], 6, 2),
     ];
     for (name, letters, ends, number, detail) in cases {
+        let letters = letters.to_vec();
+        let tray = tray::Tray { letters, ends };
         for text in [&b""[..], b"AVG", b"avg", &bad] {
             for (cells, records) in [(32_000, 5), (31_999, 0)] {
                 let before = Lent::of(cells, records, &mut chance);
-                let (answer, _) = trial(letters, &ends, text, &before);
+                let (answer, _) = trial(&tray, text, &before);
                 assert_eq!((answer.number, answer.detail), (number, detail), "{name}");
             }
-            let refusal = find_slips(&Tray::from_parts(letters.to_vec(), ends.clone()), text);
+            let refusal = find_slips(&Tray::from_parts(tray.letters.clone(), tray.ends.clone()), text);
             assert_eq!(refusal, Err(Refusal { number, detail }), "{name}");
         }
     }
@@ -255,10 +138,10 @@ fn the_tray_is_judged_first() {
 #[test]
 fn four_hundred_thousand_occurrences() {
     let (mut chance, text) = (Chance::new(24), [b'A'; 2_000]);
-    let (letters, ends) = tray_of(&["A"; 200]);
+    let tray = tray::Tray::of(&["A"; 200]);
     for (room, number, detail) in [(400_000, 0, 0), (400_003, 0, 0), (399_999, 14, 400_000)] {
         let before = Lent::of(32_000, room, &mut chance);
-        let (answer, _) = trial(&letters, &ends, &text, &before);
+        let (answer, _) = trial(&tray, &text, &before);
         assert_eq!((answer.number, answer.detail), (number, detail));
     }
     let finding = find_slips(&Tray::of(&["A"; 200]), text).unwrap();

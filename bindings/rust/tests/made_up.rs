@@ -1,70 +1,70 @@
 //! Thousands of made-up trays, long and short, valid and damaged, in buffers of many lengths, against the plain program.
 mod buffers;
-mod made;
-mod rival;
-mod trays;
+mod tally;
 
-use buffers::{trial, Buffers, Rooms, AMPLE};
+use buffers::{trial, Buffers, AMPLE};
 use kotsghane::{compose_tray, Refusal, Tray};
-use made::{lent, slips, Chance, SHAPES};
-use rival::Rival;
-use trays::{damaged, near, valid, Tally, DAMAGES};
+use plain::compose::Rooms;
+use plain::made::damage::{damaged, DAMAGES};
+use plain::made::{near, slips, valid, Chance, SHAPES};
+use plain::tray;
+use tally::Tally;
 
 /// One tray, first in ample buffers, then in buffers of about the length that the outcome needs.
-fn try_tray(rival: &mut Rival, chance: &mut Chance, letters: &[u8], ends: &[u16], tally: &mut Tally) {
+fn try_tray(chance: &mut Chance, tray: &tray::Tray, tally: &mut Tally) {
     let ample = Buffers::of(AMPLE, chance);
-    let (answer, _) = trial(rival, letters, ends, &ample);
+    let (answer, _) = trial(tray, &ample);
     tally.count(answer.number);
     let rooms = Rooms {
         work: [32_000, 32_000, 32_007, 31_999][chance.below(4)],
         legend: near(chance, answer.legend as usize),
         joins: near(chance, answer.joins as usize),
-        places: near(chance, ends.len()),
+        places: near(chance, tray.ends.len()),
     };
     let before = Buffers::of(rooms, chance);
-    let (answer, _) = trial(rival, letters, ends, &before);
+    let (answer, _) = trial(tray, &before);
     tally.count(answer.number);
 }
 
 #[test]
 fn short_trays_agree() {
-    let (mut rival, mut chance, mut tally) = (Rival::new(), Chance::new(1), Tally::default());
+    let (mut chance, mut tally) = (Chance::new(1), Tally::default());
     for _ in 0..6_000 {
-        let (letters, ends) = lent(&valid(&mut chance, 8));
-        try_tray(&mut rival, &mut chance, &letters, &ends, &mut tally);
+        let tray = tray::Tray::of(&valid(&mut chance, 8, 40));
+        try_tray(&mut chance, &tray, &mut tally);
     }
     tally.assert_all_from(&[0, 7, 8, 9], 500);
 }
 
 #[test]
 fn long_trays_agree() {
-    let (mut rival, mut chance, mut tally) = (Rival::new(), Chance::new(2), Tally::default());
+    let (mut chance, mut tally) = (Chance::new(2), Tally::default());
     for _ in 0..1_000 {
-        let (letters, ends) = lent(&valid(&mut chance, 200));
-        try_tray(&mut rival, &mut chance, &letters, &ends, &mut tally);
+        let tray = tray::Tray::of(&valid(&mut chance, 200, 40));
+        try_tray(&mut chance, &tray, &mut tally);
     }
     tally.assert_all_from(&[0, 7, 8, 9], 100);
 }
 
 #[test]
 fn full_trays_agree() {
-    let (mut rival, mut chance, mut tally) = (Rival::new(), Chance::new(3), Tally::default());
+    let (mut chance, mut tally) = (Chance::new(3), Tally::default());
     for n in 0..150 {
         let signs = chance.signs([2, 3, 5, 26, 27][n / 5 % 5]);
         let all = slips(SHAPES[n % 5], &mut chance, 200, 10, 10, &signs);
-        let (letters, ends) = lent(&all);
-        assert_eq!((letters.len(), ends.len()), (2_000, 200));
-        try_tray(&mut rival, &mut chance, &letters, &ends, &mut tally);
+        let tray = tray::Tray::of(&all);
+        assert_eq!((tray.letters.len(), tray.ends.len()), (2_000, 200));
+        try_tray(&mut chance, &tray, &mut tally);
     }
     tally.assert_all_from(&[0], 150);
 }
 
 #[test]
 fn damaged_trays_agree() {
-    let (mut rival, mut chance, mut tally) = (Rival::new(), Chance::new(4), Tally::default());
+    let (mut chance, mut tally) = (Chance::new(4), Tally::default());
     for n in 0..5_000 {
-        let (letters, ends) = damaged(&mut chance, DAMAGES[n % DAMAGES.len()]);
-        try_tray(&mut rival, &mut chance, &letters, &ends, &mut tally);
+        let tray = damaged(&mut chance, DAMAGES[n % DAMAGES.len()], 60);
+        try_tray(&mut chance, &tray, &mut tally);
     }
     tally.assert_all_from(&[1, 2, 3, 4, 5, 6], 400);
 }
@@ -72,17 +72,18 @@ fn damaged_trays_agree() {
 /// Each buffer just long enough, then one short of it, all else ample.
 #[test]
 fn each_buffer_one_short() {
-    let (mut rival, mut chance, mut met) = (Rival::new(), Chance::new(5), 0);
+    let (mut chance, mut met) = (Chance::new(5), 0);
     for _ in 0..400 {
-        let (letters, ends) = lent(&valid(&mut chance, 30));
+        let tray = tray::Tray::of(&valid(&mut chance, 30, 40));
+        let slips = tray.ends.len();
         let before = Buffers::of(AMPLE, &mut chance);
-        let (answer, _) = trial(&mut rival, &letters, &ends, &before);
+        let (answer, _) = trial(&tray, &before);
         let (legend, joins) = (answer.legend as usize, answer.joins as usize);
         let exact = Rooms {
             work: 32_000,
             legend,
             joins,
-            places: ends.len(),
+            places: slips,
         };
         let short = |work, legend, joins, places| Rooms {
             work,
@@ -92,17 +93,17 @@ fn each_buffer_one_short() {
         };
         let mut cases = vec![
             (exact, 0, 0),
-            (short(31_999, legend, joins, ends.len()), 7, 0),
-            (short(32_000, legend - 1, joins, ends.len()), 8, answer.legend),
-            (short(32_000, legend, joins, ends.len() - 1), 9, answer.joins),
+            (short(31_999, legend, joins, slips), 7, 0),
+            (short(32_000, legend - 1, joins, slips), 8, answer.legend),
+            (short(32_000, legend, joins, slips - 1), 9, answer.joins),
         ];
         if joins > 0 {
-            cases.push((short(32_000, legend, joins - 1, ends.len()), 9, answer.joins));
+            cases.push((short(32_000, legend, joins - 1, slips), 9, answer.joins));
             met += 1;
         }
         for (rooms, number, detail) in cases {
             let before = Buffers::of(rooms, &mut chance);
-            let (answer, _) = trial(&mut rival, &letters, &ends, &before);
+            let (answer, _) = trial(&tray, &before);
             assert_eq!((answer.number, answer.detail), (number, detail), "{rooms:?}");
         }
     }
@@ -112,21 +113,22 @@ fn each_buffer_one_short() {
 /// The comfortable form has the same outcome as the lent buffers.
 #[test]
 fn owned_trays_agree() {
-    let (mut rival, mut chance) = (Rival::new(), Chance::new(6));
+    let mut chance = Chance::new(6);
     for n in 0..1_000 {
-        let (letters, ends) = match n % 2 {
-            0 => lent(&valid(&mut chance, 40)),
-            _ => damaged(&mut chance, DAMAGES[n / 2 % DAMAGES.len()]),
+        let tray = match n % 2 {
+            0 => tray::Tray::of(&valid(&mut chance, 40, 40)),
+            _ => damaged(&mut chance, DAMAGES[n / 2 % DAMAGES.len()], 60),
         };
+        let slips = tray.ends.len();
         let before = Buffers::of(AMPLE, &mut chance);
-        let (answer, after) = trial(&mut rival, &letters, &ends, &before);
-        match compose_tray(&Tray::from_parts(letters, ends.clone())) {
+        let (answer, after) = trial(&tray, &before);
+        match compose_tray(&Tray::from_parts(tray.letters, tray.ends)) {
             Err(refusal) => assert_eq!(Some(refusal), answer.refusal()),
             Ok(legend) => {
                 assert_eq!(answer.number, 0);
                 assert_eq!(legend.text.as_bytes(), &after.legend[..answer.legend as usize]);
                 assert_eq!(legend.joins, after.joins[..answer.joins as usize]);
-                assert_eq!(legend.places, after.places[..ends.len()]);
+                assert_eq!(legend.places, after.places[..slips]);
                 assert_eq!(legend.kept, answer.kept as usize);
                 assert_eq!(legend.kept_letters, answer.letters as usize);
                 assert_eq!(legend.saved, answer.saved as usize);

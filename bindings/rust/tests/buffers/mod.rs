@@ -1,7 +1,8 @@
 //! Lent buffers, and one trial: the library and the plain program on the same tray and the same state of buffers.
-use crate::made::Chance;
-use crate::rival::{tray_fault, Rival};
 use kotsghane::{compose, Composed, Join, Place};
+use plain::compose::{compose_tray, fault_before_c, Composition, Rooms};
+use plain::made::Chance;
+use plain::tray::Tray;
 
 /// What is lent besides the tray.
 #[derive(Clone, Debug, PartialEq, Eq)]
@@ -10,15 +11,6 @@ pub struct Buffers {
     pub legend: Vec<u8>,
     pub joins: Vec<Join>,
     pub places: Vec<Place>,
-}
-
-/// How long each buffer is: cells, letters and records.
-#[derive(Clone, Copy, Debug, PartialEq, Eq)]
-pub struct Rooms {
-    pub work: usize,
-    pub legend: usize,
-    pub joins: usize,
-    pub places: usize,
 }
 
 /// Rooms that are enough for every tray.
@@ -51,42 +43,95 @@ impl Buffers {
             places,
         }
     }
+
+    fn rooms(&self) -> Rooms {
+        Rooms {
+            work: self.work.len(),
+            legend: self.legend.len(),
+            joins: self.joins.len(),
+            places: self.places.len(),
+        }
+    }
+
+    /// The outcome over the first part of each buffer.
+    fn write(&mut self, made: &Composition) {
+        self.legend[..made.legend.len()].copy_from_slice(&made.legend);
+        self.joins
+            .iter_mut()
+            .zip(&made.joins)
+            .for_each(|(to, from)| *to = join(from));
+        self.places
+            .iter_mut()
+            .zip(&made.places)
+            .for_each(|(to, from)| *to = place(from));
+    }
 }
 
-/// One trial in the given buffers: the answer, and what the buffers hold afterwards. Checks that the plain program gives
-/// the same answer and the same buffers; that a refusal leaves them as they were, the work area too before place C; and
-/// that behind the outcome each is unchanged.
-pub fn trial(rival: &mut Rival, letters: &[u8], ends: &[u16], before: &Buffers) -> (Composed, Buffers) {
+pub fn join(from: &plain::compose::Join) -> Join {
+    Join {
+        left: from.left as u16,
+        right: from.right as u16,
+        overlap: from.overlap as u16,
+    }
+}
+
+pub fn place(from: &plain::compose::Place) -> Place {
+    Place {
+        place: from.place as u16,
+        kept: u16::from(from.kept),
+    }
+}
+
+/// The counts of what the plain program composed.
+pub fn counts(made: &Composition) -> Composed {
+    Composed {
+        slips: made.places.len() as u32,
+        kept: made.kept() as u32,
+        letters: made.kept_letters as u32,
+        saved: made.saved() as u32,
+        legend: made.legend.len() as u32,
+        joins: made.joins.len() as u32,
+        ..Composed::default()
+    }
+}
+
+/// What is expected of a tray in these buffers: the answer, and what they hold afterwards but for the work area. A refusal
+/// leaves them as they were, and behind the outcome each is unchanged.
+fn expected(tray: &Tray, before: &Buffers) -> (Composed, Buffers) {
+    let mut after = before.clone();
+    let answer = match compose_tray(tray, before.rooms()) {
+        Ok(made) => {
+            after.write(&made);
+            counts(&made)
+        }
+        Err(refusal) => Composed {
+            number: refusal.number as u32,
+            detail: refusal.detail as u32,
+            ..Composed::default()
+        },
+    };
+    (answer, after)
+}
+
+/// One trial in the given buffers: the answer, and what the buffers hold afterwards. Checks that both are what the plain
+/// program says; the work area is unchanged where the call is refused before place C.
+pub fn trial(tray: &Tray, before: &Buffers) -> (Composed, Buffers) {
     let mut ours = before.clone();
     let answer = compose(
-        letters,
-        ends,
+        &tray.letters,
+        &tray.ends,
         &mut ours.work,
         &mut ours.legend,
         &mut ours.joins,
         &mut ours.places,
     );
-    let mut plain = before.clone();
-    let expected = rival.compose(
-        letters,
-        ends,
-        before.work.len(),
-        &mut plain.legend,
-        &mut plain.joins,
-        &mut plain.places,
-    );
-    assert_eq!(answer, expected);
-    assert_eq!(ours.legend, plain.legend);
-    assert_eq!(ours.joins, plain.joins);
-    assert_eq!(ours.places, plain.places);
-    let before_c = tray_fault(letters, ends).is_some() || before.work.len() < 32_000;
+    let (wanted, after) = expected(tray, before);
+    assert_eq!(answer, wanted);
+    assert_eq!(ours.legend, after.legend);
+    assert_eq!(ours.joins, after.joins);
+    assert_eq!(ours.places, after.places);
+    assert_eq!(ours.work.len(), before.work.len());
+    let before_c = fault_before_c(tray, before.work.len()).is_some();
     assert!(ours.work == before.work || !before_c);
-    let written = match answer.number {
-        0 => (answer.legend as usize, answer.joins as usize, ends.len()),
-        _ => (0, 0, 0),
-    };
-    assert_eq!(ours.legend[written.0..], before.legend[written.0..]);
-    assert_eq!(ours.joins[written.1..], before.joins[written.1..]);
-    assert_eq!(ours.places[written.2..], before.places[written.2..]);
     (answer, ours)
 }

@@ -1,36 +1,8 @@
-//! Made-up texts, what is lent for finding, and one trial: the library and the plain program on the same tray and text.
-#![allow(dead_code)] // each program that takes this file in uses a part of it
-
-use crate::made::{Chance, SIGNS};
-use crate::rival::finding::{self, fault_before_c};
+//! What is lent for finding, and one trial: the library and the plain program on the same tray and text.
 use kotsghane::{find, Found, Search};
-
-/// A text of `n` letters for these slips: letters of the tray by chance, any signs, slips, or stretches of slips.
-pub fn text(chance: &mut Chance, slips: &[Vec<u8>], n: usize) -> Vec<u8> {
-    let letters: Vec<u8> = slips.concat();
-    let kind = chance.below(4);
-    match kind {
-        0 => return chance.word(&letters, n),
-        1 => return chance.word(SIGNS, n),
-        _ => {}
-    }
-    let mut made = Vec::new();
-    while made.len() < n {
-        let slip = &slips[chance.below(slips.len())];
-        let start = if kind == 2 { 0 } else { chance.below(slip.len()) };
-        let end = if kind == 2 {
-            slip.len()
-        } else {
-            chance.between(start, slip.len())
-        };
-        made.extend_from_slice(&slip[start..end]);
-        if chance.below(6) == 0 {
-            made.extend(chance.word(SIGNS, 1));
-        }
-    }
-    made.truncate(n);
-    made
-}
+use plain::find::{fault_before_c, find_slips};
+use plain::made::Chance;
+use plain::tray::Tray;
 
 /// What is lent besides tray and text.
 #[derive(Clone, Debug, PartialEq, Eq)]
@@ -53,22 +25,47 @@ impl Lent {
     }
 }
 
-/// One trial: the answer, and what the buffers hold afterwards. Checks that the plain program gives the same answer and the
-/// same list; that a refusal leaves the list as it was, and the work area too before place C; that behind the
-/// outcome the list is unchanged; and that moves are at most twice the letters.
-pub fn trial(letters: &[u8], ends: &[u16], text: &[u8], before: &Lent) -> (Search, Lent) {
-    let cells = before.work.len();
+pub fn occurrence(end: usize, slip: usize) -> Found {
+    Found {
+        end: end as u32,
+        slip: slip as u32,
+    }
+}
+
+/// What is expected: the answer, and the list afterwards. A refusal leaves it as it was, and behind the outcome it is
+/// unchanged.
+fn expected(tray: &Tray, text: &[u8], before: &Lent) -> (Search, Vec<Found>) {
+    let mut after = before.found.clone();
+    let answer = match find_slips(tray, text, before.work.len(), before.found.len()) {
+        Ok(finding) => {
+            let all = finding.found.iter().map(|x| occurrence(x.end, x.slip));
+            after.iter_mut().zip(all).for_each(|(to, from)| *to = from);
+            Search {
+                moves: finding.moves as u32,
+                count: finding.found.len() as u32,
+                ..Search::default()
+            }
+        }
+        Err(refusal) => Search {
+            number: refusal.number as u32,
+            detail: refusal.detail as u32,
+            ..Search::default()
+        },
+    };
+    (answer, after)
+}
+
+/// One trial: the answer, and what the buffers hold afterwards. Checks that both are what the plain program says; that the
+/// work area is unchanged where the call is refused before place C; and that moves are at most twice the letters.
+pub fn trial(tray: &Tray, text: &[u8], before: &Lent) -> (Search, Lent) {
     let mut ours = before.clone();
-    let answer = find(letters, ends, text, &mut ours.work, &mut ours.found);
-    let mut plain = before.found.clone();
-    let expected = finding::find(letters, ends, text, cells, &mut plain);
-    assert_eq!(answer, expected);
-    assert!(ours.found == plain, "the lists differ");
-    let before_c = fault_before_c(letters, ends, text, cells).is_some();
+    let answer = find(&tray.letters, &tray.ends, text, &mut ours.work, &mut ours.found);
+    let (wanted, after) = expected(tray, text, before);
+    assert_eq!(answer, wanted);
+    assert!(ours.found == after, "the lists differ");
+    assert_eq!(ours.work.len(), before.work.len());
+    let before_c = fault_before_c(tray, text, before.work.len()).is_some();
     assert!(ours.work == before.work || !before_c);
-    let written = answer.count as usize;
-    assert!(written == 0 || answer.number == 0);
-    assert!(ours.found[written..] == before.found[written..]);
     assert!(answer.moves as usize <= 2 * text.len());
     (answer, ours)
 }

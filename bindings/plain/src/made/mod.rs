@@ -1,15 +1,17 @@
-//! Made-up trays of many shapes, from a small generator with a fixed seed.
-#![allow(dead_code)] // each program that takes this file in uses a part of it
+//! Made-up trays of many shapes, texts and files, from a small generator. Each kind of case has a seed of its own, so that
+//! new kinds leave the old ones as they are.
+use crate::{MAX_LETTERS, SIGNS};
 
+pub mod damage;
+pub mod files;
 pub mod full;
+pub mod texts;
 
-/// The 27 signs in byte order.
-pub const SIGNS: &[u8] = b".ABCDEFGHIJKLMNOPQRSTUVWXYZ";
-
-/// A generator of numbers (splitmix64): the same seed gives the same trays.
+/// A generator of numbers (splitmix64): the same seed gives the same cases.
 pub struct Chance(u64);
 
 impl Chance {
+    /// The generator with this seed.
     pub fn new(seed: u64) -> Chance {
         Chance(seed)
     }
@@ -38,10 +40,17 @@ impl Chance {
         (0..n).map(|k| SIGNS[(from + k) % SIGNS.len()]).collect()
     }
 
+    /// A word of `n` of these signs.
     pub fn word(&mut self, signs: &[u8], n: usize) -> Vec<u8> {
         (0..n).map(|_| signs[self.below(signs.len())]).collect()
     }
 
+    /// One of these.
+    pub fn one<T: Copy>(&mut self, of: &[T]) -> T {
+        of[self.below(of.len())]
+    }
+
+    /// Puts these into another order.
     pub fn shuffle<T>(&mut self, xs: &mut [T]) {
         for i in (1..xs.len()).rev() {
             xs.swap(i, self.below(i + 1));
@@ -49,6 +58,7 @@ impl Chance {
     }
 }
 
+/// Slips of letters; slip 1 stands first.
 pub type Slips = Vec<Vec<u8>>;
 
 /// How the slips of a tray hang together.
@@ -66,6 +76,7 @@ pub enum Shape {
     Inside,
 }
 
+/// All shapes.
 pub const SHAPES: [Shape; 5] = [
     Shape::Random,
     Shape::Windows,
@@ -131,25 +142,36 @@ fn inside(chance: &mut Chance, count: usize, low: usize, high: usize, signs: &[u
     all
 }
 
-/// As many of the first slips as have 2,000 letters together.
+/// As many of the first slips as have no more letters together than a tray.
 pub fn within_limit(mut all: Slips) -> Slips {
     let mut letters = 0;
     let fitting = all.iter().take_while(|x| {
         letters += x.len();
-        letters <= 2_000
+        letters <= MAX_LETTERS
     });
     let n = fitting.count();
     all.truncate(n);
     all
 }
 
-/// Letters and ends of slips, which may be of any kind.
-pub fn lent(slips: &[Vec<u8>]) -> (Vec<u8>, Vec<u16>) {
-    let mut letters = Vec::new();
-    let mut ends = Vec::new();
-    for x in slips {
-        letters.extend_from_slice(x);
-        ends.push(letters.len() as u16);
+/// A valid tray of up to `most` slips of up to `longest` letters, of any shape.
+pub fn valid(chance: &mut Chance, most: usize, longest: usize) -> Slips {
+    let shape = chance.one(&SHAPES);
+    let count = chance.between(1, most);
+    let high = chance.between(1, longest);
+    let low = chance.between(1, high);
+    let many = chance.between(1, SIGNS.len());
+    let few = chance.one(&[1, 2, 3, many]);
+    let signs = chance.signs(few);
+    within_limit(slips(shape, chance, count, low, high, &signs))
+}
+
+/// Room for `need`, one less, or some more.
+pub fn near(chance: &mut Chance, need: usize) -> usize {
+    match chance.below(4) {
+        0 => need.saturating_sub(1),
+        1 => need,
+        2 => need + 1,
+        _ => need + chance.below(50),
     }
-    (letters, ends)
 }

@@ -1,0 +1,49 @@
+//! `steps CALL FAMILY SLIPS TIMES`: makes the exported call `compose` or `find` so many times on one tray of a family, of so
+//! many slips of ten letters. `run` beside it counts the instructions of one call more.
+use kotsghane::{compose, find, Found, Join, Place, WORK_CELLS};
+use plain::made::{slips, Chance, Shape, Slips};
+use plain::tray::Tray;
+use plain::SIGNS;
+use std::hint::black_box;
+
+fn family(name: &str, count: usize) -> Slips {
+    let mut chance = Chance::new(1);
+    let (shape, signs) = match name {
+        "random" => (Shape::Random, &SIGNS[1..]),
+        "two-letters" => (Shape::Random, &b"AB"[..]),
+        "windows" => (Shape::Windows, &SIGNS[1..]),
+        "beginnings" => (Shape::Beginnings, &SIGNS[1..]),
+        "chain" => (Shape::Chain, &SIGNS[1..]),
+        "inside" => (Shape::Inside, &SIGNS[1..]),
+        _ => panic!("no family {name}"),
+    };
+    let low = if name == "inside" { 3 } else { 10 };
+    slips(shape, &mut chance, count, low, 10, signs)
+}
+
+/// The slips, shuffled: a text of as many letters as the tray has.
+fn text_of(all: &Slips) -> Vec<u8> {
+    let mut shuffled = all.clone();
+    Chance::new(2).shuffle(&mut shuffled);
+    shuffled.concat()
+}
+
+fn main() {
+    let words: Vec<String> = std::env::args().collect();
+    let number = |i: usize| words[i].parse::<usize>().expect("a number");
+    let all = family(&words[2], number(3));
+    let (tray, text) = (Tray::of(&all), text_of(&all));
+    let (mut work, mut legend) = (vec![0; WORK_CELLS], vec![0; 2_000]);
+    let (mut joins, mut places) = (vec![Join::default(); 200], vec![Place::default(); 200]);
+    let mut found = vec![Found::default(); 8_000];
+    for _ in 0..number(4) {
+        let (letters, ends) = (black_box(&tray.letters), black_box(&tray.ends));
+        let refused = match words[1].as_str() {
+            "compose" => compose(letters, ends, &mut work, &mut legend, &mut joins, &mut places).number,
+            "find" => find(letters, ends, black_box(&text), &mut work, &mut found).number,
+            call => panic!("no call {call}"),
+        };
+        assert_eq!(refused, 0);
+    }
+    black_box((legend, joins, places, found));
+}

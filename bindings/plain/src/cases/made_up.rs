@@ -1,0 +1,174 @@
+//! Made-up cases. Each kind has a seed of its own: later kinds are added at the end, and old ones stay as they are.
+use super::{lending, Case, Lending, WHOLE, WHOLE_LIST};
+use crate::compose::compose;
+use crate::find::occurrences;
+use crate::made::damage::{damaged, DAMAGES};
+use crate::made::files::{damaged_file, tray_file, BLOTS};
+use crate::made::texts::{damaged_text, text};
+use crate::made::{near, slips, valid, Chance, SHAPES};
+use crate::tray::Tray;
+use crate::{FILE_ENDS, MAX_FILE, MAX_SLIP, WORK_CELLS};
+
+/// A kind of case: what it is, its seed, how many there are, and how the n-th is made.
+struct Kind {
+    name: &'static str,
+    seed: u64,
+    count: usize,
+    make: fn(&mut Chance, usize) -> Case,
+}
+
+const KINDS: &[Kind] = &[
+    Kind {
+        name: "Small trays",
+        seed: 101,
+        count: 1_500,
+        make: |chance, _| Case::Compose(Tray::of(&valid(chance, 10, 20)), WHOLE),
+    },
+    Kind {
+        name: "Trays of any size",
+        seed: 102,
+        count: 150,
+        make: |chance, _| Case::Compose(Tray::of(&valid(chance, 200, MAX_SLIP)), WHOLE),
+    },
+    Kind {
+        name: "Full trays",
+        seed: 103,
+        count: 40,
+        make: full_tray,
+    },
+    Kind {
+        name: "Damaged trays",
+        seed: 104,
+        count: 1_000,
+        make: |chance, n| Case::Compose(damaged(chance, DAMAGES[n % DAMAGES.len()], 12), WHOLE),
+    },
+    Kind {
+        name: "Small rooms",
+        seed: 105,
+        count: 1_000,
+        make: small_rooms,
+    },
+    Kind {
+        name: "Damaged trays in small rooms",
+        seed: 106,
+        count: 200,
+        make: |chance, n| {
+            let tray = damaged(chance, DAMAGES[n % DAMAGES.len()], 10);
+            Case::Compose(tray, lending(chance.one(&[31_999, 0, WORK_CELLS]), 3, 5, 3))
+        },
+    },
+    Kind {
+        name: "Short texts",
+        seed: 107,
+        count: 1_200,
+        make: |chance, _| {
+            let all = valid(chance, 8, 12);
+            let n = chance.below(80);
+            Case::Find(Tray::of(&all), text(chance, &all, n), WORK_CELLS, WHOLE_LIST)
+        },
+    },
+    Kind {
+        name: "Texts and trays of any size",
+        seed: 108,
+        count: 80,
+        make: |chance, _| {
+            let all = valid(chance, 200, MAX_SLIP);
+            let n = chance.below(2_001);
+            Case::Find(Tray::of(&all), text(chance, &all, n), WORK_CELLS, WHOLE_LIST)
+        },
+    },
+    Kind {
+        name: "Damaged texts",
+        seed: 109,
+        count: 300,
+        make: |chance, n| {
+            let all = valid(chance, 6, 12);
+            let made = damaged_text(chance, &all, n % 8 == 0, n % 4);
+            Case::Find(Tray::of(&all), made, WORK_CELLS, WHOLE_LIST)
+        },
+    },
+    Kind {
+        name: "Damaged trays and a text",
+        seed: 110,
+        count: 200,
+        make: |chance, n| {
+            let tray = damaged(chance, DAMAGES[n % DAMAGES.len()], 10);
+            let letters = chance.below(40);
+            Case::Find(
+                tray,
+                chance.word(b"ABC.a", letters),
+                chance.one(&[WORK_CELLS, 31_999]),
+                8,
+            )
+        },
+    },
+    Kind {
+        name: "Small lists",
+        seed: 111,
+        count: 600,
+        make: small_list,
+    },
+    Kind {
+        name: "Tray files",
+        seed: 112,
+        count: 150,
+        make: |chance, _| Case::Read(tray_file(&valid(chance, 15, 20)), MAX_FILE, FILE_ENDS),
+    },
+    Kind {
+        name: "Damaged tray files",
+        seed: 113,
+        count: 900,
+        make: |chance, n| {
+            let all = valid(chance, 8, 12);
+            let file = damaged_file(chance, &all, BLOTS[n % BLOTS.len()]);
+            let (letters, ends) =
+                chance.one(&[(MAX_FILE, FILE_ENDS), (MAX_FILE + 9, FILE_ENDS + 9), (MAX_FILE, 1_699)]);
+            Case::Read(file, letters, ends)
+        },
+    },
+];
+
+/// 200 slips of 10 letters.
+fn full_tray(chance: &mut Chance, n: usize) -> Case {
+    let few = [2, 3, 5, 26, 27][n / SHAPES.len() % 5];
+    let signs = chance.signs(few);
+    let all = slips(SHAPES[n % SHAPES.len()], chance, 200, 10, 10, &signs);
+    Case::Compose(Tray::of(&all), WHOLE)
+}
+
+/// Rooms of about what the outcome needs, some of them one short.
+fn small_rooms(chance: &mut Chance, _: usize) -> Case {
+    let all = valid(chance, 12, 15);
+    let tray = Tray::of(&all);
+    let made = compose(&tray.slips());
+    let work = chance.one(&[WORK_CELLS, WORK_CELLS, WORK_CELLS + 7, 31_999]);
+    let mut room = |need: usize| near(chance, need);
+    let rooms: Lending = lending(
+        work,
+        room(made.legend.len()),
+        room(3 * made.joins.len()),
+        room(2 * all.len()),
+    );
+    Case::Compose(tray, rooms)
+}
+
+/// A list of about as many numbers as the occurrences need.
+fn small_list(chance: &mut Chance, _: usize) -> Case {
+    let all = valid(chance, 8, 10);
+    let n = chance.below(60);
+    let text = text(chance, &all, n);
+    let tray = Tray::of(&all);
+    let need = 2 * occurrences(&tray.slips(), &text).len();
+    let work = chance.one(&[WORK_CELLS, WORK_CELLS, WORK_CELLS + 7, 31_999]);
+    Case::Find(tray, text, work, near(chance, need))
+}
+
+pub fn all() -> Vec<Case> {
+    let mut cases = Vec::new();
+    for kind in KINDS {
+        cases.push(Case::Heading(kind.name.to_string()));
+        let mut chance = Chance::new(kind.seed);
+        cases.extend((0..kind.count).map(|n| (kind.make)(&mut chance, n)));
+    }
+    cases
+}

@@ -1,0 +1,127 @@
+//! The cases of the program `trials`: one line each, and the line that it must answer.
+//!
+//! | line | what is asked |
+//! |---|---|
+//! | `- TEXT` | nothing: a heading, answered by itself |
+//! | `C WORK LEGEND JOINS PLACES TRAY` | composing, with so many cells, letters and numbers lent |
+//! | `F WORK LIST TEXT TRAY` | finding, with so many cells and numbers lent |
+//! | `A LEFT RIGHT TRAY` | the tray check, the letters of slip LEFT, the overlap of LEFT and RIGHT |
+//! | `T LETTERS ENDS FILE` | reading a tray file, with so many letters and ends lent |
+//! | `S` | which bytes are signs |
+//!
+//! Every lent buffer is filled with a mark before the call, and behind it a sum over all its cells is told.
+use crate::tray::Tray;
+
+mod answers;
+mod code;
+pub mod edges;
+mod made_up;
+mod specimens;
+
+/// What a lent byte holds before the call.
+const MARK_BYTE: usize = 7;
+
+/// What a lent cell of 16 bits holds before the call.
+const MARK_CELL: usize = 7_777;
+
+/// What a lent number of 32 bits holds before the call.
+const MARK_NUMBER: usize = 77_777_777;
+
+/// How much is lent for composing: cells, letters, numbers of joins (three a record) and of places (two a record).
+#[derive(Clone, Copy, Debug)]
+pub struct Lending {
+    numbers: [usize; 4],
+}
+
+/// Room for every tray.
+const WHOLE: Lending = lending(32_000, 2_000, 600, 400);
+
+/// Room for every text of the program `find`.
+const WHOLE_LIST: usize = 16_000;
+
+const fn lending(work: usize, legend: usize, joins: usize, places: usize) -> Lending {
+    Lending {
+        numbers: [work, legend, joins, places],
+    }
+}
+
+impl Lending {
+    /// Lists of 200 records, and of 2, are tried as records too.
+    fn has_records(&self) -> bool {
+        matches!(self.numbers, [_, _, 600, 400] | [_, _, 6, 4])
+    }
+}
+
+/// One case.
+#[derive(Clone, Debug)]
+pub enum Case {
+    /// What follows, in words.
+    Heading(String),
+    /// A tray, and how much is lent.
+    Compose(Tray, Lending),
+    /// A tray, a text, and how many cells and numbers are lent.
+    Find(Tray, Vec<u8>, usize, usize),
+    /// A tray, and two slip numbers.
+    Ask(Tray, usize, usize),
+    /// A tray file, and how many letters and ends are lent.
+    Read(Vec<u8>, usize, usize),
+    /// All bytes.
+    Signs,
+}
+
+impl Case {
+    fn line(&self) -> String {
+        match self {
+            Case::Heading(text) => format!("- {text}"),
+            Case::Compose(tray, lent) => {
+                let [work, legend, joins, places] = lent.numbers;
+                format!("C {work} {legend} {joins} {places} {}", code::tray(tray))
+            }
+            Case::Find(tray, text, work, list) => {
+                format!("F {work} {list} {} {}", code::bytes(text), code::tray(tray))
+            }
+            Case::Ask(tray, left, right) => format!("A {left} {right} {}", code::tray(tray)),
+            Case::Read(file, letters, ends) => format!("T {letters} {ends} {}", code::bytes(file)),
+            Case::Signs => "S".to_string(),
+        }
+    }
+
+    /// What `trials` must print of it.
+    pub fn answer(&self) -> String {
+        match self {
+            Case::Heading(_) => self.line(),
+            Case::Compose(tray, lent) => answers::compose(tray, lent),
+            Case::Find(tray, text, work, list) => answers::find(tray, text, *work, *list),
+            Case::Ask(tray, left, right) => answers::ask(tray, *left, *right),
+            Case::Read(file, letters, ends) => answers::read(file, *letters, *ends),
+            Case::Signs => answers::signs(),
+        }
+    }
+}
+
+/// All cases: the edge trays, the specimens, and the made-up ones.
+pub fn all() -> Vec<Case> {
+    [edge_trays(), specimens::all(), made_up::all()].concat()
+}
+
+fn edge_trays() -> Vec<Case> {
+    let case = |row| match edges::asked(row) {
+        Some(asked) => vec![
+            Case::Heading(asked.name.to_string()),
+            Case::Ask(asked.tray, asked.left, asked.right),
+        ],
+        None => vec![Case::Heading(row.to_string())],
+    };
+    let rows = edges::ROWS.lines().flat_map(case);
+    rows.chain([Case::Signs]).collect()
+}
+
+/// The input of `trials`.
+pub fn lines(cases: &[Case]) -> String {
+    cases.iter().map(|case| case.line() + "\n").collect()
+}
+
+/// What `trials` must print.
+pub fn answers(cases: &[Case]) -> String {
+    cases.iter().map(|case| case.answer() + "\n").collect()
+}

@@ -1,0 +1,144 @@
+//! The specimen trays of the rules, trays that tell a misreading from the rule, and each limit with its neighbour.
+use super::{lending, Case, Lending, WHOLE, WHOLE_LIST};
+use crate::by_hand::{COMPOSE, COMPOSE_FILE, SEARCHES, SPECIMENS};
+use crate::made::files::tray_file;
+use crate::tray::Tray;
+use crate::{FILE_ENDS, MAX_FILE, WORK_CELLS};
+
+/// What is lent for the compose tray.
+const LENDINGS: &[(&str, Lending)] = &[
+    ("all exact", lending(32_000, 15, 9, 10)),
+    ("all longer", lending(32_050, 40, 33, 25)),
+    ("a work area of 31,999 cells", lending(31_999, 15, 9, 10)),
+    ("a legend of 14", lending(32_000, 14, 9, 10)),
+    ("2 joins", lending(32_000, 15, 8, 10)),
+    ("4 places", lending(32_000, 15, 9, 9)),
+    ("8 before 9", lending(32_000, 14, 8, 9)),
+    ("7 before 8 and 9", lending(31_999, 14, 8, 9)),
+    ("nothing", lending(0, 0, 0, 0)),
+    ("7 with 200 records of each", lending(31_999, 15, 600, 400)),
+    ("8 with 200 records of each", lending(32_000, 14, 600, 400)),
+    ("2 records of each", lending(32_000, 15, 6, 4)),
+];
+
+/// Texts for the compose tray, and how many cells and numbers are lent.
+const TEXTS: &[(&str, &str, usize, usize)] = &[
+    ("the find text", "IMPCAESAVG", 32_000, 6),
+    ("a list of 2", "IMPCAESAVG", 32_000, 4),
+    ("31,999 cells", "IMPCAESAVG", 31_999, 6),
+    ("31,999 cells and a list of 2", "IMPCAESAVG", 31_999, 4),
+    ("31,999 cells and a list of 2,000", "IMPCAESAVG", 31_999, 16_000),
+    ("no letters", "", 32_000, 0),
+    ("the legend", "SIMPCAESAVGPIVS", 32_000, 16_000),
+    ("bad bytes at places 4 and 8", "IMP-AES/VG", 32_000, 16_000),
+    ("13 before 7 and 14", "IMPCAESAVGa", 31_999, 0),
+];
+
+/// So many slips of so many letters, no two of the first 26 beginning alike.
+fn even(slips: usize, letters: usize) -> Tray {
+    let slip = |i: usize| (i..i + letters).map(|k| b'A' + ((k * k + i) % 26) as u8).collect();
+    Tray::of(&(0..slips).map(slip).collect::<Vec<Vec<u8>>>())
+}
+
+/// Each limit of a tray, and one more.
+fn limits() -> Vec<(&'static str, Tray)> {
+    vec![
+        ("200 slips", even(200, 7)),
+        ("201 slips", even(201, 7)),
+        ("a slip of 40 letters", even(1, 40)),
+        ("a slip of 41 letters", even(1, 41)),
+        ("2,000 letters in 200 slips", even(200, 10)),
+        ("2,000 letters in 50 slips", even(50, 40)),
+        ("2,001 letters in 69 slips", even(69, 29)),
+    ]
+}
+
+/// Tray files that are whole or wrong in one respect, each with enough room.
+fn files() -> Vec<(&'static str, Vec<u8>)> {
+    let lines = |parts: &[&[u8]]| parts.concat();
+    let filled = |n: usize| [b"   1   1 A\n".to_vec(), vec![b'B'; n - 11]].concat();
+    vec![
+        ("the compose file", COMPOSE_FILE.into()),
+        ("no line", vec![]),
+        ("a line of LF alone", b"\n".to_vec()),
+        ("letters of any kind", b"   1   7 a \0\xff;\r,\n".to_vec()),
+        ("a slip without letters", b"   1   0 \n".to_vec()),
+        ("a last line without LF", b"   1   3 AVG\n   2   3 AES".to_vec()),
+        ("a leading zero", b"   1  03 AVG\n".to_vec()),
+        ("a sign before a number", b"  +1   3 AVG\n".to_vec()),
+        ("a blank behind a number", b"1      3 AVG\n".to_vec()),
+        ("no number", b"       3 AVG\n".to_vec()),
+        ("no blank in column 9", b"   1   3AVGS\n".to_vec()),
+        ("slip 0", b"   0   3 AVG\n".to_vec()),
+        ("slip 2 first", b"   2   3 AVG\n".to_vec()),
+        ("a length too low", b"   1   2 AVG\n".to_vec()),
+        ("a length too high", b"   1   4 AVG\n".to_vec()),
+        ("17 before 18 and 19", b"   2   4AVG\n".to_vec()),
+        ("18 before 19", b"   2   4 AVG\n".to_vec()),
+        (
+            "the first bad line",
+            lines(&[b"   1   3 AVG\n   2   4 AES\n", b"no line\n"]),
+        ),
+        ("1,638 slips without letters", tray_file(&vec![b""; 1_638])),
+        ("a file of 16,384 bytes", filled(16_384)),
+        ("a file of 16,385 bytes", filled(16_385)),
+    ]
+}
+
+/// A named case.
+fn named(name: &str, case: Case) -> [Case; 2] {
+    [Case::Heading(name.to_string()), case]
+}
+
+pub fn all() -> Vec<Case> {
+    let sample = Tray::of(COMPOSE.slips);
+    let mut cases = vec![Case::Heading("Specimens".to_string())];
+    for case in SPECIMENS {
+        cases.extend(named(case.name, Case::Compose(Tray::of(case.slips), WHOLE)));
+    }
+    for (name, lent) in LENDINGS {
+        cases.extend(named(name, Case::Compose(sample.clone(), *lent)));
+    }
+    cases.extend(named(
+        "the empty tray and nothing but cells",
+        Case::Compose(Tray::default(), lending(WORK_CELLS, 0, 0, 0)),
+    ));
+    for (name, tray) in limits() {
+        cases.extend(named(name, Case::Compose(tray.clone(), WHOLE)));
+        cases.push(Case::Compose(tray, lending(WORK_CELLS, 0, 600, 400)));
+    }
+    for case in SEARCHES {
+        cases.extend(named(
+            case.name,
+            Case::Find(Tray::of(case.slips), case.text.into(), WORK_CELLS, WHOLE_LIST),
+        ));
+    }
+    for (name, text, work, list) in TEXTS {
+        cases.extend(named(
+            name,
+            Case::Find(sample.clone(), text.as_bytes().to_vec(), *work, *list),
+        ));
+    }
+    for (name, n) in [("2,000 letters", 2_000), ("2,001 letters", 2_001)] {
+        cases.extend(named(
+            name,
+            Case::Find(sample.clone(), vec![b'S'; n], WORK_CELLS, WHOLE_LIST),
+        ));
+    }
+    for (name, file) in files() {
+        cases.extend(named(name, Case::Read(file, MAX_FILE, FILE_ENDS)));
+    }
+    for (letters, ends) in [
+        (16_384, 1_700),
+        (16_383, 1_700),
+        (16_384, 1_699),
+        (16_400, 1_750),
+        (0, 0),
+    ] {
+        let name = format!("{letters} letters and {ends} ends lent");
+        cases.extend(named(&name, Case::Read(COMPOSE_FILE.into(), letters, ends)));
+    }
+    let long = vec![b'A'; 16_385];
+    cases.extend(named("15 before 16", Case::Read(long, 16_383, 1_700)));
+    cases
+}

@@ -1,0 +1,180 @@
+//! Composing: every pair of slips is compared.
+use crate::tray::{overlap, Tray};
+use crate::{refusal, row, unless, Refusal, WORK_CELLS};
+
+/// Two slips joined, and how many letters they share.
+#[derive(Clone, Copy, Debug, PartialEq, Eq)]
+pub struct Join {
+    /// The left slip.
+    pub left: usize,
+    /// The right slip.
+    pub right: usize,
+    /// The letters that they share.
+    pub overlap: usize,
+}
+
+/// Where a slip stands in the legend, from 1, and whether it is kept.
+#[derive(Clone, Copy, Debug, PartialEq, Eq)]
+pub struct Place {
+    /// The place of its first letter.
+    pub place: usize,
+    /// Kept, or set aside.
+    pub kept: bool,
+}
+
+/// A tray composed.
+#[derive(Clone, Debug, Default, PartialEq, Eq)]
+pub struct Composition {
+    /// For each slip its place.
+    pub places: Vec<Place>,
+    /// The joins in the order made.
+    pub joins: Vec<Join>,
+    /// The letters of the legend.
+    pub legend: Vec<u8>,
+    /// The letters of the kept slips.
+    pub kept_letters: usize,
+}
+
+impl Composition {
+    /// The kept slips, counted.
+    pub fn kept(&self) -> usize {
+        self.places.iter().filter(|place| place.kept).count()
+    }
+
+    /// The letters saved by the joins.
+    pub fn saved(&self) -> usize {
+        self.joins.iter().map(|join| join.overlap).sum()
+    }
+}
+
+/// How much is lent: cells, letters, and records of joins and of places.
+#[derive(Clone, Copy, Debug, PartialEq, Eq)]
+pub struct Rooms {
+    /// Cells of the work area.
+    pub work: usize,
+    /// Letters of the legend's buffer.
+    pub legend: usize,
+    /// Records of joins.
+    pub joins: usize,
+    /// Records of places.
+    pub places: usize,
+}
+
+/// The lowest place, from 1, at which `x` stands in `text`: each place is tried, and the trial ends at the first match.
+pub fn lowest_place(x: &[u8], text: &[u8]) -> Option<usize> {
+    let at = text.windows(x.len()).position(|part| part[0] == x[0] && part == x)?;
+    Some(at + 1)
+}
+
+/// Set aside: a slip whose letters stand in a longer slip, or equal those of a lower-numbered slip. `i` counts from 0.
+fn is_aside(slips: &[&[u8]], i: usize) -> bool {
+    let x = slips[i];
+    let longer = |y: &&[u8]| y.len() > x.len() && lowest_place(x, y).is_some();
+    slips.iter().any(longer) || slips[..i].contains(&x)
+}
+
+/// The arcs between the kept slips: longer overlap first, then smaller overlap string, then lower right slip, then lower
+/// left slip.
+fn arcs(slips: &[&[u8]], kept: &[usize]) -> Vec<Join> {
+    let mut all = Vec::with_capacity(kept.len() * kept.len());
+    for &left in kept {
+        for &right in kept {
+            let overlap = match left == right {
+                true => 0,
+                false => overlap(slips[left - 1], slips[right - 1]),
+            };
+            if overlap > 0 {
+                all.push(Join { left, right, overlap });
+            }
+        }
+    }
+    let string = |arc: &Join| &slips[arc.right - 1][..arc.overlap];
+    all.sort_unstable_by(|a, b| {
+        let longer = b.overlap.cmp(&a.overlap);
+        let smaller = longer.then_with(|| string(a).cmp(string(b)));
+        smaller.then((a.right, a.left).cmp(&(b.right, b.left)))
+    });
+    all
+}
+
+/// For each slip its neighbours; entry 0 is no slip.
+struct Neighbours {
+    left: Vec<Option<usize>>,
+    right: Vec<Option<usize>>,
+}
+
+impl Neighbours {
+    /// The last slip of the chain that slip `i` begins.
+    fn last(&self, mut i: usize) -> usize {
+        while let Some(next) = self.right[i] {
+            i = next;
+        }
+        i
+    }
+
+    /// Whether an arc becomes a join: unless a neighbour is there, or its left slip is the last of the chain that its right
+    /// slip begins.
+    fn take(&mut self, arc: &Join) -> bool {
+        let free = self.right[arc.left].is_none() && self.left[arc.right].is_none();
+        let joined = free && self.last(arc.right) != arc.left;
+        if joined {
+            self.right[arc.left] = Some(arc.right);
+            self.left[arc.right] = Some(arc.left);
+        }
+        joined
+    }
+}
+
+/// The plain rule over the slips of an accepted tray, and the legend.
+pub fn compose(slips: &[&[u8]]) -> Composition {
+    let numbers = 1..=slips.len();
+    let kept: Vec<usize> = numbers.clone().filter(|&i| !is_aside(slips, i - 1)).collect();
+    let mut chains = Neighbours {
+        left: vec![None; slips.len() + 1],
+        right: vec![None; slips.len() + 1],
+    };
+    let mut joins = arcs(slips, &kept);
+    joins.retain(|arc| chains.take(arc));
+    let mut shared = vec![0; slips.len() + 1];
+    for join in &joins {
+        shared[join.right] = join.overlap;
+    }
+    let mut legend = Vec::new();
+    let mut laid = vec![None; slips.len() + 1];
+    // Chains by ascending number of their first slip; each slip adds its letters beyond the overlap.
+    for &first in kept.iter().filter(|&&i| chains.left[i].is_none()) {
+        let mut next = Some(first);
+        while let Some(i) = next {
+            laid[i] = Some(legend.len() - shared[i] + 1);
+            legend.extend_from_slice(&slips[i - 1][shared[i]..]);
+            next = chains.right[i];
+        }
+    }
+    let aside = |i: usize| lowest_place(slips[i - 1], &legend).expect("a slip set aside stands in the legend");
+    let place = |i: usize| Place {
+        place: laid[i].unwrap_or_else(|| aside(i)),
+        kept: laid[i].is_some(),
+    };
+    Composition {
+        places: numbers.map(place).collect(),
+        kept_letters: kept.iter().map(|&i| slips[i - 1].len()).sum(),
+        joins,
+        legend,
+    }
+}
+
+/// What turns composing back before place C: rows 1 to 6, and 7.
+pub fn fault_before_c(tray: &Tray, work: usize) -> Option<Refusal> {
+    tray.fault().or(row(7, work < WORK_CELLS))
+}
+
+/// Composes any tray in so much room, or refuses it.
+pub fn compose_tray(tray: &Tray, rooms: Rooms) -> Result<Composition, Refusal> {
+    unless(fault_before_c(tray, rooms.work))?;
+    let made = compose(&tray.slips());
+    let (letters, joins) = (made.legend.len(), made.joins.len());
+    unless((letters > rooms.legend).then_some(refusal(8, letters)))?;
+    let short = joins > rooms.joins || made.places.len() > rooms.places;
+    unless(short.then_some(refusal(9, joins)))?;
+    Ok(made)
+}

@@ -1,0 +1,68 @@
+//! What is right, said once more and in another way than the library says it: a plain program that compares all pairs of
+//! slips, written only from the sentences of the rules. It shares no table, no loop and no order of work with the library.
+//!
+//! - [`tray`], [`file`], [`compose`], [`find`], [`sheet`]: the plain program.
+//! - [`by_hand`]: what was worked out by hand.
+//! - [`made`]: made-up trays, texts and files, whole and damaged.
+//! - [`cases`]: the cases of the program `trials`, and what it must answer to each.
+#![deny(missing_docs, unsafe_code)]
+
+pub mod by_hand;
+pub mod cases;
+pub mod compose;
+pub mod file;
+pub mod find;
+pub mod made;
+pub mod sheet;
+pub mod tray;
+
+/// The most slips that a tray has.
+pub const MAX_SLIPS: usize = 200;
+
+/// The most letters that a slip has.
+pub const MAX_SLIP: usize = 40;
+
+/// The most letters that a tray has.
+pub const MAX_LETTERS: usize = 2_000;
+
+/// The most letters that a text has.
+pub const MAX_TEXT: usize = 2_000;
+
+/// So many cells of the work area are asked for.
+pub const WORK_CELLS: usize = 32_000;
+
+/// The most bytes that a tray file has, and the letters that reading one asks for.
+pub const MAX_FILE: usize = 16_384;
+
+/// The ends that reading a tray file asks for.
+pub const FILE_ENDS: usize = 1_700;
+
+/// The occurrences that the list of the program `find` takes.
+pub const MAX_FOUND: usize = 8_000;
+
+/// The 27 signs in byte order.
+pub const SIGNS: &[u8] = b".ABCDEFGHIJKLMNOPQRSTUVWXYZ";
+
+/// What turns a call back: a row's number and one detail, 0 where none is named.
+#[derive(Clone, Copy, Debug, PartialEq, Eq)]
+pub struct Refusal {
+    /// The number of the row.
+    pub number: usize,
+    /// Its detail.
+    pub detail: usize,
+}
+
+/// The refusal with this number and detail.
+pub fn refusal(number: usize, detail: usize) -> Refusal {
+    Refusal { number, detail }
+}
+
+/// The refusal, or go on.
+pub(crate) fn unless(fault: Option<Refusal>) -> Result<(), Refusal> {
+    fault.map_or(Ok(()), Err)
+}
+
+/// A row without a detail: it turns back where `bad` holds.
+pub(crate) fn row(number: usize, bad: bool) -> Option<Refusal> {
+    bad.then_some(refusal(number, 0))
+}

@@ -1,0 +1,83 @@
+//! Trays: letters and ends of any kind, what turns one back, its slips, and what is asked of one slip or of a pair.
+use crate::{refusal, row, unless, Refusal, MAX_LETTERS, MAX_SLIP, MAX_SLIPS, SIGNS};
+
+/// A tray as it is lent. Slip 1 runs from the start to the first end, each other from the end before it to its own.
+#[derive(Clone, Debug, Default, PartialEq, Eq)]
+pub struct Tray {
+    /// The letters of all slips, any bytes.
+    pub letters: Vec<u8>,
+    /// For each slip its end, any number.
+    pub ends: Vec<u16>,
+}
+
+/// The longest string that ends `a` and begins `b`, counted. It may be a whole slip, and may be empty.
+pub fn overlap(a: &[u8], b: &[u8]) -> usize {
+    let most = a.len().min(b.len());
+    (1..=most)
+        .rev()
+        .find(|n| a[a.len() - n] == b[0] && a[a.len() - n..] == b[..*n])
+        .unwrap_or(0)
+}
+
+impl Tray {
+    /// The tray of these slips.
+    pub fn of<S: AsRef<[u8]>>(slips: &[S]) -> Tray {
+        let mut tray = Tray::default();
+        for slip in slips {
+            tray.letters.extend_from_slice(slip.as_ref());
+            tray.ends.push(tray.letters.len() as u16);
+        }
+        tray
+    }
+
+    /// Where each slip starts and ends, as the ends say.
+    fn spans(&self) -> Vec<(usize, usize)> {
+        let ends = self.ends.iter().map(|&end| usize::from(end));
+        let starts = std::iter::once(0).chain(ends.clone());
+        starts.zip(ends).collect()
+    }
+
+    /// Rows 1 to 6. A slip as a detail is the lowest at fault.
+    pub fn fault(&self) -> Option<Refusal> {
+        let (spans, size) = (self.spans(), self.letters.len());
+        let lowest = |number: usize, bad: &dyn Fn(usize, usize) -> bool| {
+            let slip = spans.iter().position(|&(start, end)| bad(start, end))?;
+            Some(refusal(number, slip + 1))
+        };
+        let outside = |byte: &u8| !SIGNS.contains(byte);
+        row(1, spans.len() > MAX_SLIPS)
+            .or_else(|| lowest(2, &|start, end| end <= start))
+            .or_else(|| lowest(3, &|start, end| end - start > MAX_SLIP))
+            .or_else(|| row(4, size > MAX_LETTERS))
+            .or_else(|| row(5, spans.last().map_or(0, |&(_, end)| end) != size))
+            .or_else(|| lowest(6, &|start, end| self.letters[start..end].iter().any(outside)))
+    }
+
+    /// The slips of an accepted tray; slip 1 stands first.
+    pub fn slips(&self) -> Vec<&[u8]> {
+        let part = |(start, end): (usize, usize)| &self.letters[start..end];
+        self.spans().into_iter().map(part).collect()
+    }
+
+    /// Row 10: the first of these slip numbers that is 0 or above the count.
+    fn request_fault(&self, numbers: &[usize]) -> Option<Refusal> {
+        let bad = numbers.iter().find(|&&i| i == 0 || i > self.ends.len());
+        bad.map(|&i| refusal(10, i))
+    }
+
+    /// The letters of one slip.
+    pub fn slip(&self, i: usize) -> Result<&[u8], Refusal> {
+        unless(self.fault())?;
+        unless(self.request_fault(&[i]))?;
+        Ok(self.slips()[i - 1])
+    }
+
+    /// The overlap of slips i and j.
+    pub fn pair(&self, i: usize, j: usize) -> Result<usize, Refusal> {
+        unless(self.fault())?;
+        unless(self.request_fault(&[i, j]))?;
+        unless((i == j).then_some(refusal(11, i)))?;
+        let slips = self.slips();
+        Ok(overlap(slips[i - 1], slips[j - 1]))
+    }
+}

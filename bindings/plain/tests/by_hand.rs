@@ -1,0 +1,102 @@
+//! The plain program is held to what was worked out by hand.
+use plain::by_hand::{COMPOSE_FILE, COMPOSE_SHEET, FIND, FIND_SHEET, SEARCHES, SPECIMENS};
+use plain::cases::{edges, Case};
+use plain::compose::compose;
+use plain::find::{longest_ending, occurrences, walk};
+use plain::made::files::tray_file;
+use plain::made::texts::text;
+use plain::made::{valid, Chance};
+use plain::sheet::{compose_sheet, find_sheet};
+use plain::tray::{overlap, Tray};
+
+#[test]
+fn specimen_trays() {
+    for case in SPECIMENS {
+        let (name, tray) = (case.name, Tray::of(case.slips));
+        let made = compose(&tray.slips());
+        assert_eq!(made.legend, case.legend.as_bytes(), "{name}");
+        let joins: Vec<_> = made.joins.iter().map(|x| (x.left, x.right, x.overlap)).collect();
+        assert_eq!(joins, case.joins, "{name}");
+        let mark = |kept| if kept { 'K' } else { 'S' };
+        let places: Vec<_> = made.places.iter().map(|x| (x.place, mark(x.kept))).collect();
+        assert_eq!(places, case.places, "{name}");
+        assert_eq!(made.kept_letters, made.saved() + case.legend.len(), "{name}");
+    }
+}
+
+#[test]
+fn specimen_texts() {
+    for case in SEARCHES {
+        let (name, tray, text) = (case.name, Tray::of(case.slips), case.text.as_bytes());
+        let found: Vec<_> = occurrences(&tray.slips(), text)
+            .iter()
+            .map(|x| (x.end, x.slip))
+            .collect();
+        assert_eq!(found, case.found, "{name}");
+        assert_eq!(walk(&tray.slips(), text).1, case.moves, "{name}");
+    }
+}
+
+#[test]
+fn sheets() {
+    let file = COMPOSE_FILE.as_bytes();
+    assert_eq!(tray_file(FIND.slips), file);
+    assert_eq!(compose_sheet(file), COMPOSE_SHEET.as_bytes());
+    for end in ["", "\n"] {
+        let text = [FIND.text, end].concat();
+        assert_eq!(find_sheet(file, text.as_bytes()), FIND_SHEET.as_bytes());
+    }
+    assert_eq!(compose_sheet(b""), b"TRAY   0   0    0    0    0\n\n");
+    assert_eq!(compose_sheet(b"no tray\n"), b"REFUSED  17     1\n");
+    assert_eq!(find_sheet(file, b"IMP\nCAES\n"), b"REFUSED  13     4\n");
+}
+
+/// The rows of the edge trays, and all bytes as signs.
+#[test]
+fn edge_trays() {
+    let mut expected = edges::EXPECTED.lines();
+    for row in edges::ROWS.lines() {
+        let told = match edges::asked(row) {
+            None => row.to_string(),
+            Some(asked) => {
+                let answer = Case::Ask(asked.tray, asked.left, asked.right).answer();
+                answer.replacen('A', &format!("{}:", asked.name), 1)
+            }
+        };
+        assert_eq!(Some(told.as_str()), expected.next());
+    }
+    let signs = Case::Signs.answer();
+    let accepted = signs.trim_start_matches("S [").trim_end_matches(']');
+    assert_eq!(Some(accepted), expected.next());
+    assert_eq!(None, expected.next());
+}
+
+#[test]
+fn overlaps() {
+    let cases: [(&[u8], &[u8], usize); 6] = [
+        (b"AVG", b"AVG", 3),
+        (b"IMPCAES", b"CAESAVG", 4),
+        (b"CAESAVG", b"VGPIVS", 2),
+        (b"AB", b"BA", 1),
+        (b"CD", b"AB", 0),
+        (b"ANNA", b"ANA", 1),
+    ];
+    for (a, b, n) in cases {
+        assert_eq!(overlap(a, b), n);
+    }
+}
+
+/// The state by its steps is the longest ending of the text so far that begins a slip.
+#[test]
+fn both_sentences_of_the_state() {
+    let mut chance = Chance::new(38);
+    for _ in 0..1_000 {
+        let all = valid(&mut chance, 6, 40);
+        let n = chance.below(60);
+        let text = text(&mut chance, &all, n);
+        let slips: Vec<&[u8]> = all.iter().map(Vec::as_slice).collect();
+        let (state, moves) = walk(&slips, &text);
+        assert_eq!(state, longest_ending(&slips, &text));
+        assert!((text.len()..=2 * text.len()).contains(&moves));
+    }
+}

@@ -1,0 +1,138 @@
+//! The built programs `compose` and `find` on made-up and damaged files, against the plain program's sheets.
+use plain::made::damage::BAD_BYTES;
+use plain::made::files::{damaged_file, tray_file, BLOTS};
+use plain::made::texts::{damaged_text, text};
+use plain::made::{valid, Chance};
+use plain::sheet::{compose_sheet, find_sheet};
+use std::fs;
+use std::io::Write;
+use std::path::{Path, PathBuf};
+use std::process::{Command, Stdio};
+
+/// How often the two kinds of sheets were seen.
+#[derive(Default)]
+struct Sheets {
+    whole: usize,
+    refused: usize,
+}
+
+impl Sheets {
+    fn count(&mut self, sheet: &[u8]) {
+        match sheet.starts_with(b"REFUSED") {
+            true => self.refused += 1,
+            false => self.whole += 1,
+        }
+    }
+}
+
+fn program(name: &str) -> Command {
+    let path = Path::new(env!("CARGO_MANIFEST_DIR"))
+        .join("../../target/bin")
+        .join(name);
+    assert!(
+        path.exists(),
+        "target/bin/{name} is missing: run `rt check {name}` at the root of the repository"
+    );
+    Command::new(path)
+}
+
+fn composed(file: &[u8]) -> Vec<u8> {
+    let (input, output) = (Stdio::piped(), Stdio::piped());
+    let mut child = program("compose")
+        .stdin(input)
+        .stdout(output)
+        .spawn()
+        .expect("compose runs");
+    // A program that has read enough may close its input before all is written.
+    let _ = child.stdin.take().expect("its input").write_all(file);
+    child.wait_with_output().expect("compose ends").stdout
+}
+
+/// A folder of this test's own.
+fn folder(name: &str) -> PathBuf {
+    let path = std::env::temp_dir().join(format!("kotsghane-{name}-{}", std::process::id()));
+    fs::create_dir_all(&path).expect("a folder");
+    path
+}
+
+fn found(folder: &Path, file: &[u8], text: &[u8]) -> Vec<u8> {
+    fs::write(folder.join("TRAY.TXT"), file).expect("a tray file");
+    fs::write(folder.join("TEXT.TXT"), text).expect("a text file");
+    program("find").current_dir(folder).output().expect("find runs").stdout
+}
+
+/// A tray file: whole, damaged, of a tray that is turned back, or with bytes that are no signs.
+fn file(chance: &mut Chance, n: usize) -> Vec<u8> {
+    let most = [12, 60, 200][n / 4 % 3];
+    let mut all = valid(chance, most, 40);
+    let (i, k) = (chance.below(all.len()), chance.below(2));
+    match n % 4 {
+        0 => return tray_file(&all),
+        1 => all[i].extend(chance.word(b"AB.", 40 * k)),
+        2 => all[i][0] = chance.one(BAD_BYTES),
+        _ => return damaged_file(chance, &all, BLOTS[n / 4 % BLOTS.len()]),
+    }
+    tray_file(&all)
+}
+
+#[test]
+fn compose_prints_the_sheet() {
+    let (mut chance, mut sheets) = (Chance::new(201), Sheets::default());
+    for n in 0..1_000 {
+        let file = file(&mut chance, n);
+        let sheet = compose_sheet(&file);
+        assert!(
+            composed(&file) == sheet,
+            "the sheet of {:?}",
+            String::from_utf8_lossy(&file)
+        );
+        sheets.count(&sheet);
+    }
+    assert!(
+        sheets.whole > 300 && sheets.refused > 300,
+        "{} and {}",
+        sheets.whole,
+        sheets.refused
+    );
+}
+
+#[test]
+fn compose_reads_long_files() {
+    let line = |n: usize| format!("{n:4}   0 \n");
+    let many: String = (1..=1_700).map(line).collect();
+    for size in [16_380, 16_383, 16_384, 16_385, 17_000] {
+        let file = &many.as_bytes()[..size];
+        assert!(composed(file) == compose_sheet(file), "{size} bytes");
+    }
+}
+
+#[test]
+fn find_prints_the_sheet() {
+    let (mut chance, mut sheets, folder) = (Chance::new(202), Sheets::default(), folder("find"));
+    for n in 0..1_000 {
+        let all = valid(&mut chance, 20, 20);
+        let letters = [chance.below(100), chance.below(2_001)][n / 8 % 2];
+        let mut text = match n % 8 {
+            0 | 1 => damaged_text(&mut chance, &all, n % 16 < 8, n % 3),
+            _ => text(&mut chance, &all, letters),
+        };
+        let ends: [&[u8]; 4] = [b"", b"\n", b"\n\n", b"\r\n"];
+        text.extend_from_slice(ends[[0, 1, 1, n % 4][n / 2 % 4]]);
+        let file = if n % 5 == 0 {
+            file(&mut chance, n / 5)
+        } else {
+            tray_file(&all)
+        };
+        let sheet = find_sheet(&file, &text);
+        let told = String::from_utf8_lossy(&file);
+        assert!(found(&folder, &file, &text) == sheet, "the sheet of {told:?}");
+        sheets.count(&sheet);
+    }
+    fs::remove_dir_all(folder).expect("the folder goes");
+    assert!(
+        sheets.whole > 300 && sheets.refused > 200,
+        "{} and {}",
+        sheets.whole,
+        sheets.refused
+    );
+}

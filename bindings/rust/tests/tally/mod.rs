@@ -1,0 +1,17 @@
+//! How often each refusal was met.
+
+/// By number; 0 for none.
+#[derive(Default)]
+pub struct Tally([usize; 20]);
+
+impl Tally {
+    pub fn count(&mut self, number: u32) {
+        self.0[number as usize] += 1;
+    }
+
+    pub fn assert_all_from(&self, numbers: &[usize], least: usize) {
+        for &n in numbers {
+            assert!(self.0[n] >= least, "refusal {n} was met {} times", self.0[n]);
+        }
+    }
+}
