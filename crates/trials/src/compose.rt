@@ -1,0 +1,175 @@
+// Composing a tray: over lent numbers, over records, and its slips and pairs by themselves.
+ghost use Prim.Native.Nat.{_≤_};
+ghost use lib.ListN.{length};
+use crate::pairs;
+use crate::sums;
+use crate::table;
+use crate::writing;
+use crate::writing::put;
+use composing::Composed;
+use legends::Join;
+use legends::Place;
+
+// How many cells, bytes and numbers are lent, and where the letters start in the line.
+struct Rooms {
+    work: u32,
+    legend: u32,
+    joins: u32,
+    places: u32,
+    at: usize,
+}
+
+fn read_rooms(line: &[u8]) -> Rooms
+    ensures { λ r. ⌜ r .at ≤ length (now (line .entry)) ⌝ }
+{
+    let work = table::field(line, table::start(line));
+    let legend_at = work.at;
+    let legend = table::field(line, legend_at);
+    let joins_at = legend.at;
+    let joins = table::field(line, joins_at);
+    let places_at = joins.at;
+    let places = table::field(line, places_at);
+    Rooms {
+        work: work.value,
+        legend: legend.value,
+        joins: joins.value,
+        places: places.value,
+        at: places.at,
+    }
+}
+
+fn answer(a: Composed) {
+    writing::refusal(a.number, a.detail);
+    put(a.slips);
+    put(a.kept);
+    put(a.letters);
+    put(a.saved);
+    put(a.legend);
+    put(a.joins);
+}
+
+// The sums of what was lent.
+fn lent(number: u8, legend: &[u8], joins: u32, places: u32, work: &[u16]) {
+    put(sums::bytes(0, legend));
+    put(joins);
+    put(places);
+    writing::work(number, work);
+}
+
+fn flat(
+    letters: &[u8],
+    ends: &[u16],
+    work: &mut [u16],
+    legend: &mut [u8],
+    joins: &mut [u16],
+    places: &mut [u16],
+) {
+    let a = exports::compose_flat(letters, ends, work, legend, joins, places);
+    io::write_all(1, b"C");
+    answer(a);
+    let n = table::least(a.legend, legend.len());
+    writing::bracketed(&legend[0..n]);
+    lent(
+        a.number,
+        legend,
+        sums::cells(joins),
+        sums::cells(places),
+        work,
+    );
+}
+
+fn try_flat(letters: &[u8], ends: &[u16], rooms: Rooms) {
+    let mut work = [7777u16; 32100];
+    let mut legend = [7u8; 2100];
+    let mut joins = [7777u16; 620];
+    let mut places = [7777u16; 420];
+    let work_room = table::least(rooms.work, 32100);
+    let legend_room = table::least(rooms.legend, 2100);
+    let joins_room = table::least(rooms.joins, 620);
+    let places_room = table::least(rooms.places, 420);
+    flat(
+        letters,
+        ends,
+        &mut work[0..work_room],
+        &mut legend[0..legend_room],
+        &mut joins[0..joins_room],
+        &mut places[0..places_room],
+    );
+}
+
+fn join_mark() -> Join {
+    Join {
+        left: 7777,
+        right: 7777,
+        overlap: 7777,
+    }
+}
+
+fn place_mark() -> Place {
+    Place {
+        slip: 7777,
+        place: 7777,
+        kept: false,
+    }
+}
+
+// Over lists of 200 records.
+fn records(letters: &[u8], ends: &[u16], work: &mut [u16], legend: &mut [u8]) {
+    let join_list = [join_mark(); 200];
+    let place_list = [place_mark(); 200];
+    let made = bridge::compose(letters, ends, work, legend, join_list, place_list);
+    let a = made.answer;
+    let joins = made.joins;
+    let places = made.places;
+    io::write_all(1, b" R");
+    answer(a);
+    lent(
+        a.number,
+        legend,
+        sums::joins(joins),
+        sums::places(places),
+        work,
+    );
+}
+
+fn try_records(letters: &[u8], ends: &[u16], rooms: Rooms) {
+    let mut work = [7777u16; 32100];
+    let mut legend = [7u8; 2100];
+    let work_room = table::least(rooms.work, 32100);
+    let legend_room = table::least(rooms.legend, 2100);
+    records(
+        letters,
+        ends,
+        &mut work[0..work_room],
+        &mut legend[0..legend_room],
+    );
+}
+
+// Whether joins and places have the room that so many records have.
+fn holds(rooms: Rooms, joins: u32, places: u32) -> bool {
+    if rooms.joins == joins {
+        return rooms.places == places;
+    }
+    false
+}
+
+fn try_tray(letters: &[u8], ends: &[u16], rooms: Rooms) {
+    try_flat(letters, ends, rooms);
+    if holds(rooms, 600, 400) {
+        try_records(letters, ends, rooms);
+    }
+    if ends.len() < 13 {
+        pairs::show(letters, ends);
+    }
+}
+
+pub fn row(line: &[u8]) {
+    let mut letters = [0u8; 2300];
+    let mut ends = [0u16; 300];
+    let rooms = read_rooms(line);
+    let at = rooms.at;
+    let tray = table::tray_at(line, at, &mut letters, &mut ends);
+    let size = tray.letters;
+    let slips = tray.ends;
+    try_tray(&letters[0..size], &ends[0..slips], rooms);
+}

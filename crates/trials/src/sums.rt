@@ -1,0 +1,98 @@
+// The sum of a run of numbers, in which each number and its place count.
+use finding::Found;
+use legends::Join;
+use legends::Place;
+
+pub fn mix(sum: u32, x: u32) -> u32 {
+    let next = (sum as u64) * 65599 + (x as u64) + 1;
+    (next % 4294967291) as u32
+}
+
+fn byte(x: u8) -> u32 {
+    x as u32
+}
+
+fn cell(x: u16) -> u32 {
+    x as u32
+}
+
+fn flag(x: bool) -> u32 {
+    if x { 1 } else { 0 }
+}
+
+// Goes on from a sum.
+pub fn bytes(first: u32, run: &[u8]) -> u32 {
+    let mut sum = first;
+    let mut i: usize = 0;
+    while i < run.len() {
+        sum = mix(sum, byte(run[i]));
+        i += 1;
+    }
+    sum
+}
+
+pub fn cells(run: &[u16]) -> u32 {
+    let mut sum: u32 = 0;
+    let mut i: usize = 0;
+    while i < run.len() {
+        sum = mix(sum, cell(run[i]));
+        i += 1;
+    }
+    sum
+}
+
+pub fn numbers(run: &[u32]) -> u32 {
+    let mut sum: u32 = 0;
+    let mut i: usize = 0;
+    while i < run.len() {
+        sum = mix(sum, run[i]);
+        i += 1;
+    }
+    sum
+}
+
+pub fn join(sum: u32, join: Join) -> u32 {
+    let left = mix(sum, join.left as u32);
+    let right = mix(left, join.right as u32);
+    mix(right, join.overlap as u32)
+}
+
+pub fn place(sum: u32, place: Place) -> u32 {
+    let slip = mix(sum, place.slip as u32);
+    let at = mix(slip, place.place as u32);
+    mix(at, flag(place.kept))
+}
+
+pub fn found(sum: u32, found: Found) -> u32 {
+    mix(mix(sum, found.end), found.slip as u32)
+}
+
+pub fn joins(run: [Join; 200]) -> u32 {
+    let mut sum: u32 = 0;
+    let mut i: usize = 0;
+    while i < 200 {
+        sum = join(sum, run[i]);
+        i += 1;
+    }
+    sum
+}
+
+pub fn places(run: [Place; 200]) -> u32 {
+    let mut sum: u32 = 0;
+    let mut i: usize = 0;
+    while i < 200 {
+        sum = place(sum, run[i]);
+        i += 1;
+    }
+    sum
+}
+
+pub fn occurrences(run: [Found; 2000]) -> u32 {
+    let mut sum: u32 = 0;
+    let mut i: usize = 0;
+    while i < 2000 {
+        sum = found(sum, run[i]);
+        i += 1;
+    }
+    sum
+}
