@@ -2,7 +2,7 @@
 --   lends-array  == what an array owns and its cell become own (the `&ν mut [T]` at it) for a new lifetime ν, with the lender's part and ν's token
 --   takes-array  == what a call says of the slice's last value zs, the lender's part and ν's token become what the array zs owns and its cell, at some machine value
 -- The argument: an array in memory is its elements side by side (denote.ArrayMemory), which is what denote.Lend lends as a slice.
-use mathlib.Core.Path.{_≡_, refl, sym, _∙_, subst}
+use mathlib.Core.Path.{_≡_, refl, sym, subst}
 use Prim.Native.Nat.{ℕ}
 use mathlib.Core.List.{List, [], _∷_}
 use lib.ListN.{length}
@@ -19,7 +19,7 @@ use types.Share.{arr-parts}
 use types.Tokens.{lft-new, lft-end}
 use denote.RattleType.{RattleType}
 use denote.Memory.{cellAt, lone, partAt, mem, shares, partOf}
-use denote.Array.{Array, arrayVal, shape, each, inArray}
+use denote.Array.{Array, arrayVal, shape, each}
 use denote.ArrayMemory.{Single, array-apart, array-whole}
 use denote.Slice.{sliceVal, MutSlice, Room, finally}
 use denote.Lend.{Held, lends-slice, slice-back}

@@ -1,3 +1,6 @@
 -- Lemmas of the walks by hand.
 mod Arrays
+mod Composes
+mod Finds
 mod Records
+mod Straight

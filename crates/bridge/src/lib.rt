@@ -20,6 +20,18 @@ pub struct Finding {
     pub found: [Found; 2000],
 }
 
+// The same for lists of two records, which many a tray and text overfill.
+pub struct CompositionTwo {
+    pub answer: Composed,
+    pub joins: [Join; 2],
+    pub places: [Place; 2],
+}
+
+pub struct FindingTwo {
+    pub answer: Search,
+    pub found: [Found; 2],
+}
+
 pub fn compose(
     letters: &[u8],
     ends: &[u16],
@@ -49,4 +61,35 @@ pub fn find(
 {
     let answer = finding::find_slips(letters, ends, text, work, &mut found);
     Finding { answer, found }
+}
+
+pub fn compose_two(
+    letters: &[u8],
+    ends: &[u16],
+    work: &mut [u16],
+    legend: &mut [u8],
+    mut joins: [Join; 2],
+    mut places: [Place; 2],
+) -> CompositionTwo
+    ensures { λ two. ⌜ ComposeSays (now (letters .entry)) (now (ends .entry)) (now (work .entry)) (now (work .exit)) (now (legend .entry)) (now (legend .exit)) joins (two .joins) places (two .places) (two .answer) ⌝ }
+{
+    let answer = legends::compose_tray(letters, ends, work, legend, &mut joins, &mut places);
+    CompositionTwo {
+        answer,
+        joins,
+        places,
+    }
+}
+
+pub fn find_two(
+    letters: &[u8],
+    ends: &[u16],
+    text: &[u8],
+    work: &mut [u16],
+    mut found: [Found; 2],
+) -> FindingTwo
+    ensures { λ two. ⌜ FindSays (now (letters .entry)) (now (ends .entry)) (now (text .entry)) (now (work .entry)) (now (work .exit)) found (two .found) (two .answer) ⌝ }
+{
+    let answer = finding::find_slips(letters, ends, text, work, &mut found);
+    FindingTwo { answer, found }
 }
