@@ -113,18 +113,22 @@ fn place_mark() -> Place {
     }
 }
 
+// The answer over records, and the sums of what was lent.
+fn over_records(a: Composed, legend: &[u8], joins: u32, places: u32, work: &[u16]) {
+    io::write_all(1, b" R");
+    answer(a);
+    lent(a.number, legend, joins, places, work);
+}
+
 // Over lists of 200 records.
 fn records(letters: &[u8], ends: &[u16], work: &mut [u16], legend: &mut [u8]) {
     let join_list = [join_mark(); 200];
     let place_list = [place_mark(); 200];
     let made = bridge::compose(letters, ends, work, legend, join_list, place_list);
-    let a = made.answer;
     let joins = made.joins;
     let places = made.places;
-    io::write_all(1, b" R");
-    answer(a);
-    lent(
-        a.number,
+    over_records(
+        made.answer,
         legend,
         sums::joins(joins),
         sums::places(places),
@@ -132,31 +136,56 @@ fn records(letters: &[u8], ends: &[u16], work: &mut [u16], legend: &mut [u8]) {
     );
 }
 
-fn try_records(letters: &[u8], ends: &[u16], rooms: Rooms) {
+// Over lists of two records.
+fn two_records(letters: &[u8], ends: &[u16], work: &mut [u16], legend: &mut [u8]) {
+    let join_list = [join_mark(); 2];
+    let place_list = [place_mark(); 2];
+    let made = bridge::compose_two(letters, ends, work, legend, join_list, place_list);
+    let joins = made.joins;
+    let places = made.places;
+    over_records(
+        made.answer,
+        legend,
+        sums::two_joins(joins),
+        sums::two_places(places),
+        work,
+    );
+}
+
+fn try_records(letters: &[u8], ends: &[u16], rooms: Rooms, count: u32) {
     let mut work = [7777u16; 32100];
     let mut legend = [7u8; 2100];
     let work_room = table::least(rooms.work, 32100);
     let legend_room = table::least(rooms.legend, 2100);
-    records(
-        letters,
-        ends,
-        &mut work[0..work_room],
-        &mut legend[0..legend_room],
-    );
+    let work_part = &mut work[0..work_room];
+    let legend_part = &mut legend[0..legend_room];
+    if count == 2 {
+        two_records(letters, ends, work_part, legend_part);
+    } else {
+        records(letters, ends, work_part, legend_part);
+    }
 }
 
-// Whether joins and places have the room that so many records have.
-fn holds(rooms: Rooms, joins: u32, places: u32) -> bool {
-    if rooms.joins == joins {
-        return rooms.places == places;
+// How many records the lists have room for, where they are tried over records too.
+fn record_count(rooms: Rooms) -> u32 {
+    if rooms.joins == 600 {
+        if rooms.places == 400 {
+            return 200;
+        }
     }
-    false
+    if rooms.joins == 6 {
+        if rooms.places == 4 {
+            return 2;
+        }
+    }
+    0
 }
 
 fn try_tray(letters: &[u8], ends: &[u16], rooms: Rooms) {
     try_flat(letters, ends, rooms);
-    if holds(rooms, 600, 400) {
-        try_records(letters, ends, rooms);
+    let count = record_count(rooms);
+    if count != 0 {
+        try_records(letters, ends, rooms, count);
     }
     if ends.len() < 13 {
         pairs::show(letters, ends);

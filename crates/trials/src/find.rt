@@ -69,20 +69,35 @@ fn records(letters: &[u8], ends: &[u16], text: &[u8], work: &mut [u16]) {
     let list = [mark(); 2000];
     let made = bridge::find(letters, ends, text, work, list);
     let found = made.found;
-    io::write_all(1, b" R");
     answer(made.answer, sums::occurrences(found), work);
+}
+
+// Over a list of two records.
+fn two_records(letters: &[u8], ends: &[u16], text: &[u8], work: &mut [u16]) {
+    let list = [mark(); 2];
+    let made = bridge::find_two(letters, ends, text, work, list);
+    let found = made.found;
+    answer(made.answer, sums::two_occurrences(found), work);
 }
 
 fn try_records(letters: &[u8], ends: &[u16], text: &[u8], rooms: Rooms) {
     let mut work = [7777u16; 32100];
     let work_room = table::least(rooms.work, 32100);
-    records(letters, ends, text, &mut work[0..work_room]);
+    let work_part = &mut work[0..work_room];
+    io::write_all(1, b" R");
+    if rooms.list == 4 {
+        two_records(letters, ends, text, work_part);
+    } else {
+        records(letters, ends, text, work_part);
+    }
 }
 
 fn try_text(letters: &[u8], ends: &[u16], text: &[u8], rooms: Rooms) {
     try_flat(letters, ends, text, rooms);
-    if rooms.list == 16000 {
-        try_records(letters, ends, text, rooms);
+    let list = rooms.list;
+    match list {
+        4 | 16000 => try_records(letters, ends, text, rooms),
+        _ => {}
     }
 }
 

@@ -51,20 +51,20 @@ pub fn numbers(run: &[u32]) -> u32 {
     sum
 }
 
-pub fn join(sum: u32, join: Join) -> u32 {
-    let left = mix(sum, join.left as u32);
-    let right = mix(left, join.right as u32);
-    mix(right, join.overlap as u32)
+fn join(sum: u32, x: Join) -> u32 {
+    let left = mix(sum, x.left as u32);
+    let right = mix(left, x.right as u32);
+    mix(right, x.overlap as u32)
 }
 
-pub fn place(sum: u32, place: Place) -> u32 {
-    let slip = mix(sum, place.slip as u32);
-    let at = mix(slip, place.place as u32);
-    mix(at, flag(place.kept))
+fn place(sum: u32, x: Place) -> u32 {
+    let slip = mix(sum, x.slip as u32);
+    let at = mix(slip, x.place as u32);
+    mix(at, flag(x.kept))
 }
 
-pub fn found(sum: u32, found: Found) -> u32 {
-    mix(mix(sum, found.end), found.slip as u32)
+fn found(sum: u32, x: Found) -> u32 {
+    mix(mix(sum, x.end), x.slip as u32)
 }
 
 pub fn joins(run: [Join; 200]) -> u32 {
@@ -95,4 +95,16 @@ pub fn occurrences(run: [Found; 2000]) -> u32 {
         i += 1;
     }
     sum
+}
+
+pub fn two_joins(run: [Join; 2]) -> u32 {
+    join(join(0, run[0]), run[1])
+}
+
+pub fn two_places(run: [Place; 2]) -> u32 {
+    place(place(0, run[0]), run[1])
+}
+
+pub fn two_occurrences(run: [Found; 2]) -> u32 {
+    found(found(0, run[0]), run[1])
 }

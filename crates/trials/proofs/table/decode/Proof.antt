@@ -7,7 +7,8 @@ use Rattle.trials.proofs.table.decode.Statement.{statement}
 use Rattle.trials.proofs.table.decode.Tie as tie
 
 abbrev Inv-loop : tie.InvT-loop
-Inv-loop field letters₀ ends₀ size₀ slips₀ at₀ letters ends size slips at = (size ≤ length letters) × (slips ≤ length ends) × (length letters ≡ length letters₀) × (length ends ≡ length ends₀)
+Inv-loop field letters₀ ends₀ size₀ slips₀ at₀ letters ends size slips at =
+    (size ≤ length letters) × (slips ≤ length ends) × (length letters ≡ length letters₀) × (length ends ≡ length ends₀)
 
 abbrev μ-loop : tie.MeasureT-loop
 μ-loop field letters₀ ends₀ size₀ slips₀ at₀ letters ends size slips at = length field - at
