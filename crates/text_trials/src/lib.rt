@@ -1,3 +1,0 @@
-// A text through finding, over numbers and over records, compared with the plain program.
-mod records;
-pub mod search;
