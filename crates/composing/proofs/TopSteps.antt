@@ -9,7 +9,7 @@ use lib.Dec.{ltb}
 use lib.ListN.{length}
 use Rattle.tables.proofs.Tables.{cells-below}
 use Rattle.trays.specs.declared.Refusal.{Refusal}
-use Rattle.trays.specs.Limits.{maxSlips, workNeed}
+use Rattle.trays.specs.Limits.{workNeed}
 use Rattle.trays.specs.Slips.{slipsOf, numbers}
 use Rattle.trays.specs.Aside.{kept, counted}
 use Rattle.trays.specs.Faults.{refusal, accepted, row, firstRow, trayRows, trayFault}

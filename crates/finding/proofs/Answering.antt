@@ -3,11 +3,11 @@
 --   core-..         == a call that is turned back; the steps before and behind the rows of place B
 --   find-says       == occurrences stored as records are the promise, flat-says as numbers
 use mathlib.Core.Path.{_≡_, refl, sym, ap, _∙_}
-use mathlib.Core.List.{List, [], _∷_, _++_, map}
-use Prim.Native.Nat.{ℕ, zero, suc, _*_, _/_, _≤_, _<_}
+use mathlib.Core.List.{List, map}
+use Prim.Native.Nat.{ℕ, zero, suc, _/_, _≤_}
 use native.Mathlib.Nat.{div-add-mod'}
 use native.Mathlib.Omega.{arith}
-use lib.ListN.{length, take, drop, length-map, List·getD-map}
+use lib.ListN.{length, take, length-map, List·getD-map}
 use lib.Seq.{take-length}
 use Rattle.words.specs.Lists.{over}
 use Rattle.trays.specs.declared.Refusal.{Refusal}
@@ -18,13 +18,12 @@ use Rattle.stores.specs.Firsts.{firsts}
 use Rattle.stores.proofs.Firsts.{firsts-are}
 use Rattle.matching.specs.Occurrences as O
 use Rattle.matching.specs.Occurrences.{occurrences}
-use Rattle.matching.proofs.States.{few-from}
 use Rattle.layout.specs.WorkArea.{WorkKept}
 use Rattle.finding.specs.declared.Found.{Found}
 use Rattle.finding.specs.declared.Search.{Search}
 use Rattle.finding.specs.declared.Begun.{Begun}
 use Rattle.finding.specs.Answers.{findBefore, findFault, outcomeOf, refusedBy, searchOf, recordOf, flatFound, Answered, FindSays, FlatSays}
-use Rattle.finding.specs.Steps.{Clear, foundAt, Enough, Left, turnedBack, CoreSays, CanFlat, Flattened}
+use Rattle.finding.specs.Steps.{Clear, foundAt, Left, turnedBack, CoreSays, CanFlat, Flattened}
 use Rattle.finding.proofs.Checks.{fault-before}
 
 -- the two cases of the answer

@@ -19,7 +19,7 @@ use Rattle.matching.specs.Occurrences.{occurrences}
 use Rattle.scanning.proofs.Scans.{able-few}
 use Rattle.finding.specs.declared.Found.{Found}
 use Rattle.finding.specs.Answers.{flatFound}
-use Rattle.finding.specs.Steps.{foundAt, Ready, Next, FlatTo, CanFlat, Flattened}
+use Rattle.finding.specs.Steps.{Ready, Next, FlatTo, CanFlat, Flattened}
 use Rattle.finding.proofs.Telling.{Telling, telling-start, telling-ready, telling-more}
 
 over-two : (xs old : List ℕ) (n a b : ℕ) → length xs ≡ n → n + 1 < length old → set (set (over xs old) n a) (n + 1) b ≡ over (xs ++ (a ∷ (b ∷ []))) old

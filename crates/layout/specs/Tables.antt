@@ -12,7 +12,7 @@ use mathlib.Core.Bool.{false}
 use mathlib.Core.List.{List, [], _∷_, _++_, map}
 use Prim.Native.Nat.{ℕ, suc, _+_, _-_, _*_, _≤_, _<_}
 use lib.ListN.{length, getD, take}
-use Rattle.words.specs.Lists.{those, headOr, tailOf}
+use Rattle.words.specs.Lists.{those, tailOf}
 use Rattle.words.specs.Words.{same, begins, endsProperly}
 use Rattle.words.proofs.Members.{In}
 use Rattle.trays.specs.Slips.{slip, startOf, endOf}

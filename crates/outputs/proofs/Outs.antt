@@ -9,7 +9,7 @@
 -- What ends a string is what is all of it, then what ends it without its first letter. So an ending that is no member's whole string may be
 -- passed over, and a member's whole string is a node, so that the failure link passes over none.
 use mathlib.Core.Path.{_≡_, refl, sym, ap, _∙_}
-use mathlib.Core.Bool.{Bool, true, false}
+use mathlib.Core.Bool.{Bool, false}
 use mathlib.Core.List.{List, [], _∷_, _++_}
 use Prim.Native.Nat.{ℕ, zero, suc, _≤_, _<_}
 use native.Mathlib.Decide.{ℕ-discrete}

@@ -7,14 +7,14 @@
 -- A proper ending of a slip that is a node ends the failure of the slip's node. If the node u has d letters, then it is the one ending of that
 -- length, and the shorter ones end its failure; if it has fewer, then there is none of that length.
 use mathlib.Core.Path.{_≡_, refl, sym, ap, _∙_}
-use mathlib.Core.Bool.{Bool, true, false, _&&_, _||_}
+use mathlib.Core.Bool.{Bool, true, false, _&&_}
 use mathlib.Core.Logic.{inl, inr}
 use mathlib.Core.List.{List, [], _∷_}
-use Prim.Native.Nat.{ℕ, suc, _+_, _-_, _≤_, _<_}
+use Prim.Native.Nat.{ℕ, _+_, _-_, _≤_, _<_}
 use native.Mathlib.Decide.{ℕ-discrete, decLt}
 use native.Mathlib.Omega.{arith}
 use lib.Dec.{ltb, leb}
-use lib.ListN.{length, getD, drop, replicate, drop-of-length-le}
+use lib.ListN.{length, drop, replicate, drop-of-length-le}
 use borrow.Author.Tests.{ltb-true, ltb-false, lt-ltb, le-ltb, le-leb}
 use Rattle.words.specs.Lists.{tailOf}
 use Rattle.words.specs.Words.{ends, endsProperly}
@@ -22,7 +22,7 @@ use Rattle.words.proofs.Tests.{tell, both}
 use Rattle.words.proofs.Strings.{ends-length, ends-refl, endsProperly-ends}
 use Rattle.words.proofs.Members.{In, in-those}
 use Rattle.trays.specs.Limits.{maxSlip}
-use Rattle.trays.specs.Slips.{slipsOf, slip, startOf, endOf}
+use Rattle.trays.specs.Slips.{slipsOf, slip, endOf}
 use Rattle.trays.specs.Checks.{spanOf}
 use Rattle.trays.specs.declared.Span.{Span}
 use Rattle.tables.specs.Tables.{Got, Filled}

@@ -18,14 +18,14 @@ use Rattle.tables.specs.Tables.{Got, Filled}
 use Rattle.tables.proofs.Tables.{table-at, filled-at, replicate-at}
 use Rattle.matching.specs.Nodes.{string, IsNode, Num}
 use Rattle.matching.proofs.NodeLaws.{node-one}
-use Rattle.layout.specs.Layout.{MEMBERS, HEAD, TWIN, MARK}
+use Rattle.layout.specs.Layout.{MEMBERS, HEAD, TWIN}
 use Rattle.layout.specs.Tables.{cell, members, owners}
-use Rattle.layout.specs.Numbered.{patternsIn, Automaton, Kept, Headed}
-use Rattle.layout.proofs.Frames.{kept-lower, members-kept, automaton-kept}
+use Rattle.layout.specs.Numbered.{patternsIn, Automaton, Kept}
+use Rattle.layout.proofs.Frames.{members-kept, automaton-kept}
 use Rattle.owners.specs.Owners.{Among, CanPush, Pushed, Lists, HeadsFilled}
 use Rattle.owners.proofs.Threading.{drop-here, drop-later, push-lists}
 use Rattle.owners.proofs.Keeping.{kept-trans, kept-filled, kept-pushed}
-use Rattle.owners.proofs.MemberNodes.{Member, in-member, got-member, members-length, node-num, node-most, num-most}
+use Rattle.owners.proofs.MemberNodes.{Member, got-member, members-length, node-num, node-most, num-most}
 
 pub record Heading (s es : List ℕ) (n count : ℕ) (w : List ℕ) (j : ℕ) : Type 0 where
   pub automaton : Automaton s es n count w

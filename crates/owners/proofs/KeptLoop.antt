@@ -8,7 +8,7 @@ use mathlib.Core.List.{List, [], _∷_, _++_, append-nil}
 use Prim.Native.Nat.{ℕ, suc, _+_, _≤_, _<_}
 use native.Mathlib.Numerals.{add-one}
 use native.Mathlib.Omega.{arith}
-use lib.ListN.{length, getD, take}
+use lib.ListN.{length, take}
 use lib.Seq.{take-suc, take-all}
 use Rattle.words.specs.Lists.{those}
 use Rattle.words.proofs.Members.{those-yes, those-no, those-append}
@@ -22,7 +22,7 @@ use Rattle.layout.specs.Tables.{cell, members}
 use Rattle.layout.specs.Numbered.{patternsIn, Kept}
 use Rattle.layout.proofs.Frames.{kept-lower, members-kept, patterns-kept}
 use Rattle.owners.specs.Owners.{Marked, Judged, KeptFilled}
-use Rattle.owners.proofs.Keeping.{kept-refl, kept-trans, kept-put}
+use Rattle.owners.proofs.Keeping.{kept-put}
 use Rattle.owners.proofs.MemberNodes.{got-member, members-length, node-most, num-most}
 use Rattle.layout.proofs.Heads.{headed-kept}
 

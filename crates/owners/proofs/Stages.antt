@@ -1,16 +1,16 @@
 -- The tables one after another: what each leaves of those before.
-use mathlib.Core.Path.{_≡_, sym, ap, _∙_}
+use mathlib.Core.Path.{ap, _∙_}
 use mathlib.Core.List.{List}
-use Prim.Native.Nat.{ℕ, suc, _+_, _≤_, _<_}
+use Prim.Native.Nat.{ℕ, _+_}
 use native.Mathlib.Omega.{arith}
-use lib.ListN.{length, getD}
+use lib.ListN.{length}
 use Rattle.words.specs.Words.{begins}
 use Rattle.words.proofs.Strings.{begins-length}
 use Rattle.words.proofs.Members.{in-those}
 use Rattle.trays.specs.Slips.{slipsOf, slip, startOf}
 use Rattle.trays.specs.Aside.{kept}
 use Rattle.matching.specs.Nodes.{string}
-use Rattle.layout.specs.Layout.{HEAD, MARK, STARTS, STARTS-NEXT, ENDS}
+use Rattle.layout.specs.Layout.{HEAD, STARTS, STARTS-NEXT, ENDS}
 use Rattle.layout.specs.Tables.{cell, members, starters, StartsIs}
 use Rattle.layout.specs.Numbered.{patternsIn, Kept}
 use Rattle.layout.specs.Staging.{keptIn}

@@ -8,13 +8,12 @@
 use mathlib.Core.Path.{_≡_, refl, sym, ap, _∙_}
 use mathlib.Core.Bool.{Bool, true, false, _&&_}
 use mathlib.Core.Logic.{inl, inr}
-use mathlib.Core.List.{List, [], _∷_}
+use mathlib.Core.List.{List}
 use Prim.Native.Nat.{ℕ, suc, _+_, _-_, _≤_, _<_}
 use native.Mathlib.Decide.{ℕ-discrete}
-use native.Mathlib.Numerals.{add-one}
 use native.Mathlib.Omega.{arith}
 use lib.Dec.{leb}
-use lib.ListN.{length, getD, take, drop, replicate, drop-of-length-le}
+use lib.ListN.{length, take, drop, replicate, drop-of-length-le}
 use lib.Seq.{length-take-le}
 use borrow.Author.Tests.{leb-true, leb-false, le-leb, lt-leb}
 use Rattle.words.specs.Words.{begins}
@@ -32,7 +31,7 @@ use Rattle.layout.specs.Layout.{AT, KEPT, STARTS, STARTS-NEXT}
 use Rattle.layout.specs.Tables.{cell, members, starters}
 use Rattle.layout.specs.Numbered.{patternsIn, Numbered, Kept}
 use Rattle.layout.specs.Staging.{keptIn}
-use Rattle.layout.proofs.Frames.{members-kept, patterns-kept}
+use Rattle.layout.proofs.Frames.{members-kept}
 use Rattle.owners.specs.Owners.{CanPush, Pushed, Lists, startKey, Staged, Starting, Started, StartsFilled}
 use Rattle.owners.proofs.Threading.{front, those-front, in-front, push-lists}
 use Rattle.owners.proofs.Keeping.{kept-refl, kept-trans, kept-filled, kept-pushed}

@@ -19,7 +19,7 @@ use Rattle.trays.specs.Limits.{maxSlips}
 use Rattle.trays.specs.Slips.{slipsOf, startOf, endOf}
 use Rattle.trays.specs.Aside.{kept}
 use Rattle.matching.specs.Nodes.{nodes, string, Num}
-use Rattle.layout.specs.Layout.{AT, FAIL, HEAD, MARK, KEPT, STARTS, STARTS-NEXT, ENDS, ENDS-NEXT}
+use Rattle.layout.specs.Layout.{FAIL, HEAD, MARK, KEPT, STARTS, STARTS-NEXT, ENDS, ENDS-NEXT}
 use Rattle.layout.specs.Tables.{cell, members, Linked, starters, enders, StartsIs, EndsIs}
 use Rattle.layout.specs.Numbered.{patternsIn, Automaton, Kept, Headed}
 use Rattle.layout.specs.Staging.{keptIn}

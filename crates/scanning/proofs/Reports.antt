@@ -6,7 +6,7 @@
 -- What ends a node's string is the members of its letters, ascending, then what ends its output link; and an output link that is not 0 has members.
 use mathlib.Core.Path.{_≡_, refl, sym, ap, subst, _∙_}
 use mathlib.Core.List.{List, [], _∷_, _++_, List·Memᴰ·head, List·Memᴰ·tail}
-use Prim.Native.Nat.{ℕ, suc, _+_, _≤_, _<_}
+use Prim.Native.Nat.{ℕ, _+_, _≤_, _<_}
 use native.Mathlib.Omega.{arith}
 use lib.ListN.{length}
 use Rattle.words.specs.Lists.{tailOf}
@@ -14,7 +14,7 @@ use Rattle.words.specs.Words.{same}
 use Rattle.words.proofs.Members.{In, in-those}
 use Rattle.trays.specs.Slips.{slipsOf, slip}
 use Rattle.tables.specs.Tables.{Got}
-use Rattle.matching.specs.Nodes.{string, IsNode, Num}
+use Rattle.matching.specs.Nodes.{string, Num}
 use Rattle.matching.proofs.Finds.{endingOf}
 use Rattle.matching.proofs.NodeLaws.{node-some}
 use Rattle.layout.specs.Layout.{HEAD, TWIN, OUT}

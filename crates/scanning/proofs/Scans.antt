@@ -7,7 +7,7 @@
 --   reportable-..     == the occurrence that is reported, and the scan behind it
 -- The occurrences that are left are those still to be reported at this place, then those that end at later letters. Where none is left here the next
 -- letter gives its own; where one is, it is the first of all that are left.
-use mathlib.Core.Path.{_≡_, refl, sym, ap, ap₂, subst, _∙_}
+use mathlib.Core.Path.{_≡_, refl, sym, ap, ap₂, _∙_}
 use mathlib.Core.List.{List, [], _∷_, _++_, map}
 use Prim.Native.Nat.{ℕ, zero, suc, _+_, _-_, _*_, _≤_, _<_}
 use native.Mathlib.Decide.{decLt}
@@ -17,12 +17,12 @@ use lib.ListN.{length, getD, take, drop, length-drop}
 use Rattle.words.specs.Lists.{tailOf, headOr}
 use Rattle.words.proofs.Strings.{begins-refl}
 use Rattle.trays.specs.Limits.{maxSlips, maxText}
-use Rattle.trays.specs.Slips.{slipsOf, slip, numbers}
+use Rattle.trays.specs.Slips.{slipsOf, slip}
 use Rattle.trays.proofs.Accepted.{accepted-tells, slips-count}
 use Rattle.tables.specs.Tables.{Got}
 use Rattle.matching.specs.Moves.{longestEnding}
 use Rattle.matching.specs.Nodes.{string, IsNode, Num}
-use Rattle.matching.specs.Occurrences.{Found, found, endingAt, occurrences}
+use Rattle.matching.specs.Occurrences.{found, endingAt, occurrences}
 use Rattle.matching.proofs.Endings.{slip-some}
 use Rattle.matching.proofs.Finds.{endingOf, ending-longest}
 use Rattle.layout.specs.Layout.{TWIN, OUT}

@@ -2,7 +2,7 @@
 --   firsts-suc, firsts-getD == one more of the first elements; the element at i
 --   firsts-are              == the first elements are a list ys, where they agree with it place by place
 --   stored-set              == storing f i at place i goes from i elements stored to i + 1
-use mathlib.Core.Path.{_≡_, refl, sym, ap, _∙_}
+use mathlib.Core.Path.{_≡_, sym, ap, _∙_}
 use mathlib.Core.List.{List, [], _∷_, _++_, map, map-append}
 use Prim.Native.Nat.{ℕ, zero, suc, _+_, _≤_, _<_}
 use native.Mathlib.Nat.{zero-add}

@@ -8,14 +8,12 @@ use native.Mathlib.Numerals.{add-one}
 use native.Mathlib.Omega.{arith}
 use lib.ListN.{length}
 use Rattle.words.specs.Lists.{those, upFrom}
-use Rattle.words.specs.Words.{nonEmpty}
 use Rattle.words.proofs.Members.{those-yes}
-use Rattle.trays.specs.Limits.{maxSlip, maxLetters}
+use Rattle.trays.specs.Limits.{maxSlip}
 use Rattle.trays.specs.Slips.{slipsOf}
 use Rattle.trays.specs.Aside.{counted}
 use Rattle.tables.specs.Tables.{Cells, Only, Got}
 use Rattle.tables.proofs.Tables.{only-refl, only-trans}
-use Rattle.greedy.specs.Joins.{Join}
 use Rattle.greedy.specs.Walk.{visit, walkFrom}
 use Rattle.greedy.proofs.Scans as S
 use Rattle.matching.specs.Nodes.{string, Num}

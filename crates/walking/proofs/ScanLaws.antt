@@ -11,14 +11,14 @@ use mathlib.Core.Logic.{inl, inr}
 use Prim.Native.Nat.{ℕ, _-_, _≤_, _<_}
 use native.Mathlib.Omega.{arith}
 use lib.Dec.{eqb, leb}
-use lib.ListN.{length, getD}
+use lib.ListN.{length}
 use borrow.Author.Tests.{eqb-true, eqb-false, eq-eqb, ne-eqb, le-leb}
 use Rattle.words.specs.Lists.{those, headOr}
-use Rattle.words.proofs.Tests.{tell, and-intro, both}
+use Rattle.words.proofs.Tests.{tell, both}
 use Rattle.words.proofs.Members.{In, Asc, those-yes, those-no, in-those}
 use Rattle.words.proofs.Picks.{those-same}
 use Rattle.greedy.specs.Joins.{Join, join, rightOf, leftOf, lastOf}
-use Rattle.greedy.proofs.Takes.{rightOf-append, some-eqb}
+use Rattle.greedy.proofs.Takes.{rightOf-append}
 use Rattle.greedy.proofs.Scans as S
 use Rattle.walking.specs.Runs.{mark, waitingIn}
 use Rattle.walking.specs.Walking.{partnerIn, Waits}

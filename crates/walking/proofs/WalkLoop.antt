@@ -4,20 +4,19 @@
 use mathlib.Core.Path.{_≡_, refl, sym, ap, _∙_}
 use mathlib.Core.Bool.{Bool}
 use mathlib.Core.List.{List, [], _∷_, _++_}
-use Prim.Native.Nat.{ℕ, zero, suc, _+_, _-_, _≤_, _<_}
-use native.Mathlib.Numerals.{add-one}
+use Prim.Native.Nat.{ℕ, suc, _+_, _-_, _≤_, _<_}
 use native.Mathlib.Omega.{arith}
 use lib.ListN.{length, replicate, length-replicate}
 use Rattle.words.specs.Lists.{those, upFrom}
 use Rattle.words.proofs.Members.{In, Asc, those-append}
 use Rattle.words.proofs.Overlaps.{nonEmpty-counts}
-use Rattle.words.proofs.Sums.{sum, All, all-in, asc-once}
+use Rattle.words.proofs.Sums.{sum, all-in, asc-once}
 use Rattle.trays.specs.Limits.{maxSlips, maxSlip}
 use Rattle.trays.specs.Slips.{slipsOf}
 use Rattle.trays.specs.Aside.{kept, counted}
 use Rattle.tables.specs.Tables.{Cells, Only}
 use Rattle.tables.proofs.Tables.{only-refl, only-trans}
-use Rattle.greedy.specs.Joins.{Join, rightOf, plainFor}
+use Rattle.greedy.specs.Joins.{plainFor}
 use Rattle.greedy.specs.Walk.{walkFrom, walkFor}
 use Rattle.greedy.proofs.Chains.{Chain, whole}
 use Rattle.greedy.proofs.Represent.{plain-rep}

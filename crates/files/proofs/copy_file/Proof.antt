@@ -19,12 +19,6 @@ turned c = turn _ _ _ _ _ _ _ _ (c .before .before .before .before .before .befo
 loop-holds : tie.Need-loop-holds Inv-loop μ-loop
 loop-holds c = passed-none _ _ _ (c .before .before .before .pre)
 
-add-next-line : tie.Need-add-next-line Inv-loop μ-loop
-add-next-line c = search needs
-
-next-line-requires : tie.Need-next-line-requires Inv-loop μ-loop
-next-line-requires c κs = search needs
-
 sub-file-letters : tie.Need-sub-file-letters Inv-loop μ-loop
 sub-file-letters c = omega (arith, turned c)
 
@@ -40,9 +34,6 @@ sub-file-letters-2 c = omega (arith, turned (c .before))
 part-file-letters-start-2 : tie.Need-part-file-letters-start-2 Inv-loop μ-loop
 part-file-letters-start-2 c = omega (arith, turned (c .before))
 
-part-file-letters-end-2 : tie.Need-part-file-letters-end-2 Inv-loop μ-loop
-part-file-letters-end-2 c = search needs
-
 file-letters-requires : tie.Need-file-letters-requires Inv-loop μ-loop
 file-letters-requires c κs = simp (length-take, length-drop) (omega (arith, turned (c .before .before)))
 
@@ -55,26 +46,14 @@ add-count c = omega (arith, turned (c .before .before .before .before .before))
 cast-ends : tie.Need-cast-ends Inv-loop μ-loop
 cast-ends c = omega (arith, turned (c .before .before .before .before .before))
 
-mul-ends : tie.Need-mul-ends Inv-loop μ-loop
-mul-ends c = search needs
-
 slice-write-ends : tie.Need-slice-write-ends Inv-loop μ-loop
 slice-write-ends c = omega (arith, turned (c .before .before .before .before .before))
-
-add-slips : tie.Need-add-slips Inv-loop μ-loop
-add-slips c = search needs
 
 loop-less : tie.Need-loop-less Inv-loop μ-loop
 loop-less c = omega (arith, turned (c .before .before .before .before .before))
 
 loop-again : tie.Need-loop-again Inv-loop μ-loop
 loop-again c = let n = c .before .before .before .before .before in passed-more _ _ _ _ _ _ _ _ (n .before .before .before .before .before .before .pre) (n .before .before .loop .inv) (n .next-line .result) (n .before .loop-test .taken) (n .next-line .ensures) _ (c .before .before .file-letters .ensures)
-
-cast-t22 : tie.Need-cast-t22 Inv-loop μ-loop
-cast-t22 c = search needs
-
-cast-t23 : tie.Need-cast-t23 Inv-loop μ-loop
-cast-t23 c = search needs
 
 same-length : tie.Need-same-length Inv-loop μ-loop
 same-length c = search letters-long
@@ -86,31 +65,7 @@ returns : tie.Need-returns Inv-loop μ-loop
 returns c = search passed-all
 
 pub copy-file-spec : {M : Type 1} → statement M
-copy-file-spec =
-    tie.close
-    (tie.spec
-    Inv-loop
-    μ-loop
-    loop-holds
-    add-next-line
-    next-line-requires
-    sub-file-letters
-    part-file-letters-start
-    part-file-letters-end
-    sub-file-letters-2
-    part-file-letters-start-2
-    part-file-letters-end-2
-    file-letters-requires
-    sub-count
-    add-count
-    cast-ends
-    mul-ends
-    slice-write-ends
-    add-slips
-    loop-less
-    loop-again
-    cast-t22
-    cast-t23
-    same-length
-    same-length-2
-    returns)
+copy-file-spec = tie.close (tie.spec Inv-loop μ-loop loop-holds (λ c. search needs) (λ c κs. search needs) sub-file-letters
+    part-file-letters-start part-file-letters-end sub-file-letters-2 part-file-letters-start-2 (λ c. search needs) file-letters-requires
+    sub-count add-count cast-ends (λ c. search needs) slice-write-ends (λ c. search needs) loop-less loop-again (λ c. search needs)
+    (λ c. search needs) same-length same-length-2 returns)

@@ -24,9 +24,6 @@ cast-t22 c = record { fits = reached-end (c .before .before .before .before .bef
 cast-t23 : tie.Need-cast-t23
 cast-t23 c = record { fits = reached-slip (c .before .before .before .before .before .before .before .before .advance .ensures) }
 
-same-length : tie.Need-same-length
-same-length c = search needs
-
 returns : tie.Need-returns
 returns c =
     let k = c .before .before .before .before in
@@ -37,15 +34,5 @@ returns c =
     ready-told (n .before .before .before .before .before .before .pre) (n .at .ensures) (l .load .ensures) (a .advance .ensures) (p .pass .ensures) (k .keep .ensures)
 
 pub next-found-spec : {M : Type 1} → statement M
-next-found-spec =
-    tie.close
-    (tie.spec
-    at-requires
-    load-requires
-    advance-requires
-    pass-requires
-    keep-requires
-    cast-t22
-    cast-t23
-    same-length
-    returns)
+next-found-spec = tie.close (tie.spec at-requires load-requires advance-requires pass-requires keep-requires cast-t22 cast-t23
+    (λ c. search needs) returns)

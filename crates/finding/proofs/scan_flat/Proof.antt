@@ -20,26 +20,11 @@ next-found-requires c κs = search flat-ready
 mul-at : tie.Need-mul-at Inv-loop μ-loop
 mul-at c = record { fits = flat-fits (c .before .before .before .before .before .loop .inv) (c .before .before .before .before .loop-test .taken) }
 
-mul-found : tie.Need-mul-found Inv-loop μ-loop
-mul-found c = search needs
-
 slice-write-found : tie.Need-slice-write-found Inv-loop μ-loop
 slice-write-found c = search flat-room
 
-wide-requires : tie.Need-wide-requires Inv-loop μ-loop
-wide-requires c κs = search needs
-
-add-found : tie.Need-add-found Inv-loop μ-loop
-add-found c = search needs
-
-mul-found-2 : tie.Need-mul-found-2 Inv-loop μ-loop
-mul-found-2 c = search needs
-
 slice-write-found-2 : tie.Need-slice-write-found-2 Inv-loop μ-loop
 slice-write-found-2 c = flat-next (c .before .before .before .before .before .before .loop .inv) (c .before .before .before .before .before .loop-test .taken) _
-
-add-i : tie.Need-add-i Inv-loop μ-loop
-add-i c = search needs
 
 loop-less : tie.Need-loop-less Inv-loop μ-loop
 loop-less c = omega arith
@@ -49,33 +34,10 @@ loop-again c =
     let n = c .before .before .before in
     flat-more (n .before .before .before .loop .inv) (n .before .before .loop-test .taken) (n .next-found .ensures) (c .wide .ensures)
 
-same-length : tie.Need-same-length Inv-loop μ-loop
-same-length c = search needs
-
-same-length-2 : tie.Need-same-length-2 Inv-loop μ-loop
-same-length-2 c = search needs
-
 returns : tie.Need-returns Inv-loop μ-loop
 returns c = search flat-all
 
 pub scan-flat-spec : {M : Type 1} → statement M
-scan-flat-spec =
-    tie.close
-    (tie.spec
-    Inv-loop
-    μ-loop
-    loop-holds
-    next-found-requires
-    mul-at
-    mul-found
-    slice-write-found
-    wide-requires
-    add-found
-    mul-found-2
-    slice-write-found-2
-    add-i
-    loop-less
-    loop-again
-    same-length
-    same-length-2
-    returns)
+scan-flat-spec = tie.close (tie.spec Inv-loop μ-loop loop-holds next-found-requires mul-at (λ c. search needs) slice-write-found
+    (λ c κs. search needs) (λ c. search needs) (λ c. search needs) slice-write-found-2 (λ c. search needs) loop-less loop-again
+    (λ c. search needs) (λ c. search needs) returns)

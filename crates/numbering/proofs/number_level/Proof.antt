@@ -13,12 +13,6 @@ Inv-loop letters ends work₀ n c count k₀ r₀ work k r = (r ≤ n) × Staged
 abbrev μ-loop : tie.MeasureT-loop
 μ-loop letters ends work₀ n c count k₀ r₀ work k r = n - r
 
-loop-holds : tie.Need-loop-holds Inv-loop μ-loop
-loop-holds c = search needs
-
-at-requires : tie.Need-at-requires Inv-loop μ-loop
-at-requires c κs = search needs
-
 slip-span-requires : tie.Need-slip-span-requires Inv-loop μ-loop
 slip-span-requires c κs =
     let l = c .before .before in
@@ -33,20 +27,11 @@ add-place c =
 number-letter-requires : tie.Need-number-letter-requires Inv-loop μ-loop
 number-letter-requires c κs = search level-letterable
 
-add-r : tie.Need-add-r Inv-loop μ-loop
-add-r c = search needs
-
-loop-less : tie.Need-loop-less Inv-loop μ-loop
-loop-less c = search needs
-
 loop-again : tie.Need-loop-again Inv-loop μ-loop
 loop-again c = (
   search needs,
   ⊎-elim (λ x. search level-letter) (λ x. search level-short) (c .if1 .came),
 )
-
-add-put : tie.Need-add-put Inv-loop μ-loop
-add-put c = search needs
 
 add-put-2 : tie.Need-add-put-2 Inv-loop μ-loop
 add-put-2 c = omega (arith, level-few (c .before .before .loop .inv .1) (search needs) (search needs))
@@ -54,28 +39,10 @@ add-put-2 c = omega (arith, level-few (c .before .before .loop .inv .1) (search 
 put-requires : tie.Need-put-requires Inv-loop μ-loop
 put-requires c κs = search level-room
 
-same-length : tie.Need-same-length Inv-loop μ-loop
-same-length c = search needs
-
 returns : tie.Need-returns Inv-loop μ-loop
 returns c = search level-done
 
 pub number-level-spec : {M : Type 1} → statement M
-number-level-spec =
-    tie.close
-    (tie.spec
-    Inv-loop
-    μ-loop
-    loop-holds
-    at-requires
-    slip-span-requires
-    add-place
-    number-letter-requires
-    add-r
-    loop-less
-    loop-again
-    add-put
-    add-put-2
-    put-requires
-    same-length
+number-level-spec = tie.close (tie.spec Inv-loop μ-loop (λ c. search needs) (λ c κs. search needs) slip-span-requires add-place
+    number-letter-requires (λ c. search needs) (λ c. search needs) loop-again (λ c. search needs) add-put-2 put-requires (λ c. search needs)
     returns)

@@ -32,35 +32,12 @@ put-requires-3 c κs =
     let l = t .before .before .before .before in
     filling-tally (l .before .loop .inv) (l .loop-test .taken) (t .before .before .output .ensures) (t .tally .ensures) (p .put2 .ensures)
 
-add-v : tie.Need-add-v Inv-loop μ-loop
-add-v c = search needs
-
-loop-less : tie.Need-loop-less Inv-loop μ-loop
-loop-less c = search needs
-
 loop-again : tie.Need-loop-again Inv-loop μ-loop
 loop-again c = search filling-more
-
-same-length : tie.Need-same-length Inv-loop μ-loop
-same-length c = search needs
 
 returns : tie.Need-returns Inv-loop μ-loop
 returns c = search filling-all
 
 pub fill-outputs-spec : {M : Type 1} → statement M
-fill-outputs-spec =
-    tie.close
-    (tie.spec
-    Inv-loop
-    μ-loop
-    put-requires
-    loop-holds
-    output-requires
-    tally-requires
-    put-requires-2
-    put-requires-3
-    add-v
-    loop-less
-    loop-again
-    same-length
-    returns)
+fill-outputs-spec = tie.close (tie.spec Inv-loop μ-loop put-requires loop-holds output-requires tally-requires put-requires-2 put-requires-3
+    (λ c. search needs) (λ c. search needs) loop-again (λ c. search needs) returns)

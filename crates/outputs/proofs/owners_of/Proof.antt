@@ -19,9 +19,6 @@ loop-holds c = search counting-start
 at-requires-2 : tie.Need-at-requires-2 Inv-loop μ-loop
 at-requires-2 c κs = search counting-room
 
-add-k : tie.Need-add-k Inv-loop μ-loop
-add-k c = search needs
-
 loop-less : tie.Need-loop-less Inv-loop μ-loop
 loop-less c = search counting-less
 
@@ -32,15 +29,4 @@ returns : tie.Need-returns Inv-loop μ-loop
 returns c = search counting-all
 
 pub owners-of-spec : {M : Type 1} → statement M
-owners-of-spec =
-    tie.close
-    (tie.spec
-    Inv-loop
-    μ-loop
-    at-requires
-    loop-holds
-    at-requires-2
-    add-k
-    loop-less
-    loop-again
-    returns)
+owners-of-spec = tie.close (tie.spec Inv-loop μ-loop at-requires loop-holds at-requires-2 (λ c. search needs) loop-less loop-again returns)

@@ -1,7 +1,6 @@
 use Prim.Native.Nat.{_-_}
 use lib.ListN.{length}
 use Rattle.scanning.proofs.Scans.{Reaching, reaching-start, reaching-unread, reaching-less, reaching-more, reaching-all}
-use borrow.Author.Needs.{needs}
 use Rattle.scanning.proofs.advance.Statement.{statement}
 use Rattle.scanning.proofs.advance.Tie as tie
 

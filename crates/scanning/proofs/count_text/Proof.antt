@@ -14,9 +14,6 @@ abbrev μ-loop : tie.MeasureT-loop
 loop-holds : tie.Need-loop-holds Inv-loop μ-loop
 loop-holds c = search counting-start
 
-shared-slice-read-step : tie.Need-shared-slice-read-step Inv-loop μ-loop
-shared-slice-read-step c = search needs
-
 step-requires : tie.Need-step-requires Inv-loop μ-loop
 step-requires c κs = search counting-steps
 
@@ -32,12 +29,6 @@ at-requires c κs = search counting-tally
 add-found : tie.Need-add-found Inv-loop μ-loop
 add-found c = search counting-found
 
-add-read : tie.Need-add-read Inv-loop μ-loop
-add-read c = search needs
-
-loop-less : tie.Need-loop-less Inv-loop μ-loop
-loop-less c = search needs
-
 loop-again : tie.Need-loop-again Inv-loop μ-loop
 loop-again c = search counting-more
 
@@ -45,19 +36,5 @@ returns : tie.Need-returns Inv-loop μ-loop
 returns c = search counting-all
 
 pub count-text-spec : {M : Type 1} → statement M
-count-text-spec =
-    tie.close
-    (tie.spec
-    Inv-loop
-    μ-loop
-    loop-holds
-    shared-slice-read-step
-    step-requires
-    add-moves
-    add-moves-2
-    at-requires
-    add-found
-    add-read
-    loop-less
-    loop-again
-    returns)
+count-text-spec = tie.close (tie.spec Inv-loop μ-loop loop-holds (λ c. search needs) step-requires add-moves add-moves-2 at-requires
+    add-found (λ c. search needs) (λ c. search needs) loop-again returns)
