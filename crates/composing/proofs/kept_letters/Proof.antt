@@ -1,3 +1,4 @@
+-- Invariant: `sum` is the number of letters of the first i kept slips, which is at most 2000 a slip.
 use mathlib.Core.List.{[]}
 use mathlib.Core.Path.{_≡_}
 use Prim.Native.Nat.{_-_, _*_, _≤_}

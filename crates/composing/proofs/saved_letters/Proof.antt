@@ -1,3 +1,4 @@
+-- Invariant: `sum` is the sum of the overlaps of the first i joins, which is at most 65536 a join.
 use mathlib.Core.Path.{_≡_}
 use Prim.Native.Nat.{_-_, _*_, _≤_}
 use Rattle.composing.specs.Steps.{thirds}

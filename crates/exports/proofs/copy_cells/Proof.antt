@@ -1,3 +1,4 @@
+-- Invariant: the first i cells of the table stand at the start of `out`, and the rest of `out` is as it was.
 use mathlib.Core.Path.{_≡_}
 use Prim.Native.Nat.{_-_, _≤_}
 use lib.ListN.{length}

@@ -1,3 +1,5 @@
+-- Invariant: the k - 1 lines before place `at` have no fault, so the file's first fault is that of the lines from there on, counted from k; k - 1 is
+-- at most `at`.
 use mathlib.Core.Path.{_≡_}
 use Prim.Native.Nat.{_+_, _-_, _≤_}
 use lib.ListN.{length, drop}

@@ -1,3 +1,5 @@
+-- Invariant: the first `slips` lines, which end at place `at`, are copied: their `count` letters and their ends stand at the starts of the two
+-- buffers, the rest of these is as it was, and the lines that are left have no fault.
 use Prim.Native.Nat.{_-_}
 use lib.ListN.{length, length-take, length-drop}
 use Rattle.files.proofs.CopyTurns.{Passed, Turn, turn, letters-long, ends-long, passed-none, passed-more, passed-all}

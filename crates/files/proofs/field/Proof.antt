@@ -1,3 +1,4 @@
+-- Invariant: the first i columns are blank, so the columns hold the number that those from i on hold.
 use mathlib.Core.Path.{_≡_}
 use Prim.Native.Nat.{_-_, _≤_}
 use lib.ListN.{length, drop}

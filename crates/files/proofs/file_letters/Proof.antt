@@ -1,3 +1,4 @@
+-- Invariant: the first i letters of `from` stand, filed, at the start of `to`, and the rest of `to` is as it was.
 use Rattle.files.proofs.LentParts.{filed-more, filed-all}
 use lib.ListN.{length-set}
 use mathlib.Core.Path.{_≡_}

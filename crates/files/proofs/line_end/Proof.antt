@@ -1,3 +1,4 @@
+-- Invariant: no LF stands from `at` up to place i, so the line that starts at `at` ends where one that starts at i does.
 use mathlib.Core.Path.{_≡_}
 use Prim.Native.Nat.{_+_, _-_}
 use lib.ListN.{length, drop}

@@ -1,3 +1,4 @@
+-- Invariant: v is the number that the first i digits write; it is below 10 ^ i, and the digits from i on continue it to the number of them all.
 use mathlib.Core.Path.{_≡_}
 use Prim.Native.Nat.{_-_, _^_, _≤_, _<_}
 use lib.ListN.{length, drop}

@@ -1,3 +1,5 @@
+-- Invariant: the end place and slip of each of the first i occurrences stand at the start of `found`, the rest of `found` is as it was, and the scan
+-- in the work area has reported these i.
 use borrow.Author.Needs.{needs}
 use Prim.Native.Nat.{_-_}
 use native.Mathlib.Omega.{arith}

@@ -1,3 +1,4 @@
+-- Invariant: the bytes that have come fit into the buffer, whose length has not changed.
 use Prim.Native.Nat.{_-_, _≤_}
 use mathlib.Core.Path.{_≡_}
 use borrow.Author.Needs.{needs}

@@ -1,3 +1,4 @@
+-- Invariant: the first `count` pieces are the chains of those of the first k kept slips that have no left neighbour, one after another.
 use Prim.Native.Nat.{_-_, _≤_}
 use lib.ListN.{take}
 use Rattle.laying.specs.Chains.{piecesBy, Flattened}

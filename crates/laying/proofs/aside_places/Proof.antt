@@ -1,3 +1,4 @@
+-- Invariant: of the first i slips each that is not marked as kept has its place in the legend; the places of the others are as they were.
 use mathlib.Core.Path.{_≡_}
 use Prim.Native.Nat.{_-_, _≤_}
 use lib.ListN.{length}

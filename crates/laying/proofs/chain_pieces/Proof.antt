@@ -1,3 +1,4 @@
+-- Invariant: the first `count` pieces, then the chain from `slip` on, are the first m pieces, then the whole chain that `first` begins.
 use Rattle.laying.proofs.ChainLoop.{Writing, writing-start, writing-stop, writing-end, writing-cells, writing-turn}
 use borrow.Author.Needs.{needs}
 use Rattle.laying.proofs.chain_pieces.Statement.{statement}

@@ -1,3 +1,4 @@
+-- Invariant: the first i letters of `from` stand at the start of `to`, and the rest of `to` is as it was.
 use mathlib.Core.Path.{_≡_}
 use Prim.Native.Nat.{_-_, _≤_}
 use lib.ListN.{length, take}

@@ -1,3 +1,5 @@
+-- Invariant: the places of the first q pieces' slips are written and `here` is where the next letters go: the pieces from q on, placed from `here`,
+-- complete the places.
 use Prim.Native.Nat.{_-_}
 use Rattle.laying.proofs.PlacesLoop.{Placing, placing-start, placing-asks, placing-turn, placing-end}
 use borrow.Author.Needs.{needs}

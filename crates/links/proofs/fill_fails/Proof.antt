@@ -1,3 +1,4 @@
+-- Invariant: FAIL holds the failure links of the nodes before v, and no cell outside FAIL has changed.
 use Prim.Native.Nat.{_+_, _-_}
 use Rattle.links.proofs.Fails.{FillingFails, fails-start, fails-can, fails-room, fails-put, fails-all}
 use borrow.Author.Needs.{needs}

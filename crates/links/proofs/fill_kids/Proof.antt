@@ -1,3 +1,5 @@
+-- Invariant: for each node before v, KID holds the first node whose parent is not below it; every node before u has a parent before v, and no cell
+-- outside KID has changed.
 use Prim.Native.Nat.{_+_, _-_}
 use Rattle.links.proofs.Kids.{FillingKids, kids-start, kids-placed, kids-pass, kids-put, kids-room, kids-all}
 use borrow.Author.Needs.{needs}

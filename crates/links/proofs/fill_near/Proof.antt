@@ -1,3 +1,4 @@
+-- Invariant: the rows of NEAR of the nodes before v hold their children by each letter, and no cell outside NEAR has changed.
 use Prim.Native.Nat.{_-_}
 use Rattle.layout.specs.Layout.{nearNodes}
 use Rattle.links.proofs.Near.{FillingNear, near-start, near-can, near-more, near-few, near-all}

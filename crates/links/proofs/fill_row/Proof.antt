@@ -1,3 +1,4 @@
+-- Invariant: in the row of NEAR of node v the cells of the letters before c hold its children by them, and no cell outside that row has changed.
 use Prim.Native.Nat.{suc, _-_}
 use Rattle.layout.specs.Layout.{lastSign}
 use Rattle.links.proofs.Near.{FillingRow, row-start, row-branched, row-node, row-close, row-from, row-room, row-put, row-all}

@@ -1,3 +1,5 @@
+-- Invariant: no child of node v before u has the letter c, so the child by c, if there is one, is u or a later node; v's children are the nodes from
+-- KID v up to `end`.
 use Prim.Native.Nat.{_-_}
 use Rattle.links.proofs.Children.{Scanning, scan-start, scan-lettered, scan-hit, scan-past, scan-more, scan-none}
 use borrow.Author.Needs.{needs}

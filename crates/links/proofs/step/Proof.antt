@@ -1,3 +1,5 @@
+-- Invariant: the step from node v by the letter c is the step from `state` with `drops` drops made before it; each drop, along a failure link, led to
+-- a lower node.
 use Rattle.links.proofs.Steps.{Dropping, dropping-start, dropping-looks, dropping-extends, dropping-ends, dropping-falls, dropping-more}
 use borrow.Author.Needs.{needs}
 use Rattle.links.proofs.step.Statement.{statement}

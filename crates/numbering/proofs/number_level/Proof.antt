@@ -1,3 +1,5 @@
+-- Invariant: the nodes of 1 to c letters, and those of c + 1 letters that the first r members in order begin with, have their numbers, k in all:
+-- LEVEL, AT and OWN say which, and no other cell has changed.
 use native.Mathlib.Omega.{arith}
 use borrow.Author.Needs.{needs}
 use Prim.Native.Nat.{_≤_, _-_}

@@ -1,3 +1,4 @@
+-- Invariant: the `count` nodes of 1 to c letters have their numbers: LEVEL, AT and OWN say which, and no other cell has changed.
 use borrow.Author.Needs.{needs}
 use Prim.Native.Nat.{_≤_, _-_}
 use Rattle.trays.specs.Limits.{maxSlip}

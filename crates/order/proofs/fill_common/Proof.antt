@@ -1,3 +1,5 @@
+-- Invariant: each of the first i cells at `common` holds the length of the common prefix of a member and the one before it in the order; no cell
+-- outside that table has changed.
 use mathlib.Core.Path.{_≡_}
 use Prim.Native.Nat.{_+_, _≤_, _-_}
 use Rattle.trays.specs.Slips.{slipsOf}

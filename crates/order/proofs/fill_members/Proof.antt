@@ -1,3 +1,4 @@
+-- Invariant: the first i cells of the table hold the numbers from 1 to i, and no cell outside the table has changed.
 use Prim.Native.Nat.{_≤_, _-_}
 use Rattle.words.specs.Lists.{upFrom}
 use Rattle.tables.proofs.Tables.{Filling, filling-none, filling-more, filling-all}

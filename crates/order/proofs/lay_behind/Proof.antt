@@ -1,3 +1,5 @@
+-- Invariant: each of the first i cells holds what stood in the cell behind it, the cells from i on are as they were, and `first` is what stood in the
+-- first.
 use mathlib.Core.Path.{_≡_}
 use Prim.Native.Nat.{_≤_, _-_}
 use lib.ListN.{length, getD}

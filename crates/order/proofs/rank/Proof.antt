@@ -1,3 +1,4 @@
+-- Invariant: every member before `low` stands below the bound, and none from `high` on does.
 use Prim.Native.Nat.{_≤_, _-_}
 use lib.ListN.{length}
 use Rattle.trays.specs.Slips.{slip, slipsOf}

@@ -1,3 +1,4 @@
+-- Invariant: the members in the cells from m on are in order, and the cells before m are as they were.
 use mathlib.Core.Path.{_≡_}
 use Prim.Native.Nat.{_≤_}
 use lib.ListN.{length}

@@ -1,3 +1,4 @@
+-- Invariant: OUT and TALLY hold the output links and the tallies of the nodes before v, and no cell below OUT has changed.
 use Prim.Native.Nat.{_+_, _-_}
 use Rattle.outputs.proofs.OutputsLoop.{Filling, filling-root, filling-start, filling-telling, filling-out, filling-tally, filling-more, filling-all}
 use borrow.Author.Needs.{needs}

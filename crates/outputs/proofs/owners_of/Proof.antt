@@ -1,3 +1,4 @@
+-- Invariant: k of the members that have all letters of node v are counted, and the others are those that TWIN links from member i on.
 use Prim.Native.Nat.{_-_}
 use Rattle.outputs.proofs.OwnersLoop.{Counting, owners-head, counting-start, counting-room, counting-less, counting-more, counting-all}
 use borrow.Author.Needs.{needs}

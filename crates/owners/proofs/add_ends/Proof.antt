@@ -1,3 +1,5 @@
+-- Invariant: member i stands first in the lists of its proper suffixes of more than d letters that are nodes; those of at most d letters are node u
+-- and the nodes on its failure path.
 use Rattle.owners.proofs.EndLoop.{Falling, falling-some, falling-most, falling-end, falling-place, falling-letters, falling-letter, falling-fail, falling-start, falling-left, falling-level, falling-skip, falling-deep, falling-can, falling-next, falling-more, falling-all}
 use mathlib.Core.Path.{refl}
 use native.Mathlib.Omega.{arith}

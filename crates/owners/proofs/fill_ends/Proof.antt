@@ -1,3 +1,5 @@
+-- Invariant: the list of each node in ENDS holds the kept members from the j-th on that properly end with it, ascending; no cell below ENDS has
+-- changed.
 use Rattle.layout.specs.Layout.{ENDS}
 use Rattle.layout.specs.Numbered.{Kept}
 use Rattle.owners.specs.Owners.{Ending}

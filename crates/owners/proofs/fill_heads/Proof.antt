@@ -1,3 +1,4 @@
+-- Invariant: the list of each node in HEAD holds the members from the j-th on that have just its letters, ascending; no cell below HEAD has changed.
 use Rattle.layout.specs.Layout.{HEAD}
 use Rattle.layout.specs.Numbered.{Kept}
 use Rattle.owners.proofs.Keeping.{kept-refl, kept-trans}

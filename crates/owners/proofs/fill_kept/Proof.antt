@@ -1,3 +1,4 @@
+-- Invariant: the first k cells of KEPT hold those of the first j members that are not set aside, and no cell below KEPT has changed.
 use mathlib.Core.Path.{refl}
 use Prim.Native.Nat.{_-_}
 use Rattle.layout.specs.Layout.{KEPT}

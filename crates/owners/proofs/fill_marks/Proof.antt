@@ -1,3 +1,4 @@
+-- Invariant: the failure link of every node before v is marked, every marked node is the failure link of a node, and no cell below MARK has changed.
 use Prim.Native.Nat.{_+_, _-_}
 use Rattle.layout.specs.Layout.{MARK}
 use Rattle.layout.specs.Numbered.{Kept}

@@ -1,3 +1,4 @@
+-- Invariant: the list of each node in STARTS holds the kept members from the j-th on that begin with it, ascending; no cell below STARTS has changed.
 use Rattle.layout.specs.Layout.{STARTS}
 use Rattle.layout.specs.Numbered.{Kept}
 use Rattle.owners.specs.Owners.{Starting}

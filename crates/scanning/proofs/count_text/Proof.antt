@@ -1,3 +1,5 @@
+-- Invariant: `state` is the node of the longest suffix of the first `read` letters that is a node; `moves` and `found`, with what the rest of the
+-- text makes from there, are the moves and occurrences of the text.
 use Prim.Native.Nat.{_-_}
 use lib.ListN.{length}
 use Rattle.scanning.proofs.CountLoop.{Counting, counting-start, counting-steps, counting-drop, counting-moves, counting-tally, counting-found, counting-more, counting-all}

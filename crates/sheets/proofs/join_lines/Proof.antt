@@ -1,3 +1,4 @@
+-- Invariant: the lines of the first i joins stand in `out` from `at` up to `next`, and the rest of `out` is as it was.
 use Prim.Native.Nat.{_-_, _*_, _≤_}
 use Rattle.sheets.specs.Sheets.{joinSize, lines, joinLineAt}
 use Rattle.sheets.specs.Printing.{Put}

@@ -1,3 +1,4 @@
+-- Invariant: i blanks stand in `out` from `at` up to `next`, and the rest of `out` is as it was.
 use Prim.Native.Nat.{_-_, _≤_}
 use lib.ListN.{replicate}
 use Rattle.files.specs.Lines.{blank}

@@ -1,3 +1,5 @@
+-- Invariant: the lines of the first i slips stand in `out` from `at` up to `next`, the rest of `out` is as it was, and `here` is where the first i
+-- slips end.
 use Prim.Native.Nat.{_-_, _*_, _≤_}
 use mathlib.Core.Path.{_≡_, refl}
 use lib.ListN.{length}

@@ -1,3 +1,4 @@
+-- Invariant: the first i cells of the table are 0, and no cell outside the table has changed.
 use Prim.Native.Nat.{_≤_, _-_}
 use lib.ListN.{replicate, length-replicate}
 use Rattle.tables.proofs.Tables.{Filling, filling-none, filling-more, filling-all, replicate-at}

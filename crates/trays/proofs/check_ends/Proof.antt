@@ -1,3 +1,5 @@
+-- Invariant: the first i ends rise, the last of them to `here`, so an end that does not rise is behind them; `long` is the first too long slip among
+-- them, 0 for none.
 use mathlib.Core.Path.{_≡_}
 use Prim.Native.Nat.{_+_, _-_, _≤_, _<_}
 use lib.ListN.{length, drop}

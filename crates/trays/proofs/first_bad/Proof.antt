@@ -1,3 +1,4 @@
+-- Invariant: the first i bytes are signs, so the first byte outside the signs is found from place i on.
 use mathlib.Core.Path.{_≡_}
 use Prim.Native.Nat.{_+_, _-_, _≤_}
 use lib.ListN.{length, drop}

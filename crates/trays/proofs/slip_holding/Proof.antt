@@ -1,3 +1,4 @@
+-- Invariant: none of the first i slips ends at the place or behind it, so the slip that holds the place is found from slip i + 1 on.
 use mathlib.Core.Path.{_≡_}
 use Prim.Native.Nat.{_+_, _-_, _≤_}
 use lib.ListN.{length, drop}

@@ -1,3 +1,4 @@
+-- Invariant: the first i marks are the numbers from 1 to i.
 use Prim.Native.Nat.{_-_}
 use lib.ListN.{length}
 use Rattle.walking.proofs.MarkLaws.{Owning, own-start, own-turn, own-end}

@@ -1,3 +1,5 @@
+-- Invariant: the nodes of more than d letters are visited: to visit the others, of ever fewer letters, makes of the joins made so far all joins of
+-- the walk; the marks are those of the joins made.
 use Rattle.walking.proofs.WalkLoop.{fresh-length, Walking, walk-start, walk-asks, walk-turn, walk-end}
 use borrow.Author.Needs.{needs}
 use Rattle.walking.proofs.walk.Statement.{statement}

@@ -1,3 +1,4 @@
+-- Invariant: the first n letters of `a` and `b` agree, so their common prefix is n letters longer than that of what is left of both.
 use mathlib.Core.Path.{_≡_}
 use Prim.Native.Nat.{_+_, _-_, _≤_}
 use lib.ListN.{length, drop}

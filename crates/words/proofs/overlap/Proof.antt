@@ -1,3 +1,4 @@
+-- Invariant: no suffix of `a` that starts before place i is a prefix of `b`, so the overlap of `a` and `b` is that of the suffix from i on and `b`.
 use mathlib.Core.Path.{_≡_}
 use Prim.Native.Nat.{_-_, _≤_}
 use lib.ListN.{length, drop}
