@@ -82,10 +82,16 @@ module _ (s es w : List ℕ) (l j p : ℕ) (r : Composed) where
     where
       go : (n : ℕ) → f .number ≡ n → P
       go zero h = good (accepts h (q ∙ rw (h, composedOf)))
-      go (suc n) h = bad (record { row-above = n; speaks = h; answer-is = q ∙ ap {B = Composed} (λ (m : ℕ). elim m [ zero ↦ outcomeOf ss | suc k ↦ refusedBy f ]) h })
+      go (suc n) h = bad (record {
+        row-above = n;
+        speaks = h;
+        answer-is = q
+            ∙ ap {B = Composed} (λ (m : ℕ). elim m [ zero ↦ outcomeOf ss | suc k ↦ refusedBy f ]) h;
+      })
 
 -- the staged joins stand within the work area
-pub staged-room : (s es w w′ l l′ : List ℕ) (j p : ℕ) (r : Composed) → Staged s es w w′ l l′ j p r → Accepts s es w (length l) j p r → JOINS + 3 * r .joins ≤ length w′
+pub staged-room : (s es w w′ l l′ : List ℕ) (j p : ℕ) (r : Composed) → Staged s es w w′ l l′ j p r → Accepts s es w (length l) j p r →
+    JOINS + 3 * r .joins ≤ length w′
 unfolding table
 staged-room s es w w′ l l′ j p r st a =
     let e = ap length (st .joins-are (ap (λ (c : Composed). c .number) (a .answer-is))) in

@@ -17,9 +17,11 @@ use Rattle.composing.specs.Answers.{Staged}
 use Rattle.composing.proofs.StagedTells.{staged-tells, staged-room}
 use Rattle.exports.specs.Flat.{CanCopy, FlatSays}
 
-pub cells-more : (w old out : List ℕ) (base i n : ℕ) → CanCopy w base n old → i < n → out ≡ over (table w base i) old → set out i (getD w (base + i) 0) ≡ over (table w base (i + 1)) old
+pub cells-more : (w old out : List ℕ) (base i n : ℕ) → CanCopy w base n old → i < n → out ≡ over (table w base i) old →
+    set out i (getD w (base + i) 0) ≡ over (table w base (i + 1)) old
 cells-more w old out base i n a h e =
-    rw (e, table-more w base i (i + 1) (omega (arith, a .there)) refl) (over-set 0 (table w base i) old i (getD w (base + i) 0) (table-length w base i (omega (arith, a .there))) (omega (arith, a .room)))
+    rw (e, table-more w base i (i + 1) (omega (arith, a .there)) refl)
+    (over-set 0 (table w base i) old i (getD w (base + i) 0) (table-length w base i (omega (arith, a .there))) (omega (arith, a .room)))
 
 pub cells-none : (w old : List ℕ) (base : ℕ) → old ≡ over (table w base 0) old
 unfolding table

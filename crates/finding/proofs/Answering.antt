@@ -106,7 +106,8 @@ find-says {s} {es} {t} {w} {o = o} {r = r} c e l =
 pub flat-can : {s es t w w₁ o : List ℕ} {room : ℕ} {r : Begun} → CoreSays s es t w w₁ room r → room ≡ length o / 2 → CanFlat s es t (r .count) w₁ o
 flat-can {o = o} c e = record { room = omega (arith, c .fits, div-add-mod' (length o) 2); enough = c .enough }
 
-pub flat-says : {s es t w w₁ w′ o o′ : List ℕ} {r : Begun} → CoreSays s es t w w₁ (length o / 2) r → Flattened s es t (r .count) w₁ w′ o o′ → FlatSays s es t w w′ o o′ (r .answer)
+pub flat-says : {s es t w w₁ w′ o o′ : List ℕ} {r : Begun} → CoreSays s es t w w₁ (length o / 2) r → Flattened s es t (r .count) w₁ w′ o o′ →
+    FlatSays s es t w w′ o o′ (r .answer)
 flat-says {s} {es} {t} {w} {o = o} {r = r} c g =
     let f = findFault s es t (length w) (length o / 2) in
     let os = occurrences (slipsOf s es) t in
@@ -114,6 +115,7 @@ flat-says {s} {es} {t} {w} {o = o} {r = r} c g =
       answered = answered-after c (g .left);
       found-are =
           by-number f
-          (λ z. g .found-are ∙ ap (λ (fs : List O.Found). over (flatFound fs) o) (ap (λ (n : ℕ). take n os) (all-stored c z) ∙ take-length os) ∙ sym (written-all f (flatFound os) o z))
+          (λ z. g .found-are ∙ ap (λ (fs : List O.Found). over (flatFound fs) o) (ap (λ (n : ℕ). take n os) (all-stored c z) ∙ take-length os)
+          ∙ sym (written-all f (flatFound os) o z))
           (λ p. g .found-are ∙ ap (λ (n : ℕ). over (flatFound (take n os)) o) (none-stored c p) ∙ sym (written-none f (flatFound os) o p));
     }

@@ -74,7 +74,8 @@ module _ {s es t w w₁ : List ℕ} {nodes : ℕ} (h : Clear s es t w) (p : Prep
           let stands : Standing s es t (length es) nodes w₂ fresh = standing-kept (g .below) (fresh-standing begin-able) in
           record {
             answered = record {
-              answer-is = (λ i. record { number = 0; detail = 0; moves = r .moves-are i; count = r .found-are i }) ∙ sym (answer-found s es t (length w) room (ap (λ f. f .number) none));
+              answer-is = (λ i. record { number = 0; detail = 0; moves = r .moves-are i; count = r .found-are i })
+                  ∙ sym (answer-found s es t (length w) room (ap (λ f. f .number) none));
               few-moves = omega (arith, r .moves-are, few-from (slipsOf s es) [] t 0);
               work-is = kept-so (g .below .same);
             };

@@ -87,7 +87,8 @@ module _ {s es t : List ℕ} {count : ℕ} {w₀ w o₀ o : List ℕ} {i : ℕ} 
           found-are =
               rw (a, b)
               (ap (λ (z : List ℕ). set (set z (2 * i) (getD os i (O.found 0 0) .end)) (2 * i + 1) (getD os i (O.found 0 0) .which)) (F .found-are)
-              ∙ over-two (flatFound (take i os)) o₀ (2 * i) (getD os i (O.found 0 0) .end) (getD os i (O.found 0 0) .which) written-length (omega (arith, F .room))
+              ∙ over-two (flatFound (take i os)) o₀ (2 * i) (getD os i (O.found 0 0) .end) (getD os i (O.found 0 0) .which) written-length
+              (omega (arith, F .room))
               ∙ ap (λ (z : List ℕ). over z o₀) (sym (flat-suc os i (omega (arith, F .telling .upto)))));
           same = rw (length-set, length-set) (F .same);
         }

@@ -57,7 +57,8 @@ module _ {s es t w : List ℕ} {i : ℕ} (R : Ready s es t i w) where
       done-is : y .done ≡ i
       done-is = q .done ∙ ap (λ (v : Scan). v .done) e
 
-      pub ready-told : {z : Scan} {w′ : List ℕ} → Passed s es t (length es) nodes w y z → Keeps w z w′ → Next s es t i w w′ (record { end = y .read; slip = y .slip })
+      pub ready-told : {z : Scan} {w′ : List ℕ} → Passed s es t (length es) nodes w y z → Keeps w z w′ →
+          Next s es t i w w′ (record { end = y .read; slip = y .slip })
       ready-told {z} {w′} p k =
           let os = occurrences (slipsOf s es) t in
           let same-count : cell w′ SCAN 0 ≡ nodes = k .below .cells (SCAN + 0) (omega arith) ∙ sym (g .is) in

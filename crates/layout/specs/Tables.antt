@@ -97,7 +97,8 @@ enders ss K x = those (λ l. endsProperly x (slip ss l)) K
 
 abbrev pub StartsIs : List (List ℕ) → List ℕ → List ℕ → List ℕ → (ℕ → ℕ) → (ℕ → ℕ) → Type 0
 StartsIs ss es M K starts next =
-    (v d : ℕ) → Num (patterns ss M) v → length (string (patterns ss M) v) ≡ suc d → Linked (λ r. next (startOf es r + d)) (starts v) (starters ss K (string (patterns ss M) v))
+    (v d : ℕ) → Num (patterns ss M) v → length (string (patterns ss M) v) ≡ suc d →
+    Linked (λ r. next (startOf es r + d)) (starts v) (starters ss K (string (patterns ss M) v))
 
 abbrev pub EndsIs : List (List ℕ) → List ℕ → List ℕ → List ℕ → (ℕ → ℕ) → (ℕ → ℕ) → Type 0
 EndsIs ss es M K ends next =

@@ -94,7 +94,8 @@ module _ (ss : List (List ℕ)) (M : List ℕ) where
   owners-none : (x : List ℕ) → beginsSome x ps ≡ false → owners ss M x ≡ []
   owners-none x e =
       those-none (λ i. same (slip ss i) x) M
-      (λ i m. by-test (same (slip ss i) x) (λ h. absurd (not-both (beginsSome x ps) (slip-some ss M x m (rw (same-is (slip ss i) x h) (begins-refl x))) e)) (λ h. h))
+      (λ i m. by-test (same (slip ss i) x)
+      (λ h. absurd (not-both (beginsSome x ps) (slip-some ss M x m (rw (same-is (slip ss i) x h) (begins-refl x))) e)) (λ h. h))
 
   pub owned-longest : (t : List ℕ) → longestOwned ss M t ≡ longestOwned ss M (longestEnding t ps)
   owned-longest [] = refl

@@ -86,4 +86,8 @@ module _ {s es : List ℕ} {n count : ℕ} {w : List ℕ} {v i k : ℕ} (C : Cou
       let N = C .owning .headed .automaton .branched .numbered in
       by-list (C .rest)
       (λ e. omega (arith, C .all, ap length e))
-      (λ y ys e. absurd (omega (arith, subst (Linked (cell w TWIN) i) e (C .linked) .0, member-some N y (C .among y (subst (In y) (sym e) (List·Memᴰ·head refl))))))
+      (λ y ys e. absurd (omega (
+        arith,
+        subst (Linked (cell w TWIN) i) e (C .linked) .0,
+        member-some N y (C .among y (subst (In y) (sym e) (List·Memᴰ·head refl))),
+      )))

@@ -82,7 +82,8 @@ module _ {s es : List ℕ} {n count : ℕ} {w : List ℕ} {i : ℕ} (J : Judged 
     aside-kid {a} {b} g h l =
         let K = J .marked .headed .automaton .branched .kids in
         let e : cell w KID (suc f) ≡ b = rw (← add-one f) (sym (h .is)) in
-        let q : Num ps (cell w KID f) = record { some = K .some f (omega (arith, m .inside)) .0; inside = omega (arith, g .is, e, K .some (suc f) (m .inside) .1) } in
+        let q : Num ps (cell w KID f) =
+        record { some = K .some f (omega (arith, m .inside)) .0; inside = omega (arith, g .is, e, K .some (suc f) (m .inside) .1) } in
         let (c, t) = K .back f (cell w KID f) (m .inside) q (omega arith) (omega (arith, g .is, e)) in
         sym (inner-aside ss i M (inl (inl (c, rw (t, m .is) at (node-some ps (cell w KID f) q .1)))))
 

@@ -93,8 +93,11 @@ pub record Falling (s es : List ℕ) (n k count : ℕ) (w₀ : List ℕ) (j i en
   pub node : u < length (nodes (patternsIn s es n w₀))
   pub short : length (string (patternsIn s es n w₀) u) ≤ d
   pub most : d < length (slip (slipsOf s es) i)
-  pub path : (v : ℕ) → Num (patternsIn s es n w₀) v → length (string (patternsIn s es n w₀) v) ≤ d → endsProperly (string (patternsIn s es n w₀) v) (slip (slipsOf s es) i) ≡ ends (string (patternsIn s es n w₀) v) (string (patternsIn s es n w₀) u)
-  pub lists : Lists (Num (patternsIn s es n w₀)) (endKey (patternsIn s es n w₀) es) (cell w ENDS) (cell w ENDS-NEXT) (λ v. front (passed (patternsIn s es n w₀) (slip (slipsOf s es) i) d v) i (enders (slipsOf s es) (drop (j + 1) (keptIn w₀ k)) (string (patternsIn s es n w₀) v)))
+  pub path : (v : ℕ) → Num (patternsIn s es n w₀) v → length (string (patternsIn s es n w₀) v) ≤ d →
+      endsProperly (string (patternsIn s es n w₀) v) (slip (slipsOf s es) i) ≡ ends (string (patternsIn s es n w₀) v) (string (patternsIn s es n w₀) u)
+  pub lists : Lists (Num (patternsIn s es n w₀)) (endKey (patternsIn s es n w₀) es) (cell w ENDS) (cell w ENDS-NEXT)
+      (λ v. front (passed (patternsIn s es n w₀) (slip (slipsOf s es) i) d v) i
+      (enders (slipsOf s es) (drop (j + 1) (keptIn w₀ k)) (string (patternsIn s es n w₀) v)))
 
 module _ {s es : List ℕ} {n k count : ℕ} {w₀ : List ℕ} {j i : ℕ} (E : Ending s es n k count w₀ (j + 1)) (g : Got w₀ KEPT j i) where
   abbrev ss : List (List ℕ)
@@ -238,7 +241,9 @@ module _ {s es : List ℕ} {n k count : ℕ} {w₀ : List ℕ} {j i end : ℕ} {
         other v m ne e =
             F .path v m (omega arith) ∙ elim (tell (ends (string ps′ v) (string ps′ u))) [
               | inl t ↦
-                  absurd (ne (node-one ps′ (record { inside = m .inside; is = end-full (ends-end (string ps′ v) (string ps′ u) t) (omega (arith, long)) }) (record { inside = F .node; is = refl })))
+                  absurd (ne (node-one ps′
+                  (record { inside = m .inside; is = end-full (ends-end (string ps′ v) (string ps′ u) t) (omega (arith, long)) })
+                  (record { inside = F .node; is = refl })))
               | inr t ↦ t
             ]
 
@@ -309,7 +314,11 @@ module _ {s es : List ℕ} {n k count : ℕ} {w₀ : List ℕ} {j i end : ℕ} {
               staged = staged-kept (kept-lower STARTS (omega arith) (F .below)) (F .base .staged);
               upto = omega (arith, F .base .upto);
               lists =
-                  rw (members-kept n (omega (arith, N′ .few-members)) (F .below), kept-same (F .base .staged .few-kept) (kept-lower STARTS (omega arith) (F .below)), drop-got (F .base .staged) (F .got) (omega (arith, F .base .upto)))
+                  rw (
+                    members-kept n (omega (arith, N′ .few-members)) (F .below),
+                    kept-same (F .base .staged .few-kept) (kept-lower STARTS (omega arith) (F .below)),
+                    drop-got (F .base .staged) (F .got) (omega (arith, F .base .upto)),
+                  )
                   (λ v m. rw (those-front (λ r. endsProperly (string ps′ v) (slip ss′ r)) i (drop (j + 1) (keptIn w₀ k)), ← whole v m) (F .lists v m));
             };
         below = F .below;
@@ -336,7 +345,8 @@ module _ {s es : List ℕ} {n k count : ℕ} {w : List ℕ} where
   pub kept-ended : {a w′ : List ℕ} {j : ℕ} → Kept ENDS a w → Ended s es n k count w j w′ → Kept ENDS a w′
   kept-ended b S = kept-trans b (S .below)
 
-  pub ending-all : {a w′ : List ℕ} {j : ℕ} → Filled ENDS (count + 1) (replicate (count + 1) 0) w a → Kept ENDS a w′ → Ending s es n k count w′ j → j ≤ 0 → EndsFilled s es n k count w w′
+  pub ending-all : {a w′ : List ℕ} {j : ℕ} → Filled ENDS (count + 1) (replicate (count + 1) 0) w a → Kept ENDS a w′ → Ending s es n k count w′ j →
+      j ≤ 0 → EndsFilled s es n k count w w′
   ending-all {j = j} f b S l =
       let e : j ≡ 0 = omega arith in
       record {

@@ -92,7 +92,8 @@ module _ {s es : List ℕ} {n count : ℕ} {w : List ℕ} where
         let N = S .marked .headed .automaton .branched .numbered in
         record { within = omega (arith, S .fewer, N .few-members, N .room); small = g .small }
 
-    pub sifting-kept : {b : Bool} {w′ : List ℕ} (j′ k′ : ℕ) → b ≡ isAside (slipsOf s es) (members w n) i → b ≡ false → Put w KEPT k i w′ → k′ ≡ k + 1 → j′ ≡ j + 1 → Sifting s es n count w′ j′ k′
+    pub sifting-kept : {b : Bool} {w′ : List ℕ} (j′ k′ : ℕ) → b ≡ isAside (slipsOf s es) (members w n) i → b ≡ false → Put w KEPT k i w′ →
+        k′ ≡ k + 1 → j′ ≡ j + 1 → Sifting s es n count w′ j′ k′
     sifting-kept {w′ = w′} j′ k′ e y p f q =
         let N = S .marked .headed .automaton .branched .numbered in
         let z : members w′ n ≡ M = members-kept n (omega (arith, N .few-members)) (kept-put p) in

@@ -75,7 +75,8 @@ module _ {s es : List ℕ} {n count : ℕ} {w : List ℕ} where
                 rw f (λ x m l.
                 rw (same x m) (elim (ℕ-discrete (cell w FAIL x) u) [
                   | yes q ↦ rw q (put-here p (marking-can .within))
-                  | no q ↦ put-other p (cell w FAIL x) q ∙ M .into x m (elim (ℕ-discrete x v) [ yes z ↦ absurd (q (ap (cell w FAIL) z ∙ sym (g .is))) | no z ↦ omega arith ])
+                  | no q ↦ put-other p (cell w FAIL x) q
+                      ∙ M .into x m (elim (ℕ-discrete x v) [ yes z ↦ absurd (q (ap (cell w FAIL) z ∙ sym (g .is))) | no z ↦ omega arith ])
                 ]));
             back =
                 rw f (λ y l q. elim (ℕ-discrete y u) [
@@ -84,7 +85,8 @@ module _ {s es : List ℕ} {n count : ℕ} {w : List ℕ} where
                 ]);
           }
 
-  pub marking-all : {a w′ : List ℕ} {v : ℕ} → Filled MARK (count + 1) (replicate (count + 1) 0) w a → Kept MARK a w′ → Marking s es n count w′ v → count < v → MarksFilled s es n count w w′
+  pub marking-all : {a w′ : List ℕ} {v : ℕ} → Filled MARK (count + 1) (replicate (count + 1) 0) w a → Kept MARK a w′ → Marking s es n count w′ v →
+      count < v → MarksFilled s es n count w w′
   marking-all f k M l =
       let N = M .headed .automaton .branched .numbered in
       record {

@@ -52,7 +52,8 @@ pub in-front : {P : Type 0} {r : ℕ} (t : Bool) (i : ℕ) (xs : List ℕ) → I
 in-front true i xs m f g = by-in m (f refl) g
 in-front false i xs m f g = g m
 
-pub pushed : {w a w′ : List ℕ} {heads u nexts p i f : ℕ} → CanPush w heads u nexts p i → Got w heads u f → Put w nexts p f a → Put a heads u i w′ → Pushed w heads u nexts p i w′
+pub pushed : {w a w′ : List ℕ} {heads u nexts p i f : ℕ} → CanPush w heads u nexts p i → Got w heads u f → Put w nexts p f a → Put a heads u i w′ →
+    Pushed w heads u nexts p i w′
 pushed {w} {a} {w′} {heads} {u} {nexts} {p} {i} {f} c g x y =
     record {
       same = y .same ∙ x .same;

@@ -50,7 +50,12 @@ module _ {s es : List ℕ} {n count : ℕ} {w : List ℕ} (T : Told s es n count
 
   pub nothing : (v : ℕ) → v ≡ 0 → Pending ss M w 0 0 (endingOf ss M (string ps v))
   nothing v z =
-      record { small = omega arith; none = λ e. ap (λ u. endingOf ss M (string ps u)) z ∙ ending-root ss M (numbered .ascending) (member-letters numbered); some = λ h. absurd (h refl) }
+      record {
+        small = omega arith;
+        none = λ e. ap (λ u. endingOf ss M (string ps u)) z
+            ∙ ending-root ss M (numbered .ascending) (member-letters numbered);
+        some = λ h. absurd (h refl);
+      }
 
   -- the members of a node's letters: the first of them is i
   module _ {v h : ℕ} (m : Num ps v) (g : Got w HEAD v h) (i : ℕ) (is : List ℕ) (e : owners ss M (string ps v) ≡ i ∷ is) where
@@ -107,7 +112,8 @@ module _ {s es : List ℕ} {n count : ℕ} {w : List ℕ} (T : Told s es n count
         (λ e. absurd (z (g .is ∙ subst (Linked (cell w TWIN) (cell w HEAD v)) e (T .headed .heads v m))))
         (λ i is e. from-head m g i is e)
 
-    pub here-behind : {node i : ℕ} → h ≡ 0 → Pending ss M w node i (endingOf ss M (string ps (cell w OUT v))) → Pending ss M w node i (endingOf ss M (string ps v))
+    pub here-behind : {node i : ℕ} → h ≡ 0 → Pending ss M w node i (endingOf ss M (string ps (cell w OUT v))) →
+        Pending ss M w node i (endingOf ss M (string ps v))
     here-behind z p =
         by-list (owners ss M (string ps v))
         (λ e. rw (ending-out ss M (numbered .ascending) v m (T .outs v m), e) p)

@@ -33,7 +33,8 @@ module _ {w : List ℕ} {count l r d : ℕ} {left right overs first last : List 
   join-ends-fit = ends-fit (J .marks) l r d (J .left-real) (J .right-real) (J .left-free) (J .right-free) (J .no-cycle)
 
   pub join-made : {w′ left′ right′ overs′ first′ last′ : List ℕ} {made : ℕ}
-      → JoinPut w count l r d w′ made → left′ ≡ set left (r - 1) l → right′ ≡ set right (l - 1) r → overs′ ≡ set overs (l - 1) d → EndsJoined first last l r first′ last′
+      → JoinPut w count l r d w′ made → left′ ≡ set left (r - 1) l → right′ ≡ set right (l - 1) r → overs′ ≡ set overs (l - 1) d →
+      EndsJoined first last l r first′ last′
       → Made w (joinsIn w count ++ (join l r d ∷ [])) w′ left′ right′ overs′ first′ last′ made
   join-made p a b o e =
       record {

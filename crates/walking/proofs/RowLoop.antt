@@ -25,9 +25,11 @@ use Rattle.walking.specs.Runs.{startersAt, endersAt}
 use Rattle.walking.specs.Marks.{Marks}
 use Rattle.walking.specs.Walking.{Made, Visits, Walkable, RowAsks, row, rowWalked}
 use Rattle.walking.proofs.RowLaws.{row-num}
-use Rattle.walking.proofs.WalkableLaws.{kept-rises, here-sized, starters-are, enders-are, node-starts, node-ends, patterns-same, kept-same, walkable-kept}
+use Rattle.walking.proofs.WalkableLaws.{kept-rises, here-sized, starters-are, enders-are, node-starts}
+use Rattle.walking.proofs.WalkableLaws.{node-ends, patterns-same, kept-same, walkable-kept}
 
-pub record RowWalking (s es : List ℕ) (n k count : ℕ) (w₀ : List ℕ) (d made₀ : ℕ) (w : List ℕ) (made v end : ℕ) (left right overs first last : List ℕ) : Type 0 where
+pub record RowWalking (s es : List ℕ) (n k count : ℕ) (w₀ : List ℕ) (d made₀ : ℕ) (w : List ℕ) (made v end : ℕ)
+    (left right overs first last : List ℕ) : Type 0 where
   pub walkable : Walkable s es n k count w₀
   pub some : 1 ≤ d
   pub most : d ≤ maxSlip

@@ -148,7 +148,8 @@ scan-pass l ls d (r ∷ rs) js h =
     only-one k (List·Memᴰ·head e) = rw e h
     only-one k (List·Memᴰ·tail i) = absurd (List·Memᴰ·not-nil i)
 
-pub scan-waiting : (right : List ℕ) (js : List Join) (ls : List ℕ) (d : ℕ) (rs : List ℕ) → MarksOf right js ls → S.scan ls d rs js ≡ S.scan (waitingIn right ls) d rs js
+pub scan-waiting : (right : List ℕ) (js : List Join) (ls : List ℕ) (d : ℕ) (rs : List ℕ) → MarksOf right js ls →
+    S.scan ls d rs js ≡ S.scan (waitingIn right ls) d rs js
 scan-waiting right js [] d rs h = refl
 scan-waiting right js (l ∷ ls) d rs h =
     elim (tell (eqb (mark right l) 0)) [

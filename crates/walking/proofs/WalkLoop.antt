@@ -91,7 +91,12 @@ module _ {s es : List ℕ} {n k count : ℕ} {w₀ w : List ℕ} {made d : ℕ} 
 
     row-same : rowWalked s es n k w d made ≡ walkFrom ss K (those counted (row ps (cell w₀ LEVEL) d)) (joinsIn w made)
     row-same =
-        rw (kept-same (T .walkable) (T .only), patterns-same (T .walkable) (T .only), level-same d (omega (arith, T .upto)), level-same (suc d) (omega (arith, T .upto)))
+        rw (
+          kept-same (T .walkable) (T .only),
+          patterns-same (T .walkable) (T .only),
+          level-same d (omega (arith, T .upto)),
+          level-same (suc d) (omega (arith, T .upto)),
+        )
 
     pub walk-turn : {w′ left′ right′ overs′ first′ last′ : List ℕ} {made′ : ℕ} (d′ : ℕ)
         → Made w (rowWalked s es n k w d made) w′ left′ right′ overs′ first′ last′ made′ → d′ ≡ d - 1
@@ -117,13 +122,20 @@ module _ {s es : List ℕ} {n k count : ℕ} {w₀ w : List ℕ} {made d : ℕ} 
   walk-end h =
       let z : d ≡ 0 = omega arith in
       let positive : (x : ℕ) → In x (members w₀ n) → 1 ≤ x = λ x m. T .walkable .numbered .real x m .0 in
-      let ready : Ready counted ss K = rw (T .walkable .kept-are) (kept-ready counted ss (members w₀ n) nonEmpty-counts (T .walkable .numbered .ascending) positive) in
+      let ready : Ready counted ss K =
+      rw (T .walkable .kept-are) (kept-ready counted ss (members w₀ n) nonEmpty-counts (T .walkable .numbered .ascending) positive) in
       let walked : joinsIn w made ≡ walkFor counted ss K = (rw z at (T .rest)) in
       let plain : joinsIn w made ≡ plainFor counted ss K = walked ∙ one-list counted ss K ready in
       record {
         joins-are = plain;
         neighbours = T .marks .neighbours;
         small = T .marks .small;
-        few = omega (arith, joins-length w made, ap length plain, few-joins counted ss K (kept-rises (T .walkable)) (λ x m. positive x (kept-member (T .walkable) x m)), kept-count (T .walkable));
+        few = omega (
+          arith,
+          joins-length w made,
+          ap length plain,
+          few-joins counted ss K (kept-rises (T .walkable)) (λ x m. positive x (kept-member (T .walkable) x m)),
+          kept-count (T .walkable),
+        );
         only = T .only;
       }

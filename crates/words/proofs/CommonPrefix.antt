@@ -83,7 +83,8 @@ same-common (x ∷ xs) (y ∷ ys) =
       | inr e ↦ rw (common-other x y xs ys e, e, eqb·zero-suc (length xs))
     ]
 
-pub before-common : (x y : List ℕ) → before x y ≡ ltb (common x y) (length y) && (eqb (common x y) (length x) || ltb (getD x (common x y) 0) (getD y (common x y) 0))
+pub before-common : (x y : List ℕ) →
+    before x y ≡ ltb (common x y) (length y) && (eqb (common x y) (length x) || ltb (getD x (common x y) 0) (getD y (common x y) 0))
 before-common [] [] = refl
 before-common [] (y ∷ ys) = rw (lt-ltb 0 (suc (length ys)) (omega arith))
 before-common (x ∷ xs) [] = refl

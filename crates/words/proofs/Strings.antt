@@ -166,4 +166,5 @@ pub stands-trans : (x y z : List ℕ) → standsIn x y ≡ true → standsIn y z
 stands-trans x y z e f =
     let p = stands-at x y e in
     let q = stands-at y z f in
-    stands-drop (q .0 + p .0) x z (rw drop-drop at (begins-trans x (drop (p .0) y) (drop (p .0) (drop (q .0) z)) (p .2) (begins-drop (p .0) y (drop (q .0) z) (q .2))))
+    stands-drop (q .0 + p .0) x z
+    (rw drop-drop at (begins-trans x (drop (p .0) y) (drop (p .0) (drop (q .0) z)) (p .2) (begins-drop (p .0) y (drop (q .0) z) (q .2))))

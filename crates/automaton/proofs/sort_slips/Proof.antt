@@ -7,13 +7,17 @@ fill-members-requires : tie.Need-fill-members-requires
 fill-members-requires c κs = members-asks _ _ _ (c .before .before .before .before .pre)
 
 fill-members-requires-2 : tie.Need-fill-members-requires-2
-fill-members-requires-2 c κs = order-asks _ _ _ (c .before .before .before .before .before .before .before .before .pre) _ (c .before .before .before .fill-members .ensures)
+fill-members-requires-2 c κs =
+    order-asks _ _ _ (c .before .before .before .before .before .before .before .before .pre) _ (c .before .before .before .fill-members .ensures)
 
 sort-table-requires : tie.Need-sort-table-requires
-sort-table-requires c κs = sort-asks _ _ _ (c .before .before .before .before .before .before .before .before .before .before .before .before .pre) _ (c .before .before .before .before .before .before .before .fill-members .ensures) _ (c .before .before .before .fill-members2 .ensures)
+sort-table-requires c κs =
+    sort-asks _ _ _ (c .before .before .before .before .before .before .before .before .before .before .before .before .pre) _
+    (c .before .before .before .before .before .before .before .fill-members .ensures) _ (c .before .before .before .fill-members2 .ensures)
 
 fill-common-requires : tie.Need-fill-common-requires
-fill-common-requires c κs = common-asks _ _ _ (c .before .before .before .before .before .before .before .before .before .before .before .before .before .before .before .before .pre) _ (c .before .before .before .before .before .before .before .before .before .before .before .fill-members .ensures) _ (c .before .before .before .before .before .before .before .fill-members2 .ensures) _ (c .before .before .before .sort-table .ensures)
+fill-common-requires c κs =
+    common-asks _ _ _ (c .before .before .before .before .before .before .before .before .before .before .before .before .before .before .before .before .pre) _ (c .before .before .before .before .before .before .before .before .before .before .before .fill-members .ensures) _ (c .before .before .before .before .before .before .before .fill-members2 .ensures) _ (c .before .before .before .sort-table .ensures)
 
 returns : tie.Need-returns
 returns c = search slips-sorted

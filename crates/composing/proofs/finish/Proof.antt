@@ -25,7 +25,8 @@ outcome-requires : tie.Need-outcome-requires
 outcome-requires c κs = search outcome-can
 
 returns-4 : tie.Need-returns-4
-returns-4 c = last-good _ _ _ _ _ _ _ _ (c .before .before .before .before .before .before .before .before .before .before .before .before .before .before .before .before .before .before .before .before .before .before .before .pre) _ (search needs) _ _ _ (search needs) _ _ _ (search needs) (search needs) (c .before .before .before .before .before .write-out .ensures) (c .outcome .ensures)
+returns-4 c = last-good _ _ _ _ _ _ _ _
+    (c .before .before .before .before .before .before .before .before .before .before .before .before .before .before .before .before .before .before .before .before .before .before .before .pre) _ (search needs) _ _ _ (search needs) _ _ _ (search needs) (search needs) (c .before .before .before .before .before .write-out .ensures) (c .outcome .ensures)
 
 pub finish-spec : {M : Type 1} → statement M
 finish-spec = tie.close (tie.spec (λ c κs. search needs) cast-refused (λ c κs. search needs) (λ c. search needs) returns (λ c. search needs)

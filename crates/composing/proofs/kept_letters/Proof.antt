@@ -16,7 +16,8 @@ abbrev μ-loop : tie.MeasureT-loop
 μ-loop letters ends kept k sum₀ i₀ sum i = k - i
 
 slip-part-requires : tie.Need-slip-part-requires Inv-loop μ-loop
-slip-part-requires c κs = kept-asks _ _ _ _ _ 0 _ [] (c .before .before .before .before .before .before .before .pre) (c .before .before .loop-test .taken) (c .wide .ensures)
+slip-part-requires c κs =
+    kept-asks _ _ _ _ _ 0 _ [] (c .before .before .before .before .before .before .before .pre) (c .before .before .loop-test .taken) (c .wide .ensures)
 
 add-sum : tie.Need-add-sum Inv-loop μ-loop
 add-sum c = record { fits = search kept-fits }

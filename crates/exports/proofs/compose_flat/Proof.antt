@@ -12,7 +12,8 @@ copy-cells-requires-2 c κs = search places-can
 
 returns : tie.Need-returns
 returns c =
-    flat-says _ _ _ _ _ _ _ _ _ (c .before .before .before .before .before .before .before .before .before .before .before .before .before .before .before .before .compose-staged .ensures) _ _ _ _ _ _ refl refl (c .before .before .before .before .before .before .before .before .before .before .whole .ensures) (c .before .before .before .before .whole2 .ensures)
+    flat-says _ _ _ _ _ _ _ _ _
+    (c .before .before .before .before .before .before .before .before .before .before .before .before .before .before .before .before .compose-staged .ensures) _ _ _ _ _ _ refl refl (c .before .before .before .before .before .before .before .before .before .before .whole .ensures) (c .before .before .before .before .whole2 .ensures)
     (c .before .before .before .before .before .before .before .before .copy-cells .ensures) (c .before .before .copy-cells2 .ensures)
 
 pub compose-flat-spec : {M : Type 1} → statement M

@@ -15,8 +15,11 @@ abbrev μ-loop : tie.MeasureT-loop
 μ-loop file letters₀ ends₀ at₀ count₀ slips₀ letters ends at count slips = length file - at
 
 -- what is known once the line is read
-turned : (c : tie.After-next-line Inv-loop μ-loop) → Turn (c .before .before .before .before .before .before .args .file .now) (c .before .before .loop .letters) (c .before .before .loop .ends) (c .before .before .loop .at) (c .before .before .loop .count) (c .before .before .loop .slips) (c .next-line .result)
-turned c = turn _ _ _ _ _ _ _ _ (c .before .before .before .before .before .before .pre) (c .before .before .loop .inv) (c .next-line .result) (c .before .loop-test .taken) (c .next-line .ensures)
+turned : (c : tie.After-next-line Inv-loop μ-loop) →
+    Turn (c .before .before .before .before .before .before .args .file .now) (c .before .before .loop .letters) (c .before .before .loop .ends)
+    (c .before .before .loop .at) (c .before .before .loop .count) (c .before .before .loop .slips) (c .next-line .result)
+turned c = turn _ _ _ _ _ _ _ _ (c .before .before .before .before .before .before .pre) (c .before .before .loop .inv) (c .next-line .result)
+    (c .before .loop-test .taken) (c .next-line .ensures)
 
 loop-holds : tie.Need-loop-holds Inv-loop μ-loop
 loop-holds c = passed-none _ _ _ (c .before .before .before .pre)
@@ -55,7 +58,9 @@ loop-less : tie.Need-loop-less Inv-loop μ-loop
 loop-less c = omega (arith, turned (c .before .before .before .before .before))
 
 loop-again : tie.Need-loop-again Inv-loop μ-loop
-loop-again c = let n = c .before .before .before .before .before in passed-more _ _ _ _ _ _ _ _ (n .before .before .before .before .before .before .pre) (n .before .before .loop .inv) (n .next-line .result) (n .before .loop-test .taken) (n .next-line .ensures) _ (c .before .before .file-letters .ensures)
+loop-again c = let n =
+    c .before .before .before .before .before in passed-more _ _ _ _ _ _ _ _ (n .before .before .before .before .before .before .pre)
+    (n .before .before .loop .inv) (n .next-line .result) (n .before .loop-test .taken) (n .next-line .ensures) _ (c .before .before .file-letters .ensures)
 
 same-length : tie.Need-same-length Inv-loop μ-loop
 same-length c = search letters-long

@@ -31,7 +31,8 @@ returns c =
     let a = p .before .before in
     let l = a .before .before in
     let n = l .before .before in
-    ready-told (n .before .before .before .before .before .before .pre) (n .at .ensures) (l .load .ensures) (a .advance .ensures) (p .pass .ensures) (k .keep .ensures)
+    ready-told (n .before .before .before .before .before .before .pre) (n .at .ensures) (l .load .ensures) (a .advance .ensures) (p .pass .ensures)
+    (k .keep .ensures)
 
 pub next-found-spec : {M : Type 1} → statement M
 next-found-spec = tie.close (tie.spec at-requires load-requires advance-requires pass-requires keep-requires cast-t22 cast-t23

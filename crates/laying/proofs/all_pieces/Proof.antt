@@ -8,7 +8,8 @@ use Rattle.laying.proofs.all_pieces.Statement.{statement}
 use Rattle.laying.proofs.all_pieces.Tie as tie
 
 abbrev Inv-loop : tie.InvT-loop
-Inv-loop kept n left right overs turns pieces₀ count₀ k₀ pieces count k = (k ≤ n) × Flattened (piecesBy left right overs turns (take k kept)) 0 pieces₀ pieces count
+Inv-loop kept n left right overs turns pieces₀ count₀ k₀ pieces count k =
+    (k ≤ n) × Flattened (piecesBy left right overs turns (take k kept)) 0 pieces₀ pieces count
 
 abbrev μ-loop : tie.MeasureT-loop
 μ-loop kept n left right overs turns pieces₀ count₀ k₀ pieces count k = n - k

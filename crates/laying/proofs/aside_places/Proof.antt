@@ -10,7 +10,8 @@ use Rattle.laying.proofs.aside_places.Statement.{statement}
 use Rattle.laying.proofs.aside_places.Tie as tie
 
 abbrev Inv-loop : tie.InvT-loop
-Inv-loop letters ends legend places₀ i₀ places i = (i ≤ length ends) × (places ≡ asideBy (slipsOf letters ends) legend places₀ i) × (length places ≡ length places₀)
+Inv-loop letters ends legend places₀ i₀ places i =
+    (i ≤ length ends) × (places ≡ asideBy (slipsOf letters ends) legend places₀ i) × (length places ≡ length places₀)
 
 abbrev μ-loop : tie.MeasureT-loop
 μ-loop letters ends legend places₀ i₀ places i = length ends - i

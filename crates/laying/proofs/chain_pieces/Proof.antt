@@ -5,7 +5,8 @@ use Rattle.laying.proofs.chain_pieces.Statement.{statement}
 use Rattle.laying.proofs.chain_pieces.Tie as tie
 
 abbrev Inv-loop : tie.InvT-loop
-Inv-loop right overs turns first pieces₀ m count₀ slip₀ shared₀ left₀ pieces count slip shared left = Writing right overs turns first pieces₀ m count slip shared left pieces
+Inv-loop right overs turns first pieces₀ m count₀ slip₀ shared₀ left₀ pieces count slip shared left =
+    Writing right overs turns first pieces₀ m count slip shared left pieces
 
 abbrev μ-loop : tie.MeasureT-loop
 μ-loop right overs turns first pieces₀ m count₀ slip₀ shared₀ left₀ pieces count slip shared left = left

@@ -8,7 +8,8 @@ returns : tie.Need-returns
 returns c = search parent-short
 
 sub-at : tie.Need-sub-at
-sub-at c = let p = place-before _ _ _ _ (c .before .before .before .before .pre) (c .before .before .at .ensures) (c .before .if1 .left) (c .at2 .ensures) in omega arith
+sub-at c = let p = place-before _ _ _ _ (c .before .before .before .before .pre) (c .before .before .at .ensures) (c .before .if1 .left)
+    (c .at2 .ensures) in omega arith
 
 at-requires-3 : tie.Need-at-requires-3
 at-requires-3 c κs = place-before _ _ _ _ (c .before .before .before .before .pre) (c .before .before .at .ensures) (c .before .if1 .left) (c .at2 .ensures) .1

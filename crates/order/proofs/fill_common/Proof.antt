@@ -12,7 +12,8 @@ use Rattle.order.proofs.fill_common.Statement.{statement}
 use Rattle.order.proofs.fill_common.Tie as tie
 
 abbrev Inv-loop : tie.InvT-loop
-Inv-loop letters ends work₀ order common n end i₀ work i = (i ≤ n) × (end ≡ order + n) × Filling common n (commons (slipsOf letters ends) 0 (table work₀ order n)) i work₀ work
+Inv-loop letters ends work₀ order common n end i₀ work i =
+    (i ≤ n) × (end ≡ order + n) × Filling common n (commons (slipsOf letters ends) 0 (table work₀ order n)) i work₀ work
 
 abbrev μ-loop : tie.MeasureT-loop
 μ-loop letters ends work₀ order common n end i₀ work i = n - i

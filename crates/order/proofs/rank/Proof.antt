@@ -9,7 +9,9 @@ use Rattle.order.proofs.rank.Statement.{statement}
 use Rattle.order.proofs.rank.Tie as tie
 
 abbrev Inv-loop : tie.InvT-loop
-Inv-loop letters ends order typed bound low₀ high₀ low high = (low ≤ high) × (high ≤ length order) × Passed (λ i. below bound typed (slip (slipsOf letters ends) i) i) order low × Failed (λ i. below bound typed (slip (slipsOf letters ends) i) i) order high
+Inv-loop letters ends order typed bound low₀ high₀ low high =
+    (low ≤ high) × (high ≤ length order) × Passed (λ i. below bound typed (slip (slipsOf letters ends) i) i) order low ×
+    Failed (λ i. below bound typed (slip (slipsOf letters ends) i) i) order high
 
 abbrev μ-loop : tie.MeasureT-loop
 μ-loop letters ends order typed bound low₀ high₀ low high = high - low

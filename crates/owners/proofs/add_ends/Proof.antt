@@ -1,6 +1,8 @@
 -- Invariant: member i stands first in the lists of its proper suffixes of more than d letters that are nodes; those of at most d letters are node u
 -- and the nodes on its failure path.
-use Rattle.owners.proofs.EndLoop.{Falling, falling-some, falling-most, falling-end, falling-place, falling-letters, falling-letter, falling-fail, falling-start, falling-left, falling-level, falling-skip, falling-deep, falling-can, falling-next, falling-more, falling-all}
+use Rattle.owners.proofs.EndLoop.{Falling, falling-some, falling-most, falling-end, falling-place, falling-letters}
+use Rattle.owners.proofs.EndLoop.{falling-letter, falling-fail, falling-start, falling-left, falling-level}
+use Rattle.owners.proofs.EndLoop.{falling-skip, falling-deep, falling-can, falling-next, falling-more, falling-all}
 use mathlib.Core.Path.{refl}
 use native.Mathlib.Omega.{arith}
 use borrow.Author.Needs.{needs}
@@ -35,7 +37,8 @@ loop-holds : tie.Need-loop-holds Inv-loop μ-loop
 loop-holds c =
     let a = c .before .before in
     let b = a .before .before in
-    falling-start (b .before .before .before .before .before .before .pre) (b .before .at .ensures) _ (b .slip-span .ensures) (a .at2 .ensures) (c .at3 .ensures)
+    falling-start (b .before .before .before .before .before .before .pre) (b .before .at .ensures) _ (b .slip-span .ensures) (a .at2 .ensures)
+    (c .at3 .ensures)
 
 at-requires-4 : tie.Need-at-requires-4 Inv-loop μ-loop
 at-requires-4 c κs = search falling-level

@@ -1,7 +1,8 @@
 -- Invariant: the lists of the prefixes of member i that end before place p begin with i; behind it, and in all other lists, stand the kept members
 -- behind the j-th that begin with the node.
 use Prim.Native.Nat.{_-_}
-use Rattle.owners.proofs.StartLoop.{Beginning, beginning-some, beginning-most, beginning-start, beginning-place, beginning-can, beginning-more, beginning-all}
+use Rattle.owners.proofs.StartLoop.{Beginning, beginning-some, beginning-most, beginning-start}
+use Rattle.owners.proofs.StartLoop.{beginning-place, beginning-can, beginning-more, beginning-all}
 use borrow.Author.Needs.{needs}
 use Rattle.owners.proofs.add_starts.Statement.{statement}
 use Rattle.owners.proofs.add_starts.Tie as tie

@@ -2,7 +2,8 @@
 use Rattle.layout.specs.Layout.{HEAD}
 use Rattle.layout.specs.Numbered.{Kept}
 use Rattle.owners.proofs.Keeping.{kept-refl, kept-trans}
-use Rattle.owners.proofs.HeadLoop.{Heading, heading-room, heading-start, heading-place, heading-among, heading-can, heading-more, heading-kept, heading-all}
+use Rattle.owners.proofs.HeadLoop.{Heading, heading-room, heading-start, heading-place, heading-among}
+use Rattle.owners.proofs.HeadLoop.{heading-can, heading-more, heading-kept, heading-all}
 use borrow.Author.Needs.{needs}
 use Rattle.owners.proofs.fill_heads.Statement.{statement}
 use Rattle.owners.proofs.fill_heads.Tie as tie

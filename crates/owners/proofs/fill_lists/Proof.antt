@@ -9,7 +9,8 @@ returns c =
     let s = e .before .before .before .before in
     let k = s .before .before .before .before in
     let m = k .before .before .before .before in
-    listed (m .before .before .before .before .fill-heads .ensures) (m .fill-marks .ensures) (k .fill-kept .ensures) (s .fill-starts .ensures) (e .fill-ends .ensures)
+    listed (m .before .before .before .before .fill-heads .ensures) (m .fill-marks .ensures) (k .fill-kept .ensures) (s .fill-starts .ensures)
+    (e .fill-ends .ensures)
 
 pub fill-lists-spec : {M : Type 1} → statement M
 fill-lists-spec = tie.close (tie.spec (λ c κs. search needs) (λ c κs. search needs) (λ c κs. search needs) (λ c κs. search needs)

@@ -2,7 +2,8 @@
 -- text makes from there, are the moves and occurrences of the text.
 use Prim.Native.Nat.{_-_}
 use lib.ListN.{length}
-use Rattle.scanning.proofs.CountLoop.{Counting, counting-start, counting-steps, counting-drop, counting-moves, counting-tally, counting-found, counting-more, counting-all}
+use Rattle.scanning.proofs.CountLoop.{Counting, counting-start, counting-steps, counting-drop, counting-moves}
+use Rattle.scanning.proofs.CountLoop.{counting-tally, counting-found, counting-more, counting-all}
 use borrow.Author.Needs.{needs}
 use Rattle.scanning.proofs.count_text.Statement.{statement}
 use Rattle.scanning.proofs.count_text.Tie as tie

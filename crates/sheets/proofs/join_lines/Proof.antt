@@ -27,8 +27,11 @@ loop-again c =
     let s = t .before .before in
     let b = s .before .before .before .before in
     let l = b .loop in
-    let a = b .before .before .before .args in
-    (search needs, join-turn (a .joins .now) (l .i) _ _ _ _ _ _ _ _ _ (s .before .before .small .ensures) (s .before .small2 .ensures) (s .small3 .ensures) (l .inv .1) (t .three-line .ensures))
+    let a = b .before .before .before .args in (
+      search needs,
+      join-turn (a .joins .now) (l .i) _ _ _ _ _ _ _ _ _ (s .before .before .small .ensures) (s .before .small2 .ensures)
+          (s .small3 .ensures) (l .inv .1) (t .three-line .ensures),
+    )
 
 returns : tie.Need-returns Inv-loop μ-loop
 returns c = search joins-end

@@ -36,8 +36,12 @@ loop-again c =
     let b = s .before .before .before .before in
     let l = b .loop in
     let a = b .before .before .before .before .args in
-    let end = s .before .before .small .ensures in
-    (search needs, here-turn _ (l .i) _ end, slip-turn (a .ends .now) (a .places .now) (l .i) _ _ _ _ _ _ _ _ _ _ (l .inv .1) end (s .before .small2 .ensures) (s .small3 .ensures) (l .inv .2) (t .slip-line .ensures))
+    let end = s .before .before .small .ensures in (
+      search needs,
+      here-turn _ (l .i) _ end,
+      slip-turn (a .ends .now) (a .places .now) (l .i) _ _ _ _ _ _ _ _ _ _ (l .inv .1) end
+          (s .before .small2 .ensures) (s .small3 .ensures) (l .inv .2) (t .slip-line .ensures),
+    )
 
 returns : tie.Need-returns Inv-loop μ-loop
 returns c = search slips-end

@@ -11,7 +11,9 @@ use Rattle.trays.proofs.check_ends.Statement.{statement}
 use Rattle.trays.proofs.check_ends.Tie as tie
 
 abbrev Inv-loop : tie.InvT-loop
-Inv-loop ends here₀ long₀ slip₀ i₀ here long slip i = (i ≤ length ends) × (slip ≡ i + 1) × (here < 65536) × (notAbove 1 0 ends ≡ notAbove slip here (drop i ends)) × (tooLong 1 0 ends ≡ firstOf long (tooLong slip here (drop i ends)))
+Inv-loop ends here₀ long₀ slip₀ i₀ here long slip i =
+    (i ≤ length ends) × (slip ≡ i + 1) × (here < 65536) × (notAbove 1 0 ends ≡ notAbove slip here (drop i ends)) ×
+    (tooLong 1 0 ends ≡ firstOf long (tooLong slip here (drop i ends)))
 
 abbrev μ-loop : tie.MeasureT-loop
 μ-loop ends here₀ long₀ slip₀ i₀ here long slip i = length ends - i

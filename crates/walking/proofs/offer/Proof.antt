@@ -4,7 +4,8 @@ use Rattle.walking.proofs.offer.Statement.{statement}
 use Rattle.walking.proofs.offer.Tie as tie
 
 returns : tie.Need-returns
-returns c = let a = c .before in offer-refused (a .before .before .before .before .before .before .before .before .before .pre) (a .mark-of .ensures) (c .if1 .taken)
+returns c = let a = c .before in offer-refused (a .before .before .before .before .before .before .before .before .before .pre)
+    (a .mark-of .ensures) (c .if1 .taken)
 
 partner-requires : tie.Need-partner-requires
 partner-requires c κs = search offer-chooses
@@ -17,7 +18,8 @@ make-join-requires c κs =
     let q = c .before .before .before .before .before .before in
     let p = q .before .before .before .before in
     let a = p .before .before .before in
-    offer-joinable (a .before .before .before .before .before .before .before .before .before .pre) (a .mark-of .ensures) (p .before .before .if1 .left) (p .mark-of2 .ensures) (q .before .partner .ensures) (q .if2 .left)
+    offer-joinable (a .before .before .before .before .before .before .before .before .before .pre) (a .mark-of .ensures)
+    (p .before .before .if1 .left) (p .mark-of2 .ensures) (q .before .partner .ensures) (q .if2 .left)
 
 returns-3 : tie.Need-returns-3
 returns-3 c =
@@ -25,7 +27,8 @@ returns-3 c =
     let q = m .before .before .before .before .before .before .before in
     let p = q .before .before .before .before in
     let a = p .before .before .before in
-    offer-joins (a .before .before .before .before .before .before .before .before .before .pre) (a .mark-of .ensures) (p .before .before .if1 .left) (p .mark-of2 .ensures) (q .before .partner .ensures) (q .if2 .left) (m .make-join .ensures)
+    offer-joins (a .before .before .before .before .before .before .before .before .before .pre) (a .mark-of .ensures)
+    (p .before .before .if1 .left) (p .mark-of2 .ensures) (q .before .partner .ensures) (q .if2 .left) (m .make-join .ensures)
 
 pub offer-spec : {M : Type 1} → statement M
 offer-spec = tie.close (tie.spec (λ c κs. search needs) (λ c. search needs) returns (λ c κs. search needs) partner-requires

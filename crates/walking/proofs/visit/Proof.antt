@@ -30,8 +30,10 @@ next-starter-requires : tie.Need-next-starter-requires Inv-loop μ-loop
 next-starter-requires c κs =
     let o = c .before .before .before .before .before .before .before .before .before .before .before .before .before in
     let b = o .before .before .before .before .before .before .before in
-    let a = b .before .before .before in
-    (visit-next (a .before .loop .inv) (a .loop-test .taken) (b .next-free .ensures) (o .offer .ensures), visit-real (a .before .loop .inv) (a .loop-test .taken))
+    let a = b .before .before .before in (
+      visit-next (a .before .loop .inv) (a .loop-test .taken) (b .next-free .ensures) (o .offer .ensures),
+      visit-real (a .before .loop .inv) (a .loop-test .taken),
+    )
 
 loop-less : tie.Need-loop-less Inv-loop μ-loop
 loop-less c = search visit-less
