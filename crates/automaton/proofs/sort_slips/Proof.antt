@@ -4,20 +4,30 @@ use Rattle.automaton.proofs.sort_slips.Statement.{statement}
 use Rattle.automaton.proofs.sort_slips.Tie as tie
 
 fill-members-requires : tie.Need-fill-members-requires
-fill-members-requires c κs = members-asks _ _ _ (c .before .before .before .before .pre)
+fill-members-requires c κs =
+    let start = c .before .before .before .before in
+    members-asks _ _ _ (start .pre)
 
 fill-members-requires-2 : tie.Need-fill-members-requires-2
 fill-members-requires-2 c κs =
-    order-asks _ _ _ (c .before .before .before .before .before .before .before .before .pre) _ (c .before .before .before .fill-members .ensures)
+    let filled = c .before .before .before in
+    let start = filled .before .before .before .before .before in
+    order-asks _ _ _ (start .pre) _ (filled .fill-members .ensures)
 
 sort-table-requires : tie.Need-sort-table-requires
 sort-table-requires c κs =
-    sort-asks _ _ _ (c .before .before .before .before .before .before .before .before .before .before .before .before .pre) _
-    (c .before .before .before .before .before .before .before .fill-members .ensures) _ (c .before .before .before .fill-members2 .ensures)
+    let copied = c .before .before .before in
+    let filled = copied .before .before .before .before in
+    let start = filled .before .before .before .before .before in
+    sort-asks _ _ _ (start .pre) _ (filled .fill-members .ensures) _ (copied .fill-members2 .ensures)
 
 fill-common-requires : tie.Need-fill-common-requires
 fill-common-requires c κs =
-    common-asks _ _ _ (c .before .before .before .before .before .before .before .before .before .before .before .before .before .before .before .before .pre) _ (c .before .before .before .before .before .before .before .before .before .before .before .fill-members .ensures) _ (c .before .before .before .before .before .before .before .fill-members2 .ensures) _ (c .before .before .before .sort-table .ensures)
+    let sorted = c .before .before .before in
+    let copied = sorted .before .before .before .before in
+    let filled = copied .before .before .before .before in
+    let start = filled .before .before .before .before .before in
+    common-asks _ _ _ (start .pre) _ (filled .fill-members .ensures) _ (copied .fill-members2 .ensures) _ (sorted .sort-table .ensures)
 
 returns : tie.Need-returns
 returns c = search slips-sorted

@@ -5,10 +5,14 @@ use Rattle.compose.proofs.print_sheet.Statement.{statement}
 use Rattle.compose.proofs.print_sheet.Tie as tie
 
 array-share-prefix-out : tie.Need-array-share-prefix-out
-array-share-prefix-out c = compose-counted _ _ _ _ (omega arith) (c .before .before .before .before .before .compose-sheet .ensures) .0
+array-share-prefix-out c =
+    let composed = c .before .before .before .before .before in
+    compose-counted _ _ _ _ (omega arith) (composed .compose-sheet .ensures) .0
 
 slice-aggregate-write-all : tie.Need-slice-aggregate-write-all
-slice-aggregate-write-all c = compose-counted _ _ _ _ (omega arith) (c .before .before .before .before .before .before .compose-sheet .ensures) .1
+slice-aggregate-write-all c =
+    let composed = c .before .before .before .before .before .before in
+    compose-counted _ _ _ _ (omega arith) (composed .compose-sheet .ensures) .1
 
 pub print-sheet-spec : {M : Type 1} → statement M
 print-sheet-spec = tie.close (tie.spec (λ c. search needs) (λ c. search needs) (λ c. search needs) (λ c. search needs) (λ c. search needs)

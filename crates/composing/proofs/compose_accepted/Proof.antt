@@ -4,20 +4,42 @@ use borrow.Author.Needs.{needs}
 use Rattle.composing.proofs.compose_accepted.Statement.{statement}
 use Rattle.composing.proofs.compose_accepted.Tie as tie
 
+-- what is behind the moment at which the walk is done
+abbrev listed : tie.After-walk → tie.After-fill-lists
+listed walked = walked .before .before .before .before .before .before .before .before .before
+
+abbrev built : tie.After-walk → tie.After-build
+built walked = listed walked .before .before .before .before
+
+abbrev start : tie.After-walk → tie.Start
+start walked = built walked .before .before .before .before .before .before
+
 walk-requires : tie.Need-walk-requires
 walk-requires c κs = (search walk-can, search needs)
 
 finish-requires : tie.Need-finish-requires
 finish-requires c κs =
-    finish-can _ _ _ (c .before .before .before .before .before .before .before .before .before .before .before .before .before .before .before .before .before .before .before .before .before .before .before .before .before .before .before .before .before .before .before .pre) _ _ (c .before .before .before .before .before .before .before .before .before .before .before .before .before .before .before .before .before .before .before .before .before .before .before .before .before .build .ensures) _ _ (c .before .before .before .before .before .before .before .before .before .before .before .before .before .before .before .before .before .before .before .before .before .fill-lists .ensures) _ _ _ _ _ (c .before .before .before .before .before .before .before .before .before .before .before .before .walk .ensures)
+    let walked = c .before .before .before .before .before .before .before .before .before .before .before .before in
+    finish-can _ _ _ (start walked .pre) _ _ (built walked .build .ensures) _ _ (listed walked .fill-lists .ensures) _ _ _ _ _ (walked .walk .ensures)
 
 same-length : tie.Need-same-length
 same-length c =
-    omega (arith, c .before .before .before .before .before .before .before .before .before .before .before .before .before .before .before .before .before .before .before .before .before .before .before .before .before .before .before .before .before .before .build .ensures .same, c .before .before .before .before .before .before .before .before .before .before .before .before .before .before .before .before .before .before .before .before .before .before .before .before .before .before .fill-lists .ensures .below .same, c .before .before .before .before .before .before .before .before .before .before .before .before .before .before .before .before .before .walk .ensures .only .same, c .before .before .before .before .finish .ensures .same)
+    let finished = c .before .before .before .before in
+    let walked = finished .before .before .before .before .before .before .before .before .before .before .before .before .before in
+    omega (
+      arith,
+      built walked .build .ensures .same,
+      listed walked .fill-lists .ensures .below .same,
+      walked .walk .ensures .only .same,
+      finished .finish .ensures .same,
+    )
 
 returns : tie.Need-returns
 returns c =
-    finished-all _ _ _ (c .before .before .before .before .before .before .before .before .before .before .before .before .before .before .before .before .before .before .before .before .before .before .before .before .before .before .before .before .before .before .before .before .before .before .before .before .pre) _ _ (c .before .before .before .before .before .before .before .before .before .before .before .before .before .before .before .before .before .before .before .before .before .before .before .before .before .before .before .before .before .before .build .ensures) _ _ (c .before .before .before .before .before .before .before .before .before .before .before .before .before .before .before .before .before .before .before .before .before .before .before .before .before .before .fill-lists .ensures) _ _ _ _ _ (c .before .before .before .before .before .before .before .before .before .before .before .before .before .before .before .before .before .walk .ensures) _ _ _ _ _ _ (c .before .before .before .before .finish .ensures)
+    let finished = c .before .before .before .before in
+    let walked = finished .before .before .before .before .before .before .before .before .before .before .before .before .before in
+    finished-all _ _ _ (start walked .pre) _ _ (built walked .build .ensures) _ _ (listed walked .fill-lists .ensures) _ _ _ _ _
+    (walked .walk .ensures) _ _ _ _ _ _ (finished .finish .ensures)
 
 pub compose-accepted-spec : {M : Type 1} → statement M
 compose-accepted-spec = tie.close (tie.spec (λ c κs. search needs) (λ c κs. search needs) (λ c. search needs) (λ c. search needs)

@@ -7,7 +7,7 @@ kept-letters-requires : tie.Need-kept-letters-requires
 kept-letters-requires c κs = search kept-asks
 
 saved-letters-requires : tie.Need-saved-letters-requires
-saved-letters-requires c κs = joins-asks _ _ _ _ _ (c .before .before .before .before .before .before .pre)
+saved-letters-requires c κs = search joins-asks
 
 sub-t8 : tie.Need-sub-t8
 sub-t8 c = search saved-fits

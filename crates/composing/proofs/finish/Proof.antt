@@ -24,9 +24,18 @@ write-out-requires c κs = search write-can
 outcome-requires : tie.Need-outcome-requires
 outcome-requires c κs = search outcome-can
 
+-- what is behind the moment at which the answer is made up: `search` does not find its way past more records, so these are no lets
+abbrev written : tie.After-outcome → tie.After-write-out
+written told = told .before .before .before .before .before
+
+abbrev start : tie.After-outcome → tie.Start
+start told =
+    written told .before .before .before .before .before .before .before .before .before .before .before .before .before .before .before .before .before .before
+
 returns-4 : tie.Need-returns-4
-returns-4 c = last-good _ _ _ _ _ _ _ _
-    (c .before .before .before .before .before .before .before .before .before .before .before .before .before .before .before .before .before .before .before .before .before .before .before .pre) _ (search needs) _ _ _ (search needs) _ _ _ (search needs) (search needs) (c .before .before .before .before .before .write-out .ensures) (c .outcome .ensures)
+returns-4 c =
+    last-good _ _ _ _ _ _ _ _ (start c .pre) _ (search needs) _ _ _ (search needs) _ _ _ (search needs) (search needs) (written c .write-out .ensures)
+    (c .outcome .ensures)
 
 pub finish-spec : {M : Type 1} → statement M
 finish-spec = tie.close (tie.spec (λ c κs. search needs) cast-refused (λ c κs. search needs) (λ c. search needs) returns (λ c. search needs)

@@ -17,7 +17,9 @@ abbrev μ-loop : tie.MeasureT-loop
 
 slip-part-requires : tie.Need-slip-part-requires Inv-loop μ-loop
 slip-part-requires c κs =
-    kept-asks _ _ _ _ _ 0 _ [] (c .before .before .before .before .before .before .before .pre) (c .before .before .loop-test .taken) (c .wide .ensures)
+    let turn = c .before .before in
+    let start = turn .before .before .before .before .before in
+    kept-asks _ _ _ _ _ 0 _ [] (start .pre) (turn .loop-test .taken) (c .wide .ensures)
 
 add-sum : tie.Need-add-sum Inv-loop μ-loop
 add-sum c = record { fits = search kept-fits }

@@ -12,9 +12,13 @@ copy-cells-requires-2 c κs = search places-can
 
 returns : tie.Need-returns
 returns c =
-    flat-says _ _ _ _ _ _ _ _ _
-    (c .before .before .before .before .before .before .before .before .before .before .before .before .before .before .before .before .compose-staged .ensures) _ _ _ _ _ _ refl refl (c .before .before .before .before .before .before .before .before .before .before .whole .ensures) (c .before .before .before .before .whole2 .ensures)
-    (c .before .before .before .before .before .before .before .before .copy-cells .ensures) (c .before .before .copy-cells2 .ensures)
+    let places-copied = c .before .before in
+    let places-counted = places-copied .before .before in
+    let joins-copied = places-counted .before .before .before .before in
+    let joins-counted = joins-copied .before .before in
+    let composed = joins-counted .before .before .before .before .before .before in
+    flat-says _ _ _ _ _ _ _ _ _ (composed .compose-staged .ensures) _ _ _ _ _ _ refl refl (joins-counted .whole .ensures) (places-counted .whole2 .ensures)
+    (joins-copied .copy-cells .ensures) (places-copied .copy-cells2 .ensures)
 
 pub compose-flat-spec : {M : Type 1} → statement M
 compose-flat-spec = tie.close (tie.spec (λ c κs. search needs) (λ c κs. search needs) (λ c. search needs) copy-cells-requires

@@ -14,15 +14,27 @@ Inv-loop file letters₀ ends₀ at₀ count₀ slips₀ letters ends at count s
 abbrev μ-loop : tie.MeasureT-loop
 μ-loop file letters₀ ends₀ at₀ count₀ slips₀ letters ends at count slips = length file - at
 
+-- the head of the loop, from behind the line that a turn reads, and where the function starts
+abbrev head : tie.After-next-line Inv-loop μ-loop → tie.At-loop Inv-loop μ-loop
+head lined = lined .before .before
+
+abbrev start : tie.After-next-line Inv-loop μ-loop → tie.Start Inv-loop μ-loop
+start lined = head lined .before .before .before .before
+
 -- what is known once the line is read
 turned : (c : tie.After-next-line Inv-loop μ-loop) →
-    Turn (c .before .before .before .before .before .before .args .file .now) (c .before .before .loop .letters) (c .before .before .loop .ends)
-    (c .before .before .loop .at) (c .before .before .loop .count) (c .before .before .loop .slips) (c .next-line .result)
-turned c = turn _ _ _ _ _ _ _ _ (c .before .before .before .before .before .before .pre) (c .before .before .loop .inv) (c .next-line .result)
-    (c .before .loop-test .taken) (c .next-line .ensures)
+    let l = head c .loop in
+    Turn (start c .args .file .now) (l .letters) (l .ends) (l .at) (l .count) (l .slips) (c .next-line .result)
+turned c = turn _ _ _ _ _ _ _ _ (start c .pre) (head c .loop .inv) (c .next-line .result) (c .before .loop-test .taken) (c .next-line .ensures)
+
+-- the line that a turn reads, from behind its letters
+abbrev lined : tie.After-file-letters Inv-loop μ-loop → tie.After-next-line Inv-loop μ-loop
+lined copied = copied .before .before .before
 
 loop-holds : tie.Need-loop-holds Inv-loop μ-loop
-loop-holds c = passed-none _ _ _ (c .before .before .before .pre)
+loop-holds c =
+    let start = c .before .before .before in
+    passed-none _ _ _ (start .pre)
 
 sub-file-letters : tie.Need-sub-file-letters Inv-loop μ-loop
 sub-file-letters c = omega (arith, turned c)
@@ -43,24 +55,26 @@ file-letters-requires : tie.Need-file-letters-requires Inv-loop μ-loop
 file-letters-requires c κs = simp (length-take, length-drop) (omega (arith, turned (c .before .before)))
 
 sub-count : tie.Need-sub-count Inv-loop μ-loop
-sub-count c = omega (arith, turned (c .before .before .before .before .before))
+sub-count c = omega (arith, turned (lined (c .before .before)))
 
 add-count : tie.Need-add-count Inv-loop μ-loop
-add-count c = omega (arith, turned (c .before .before .before .before .before))
+add-count c = omega (arith, turned (lined (c .before .before)))
 
 cast-ends : tie.Need-cast-ends Inv-loop μ-loop
-cast-ends c = omega (arith, turned (c .before .before .before .before .before))
+cast-ends c = omega (arith, turned (lined (c .before .before)))
 
 slice-write-ends : tie.Need-slice-write-ends Inv-loop μ-loop
-slice-write-ends c = omega (arith, turned (c .before .before .before .before .before))
+slice-write-ends c = omega (arith, turned (lined (c .before .before)))
 
 loop-less : tie.Need-loop-less Inv-loop μ-loop
-loop-less c = omega (arith, turned (c .before .before .before .before .before))
+loop-less c = omega (arith, turned (lined (c .before .before)))
 
 loop-again : tie.Need-loop-again Inv-loop μ-loop
-loop-again c = let n =
-    c .before .before .before .before .before in passed-more _ _ _ _ _ _ _ _ (n .before .before .before .before .before .before .pre)
-    (n .before .before .loop .inv) (n .next-line .result) (n .before .loop-test .taken) (n .next-line .ensures) _ (c .before .before .file-letters .ensures)
+loop-again c =
+    let copied = c .before .before in
+    let n = lined copied in
+    passed-more _ _ _ _ _ _ _ _ (start n .pre) (head n .loop .inv) (n .next-line .result) (n .before .loop-test .taken) (n .next-line .ensures) _
+    (copied .file-letters .ensures)
 
 same-length : tie.Need-same-length Inv-loop μ-loop
 same-length c = search letters-long

@@ -5,9 +5,10 @@ use Rattle.finding.proofs.prepare.Tie as tie
 
 returns : tie.Need-returns
 returns c =
-    let o = c .before .before in
-    let h = o .before .before .before .before in
-    prepared (h .before .before .before .before .build .ensures) (h .fill-heads .ensures) (o .fill-outputs .ensures)
+    let outputs-filled = c .before .before in
+    let heads-filled = outputs-filled .before .before .before .before in
+    let built = heads-filled .before .before .before .before in
+    prepared (built .build .ensures) (heads-filled .fill-heads .ensures) (outputs-filled .fill-outputs .ensures)
 
 pub prepare-spec : {M : Type 1} → statement M
 prepare-spec = tie.close (tie.spec (λ c κs. search needs) (λ c κs. search needs) (λ c κs. search needs) (λ c. search needs) returns)

@@ -20,21 +20,26 @@ next-found-requires : tie.Need-next-found-requires Inv-loop μ-loop
 next-found-requires c κs = search flat-ready
 
 mul-at : tie.Need-mul-at Inv-loop μ-loop
-mul-at c = record { fits = flat-fits (c .before .before .before .before .before .loop .inv) (c .before .before .before .before .loop-test .taken) }
+mul-at c =
+    let turn = c .before .before .before .before in
+    record { fits = flat-fits (turn .before .loop .inv) (turn .loop-test .taken) }
 
 slice-write-found : tie.Need-slice-write-found Inv-loop μ-loop
 slice-write-found c = search flat-room
 
 slice-write-found-2 : tie.Need-slice-write-found-2 Inv-loop μ-loop
-slice-write-found-2 c = flat-next (c .before .before .before .before .before .before .loop .inv) (c .before .before .before .before .before .loop-test .taken) _
+slice-write-found-2 c =
+    let turn = c .before .before .before .before .before in
+    flat-next (turn .before .loop .inv) (turn .loop-test .taken) _
 
 loop-less : tie.Need-loop-less Inv-loop μ-loop
 loop-less c = omega arith
 
 loop-again : tie.Need-loop-again Inv-loop μ-loop
 loop-again c =
-    let n = c .before .before .before in
-    flat-more (n .before .before .before .loop .inv) (n .before .before .loop-test .taken) (n .next-found .ensures) (c .wide .ensures)
+    let found-next = c .before .before .before in
+    let turn = found-next .before .before in
+    flat-more (turn .before .loop .inv) (turn .loop-test .taken) (found-next .next-found .ensures) (c .wide .ensures)
 
 returns : tie.Need-returns Inv-loop μ-loop
 returns c = search flat-all

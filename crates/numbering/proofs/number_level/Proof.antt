@@ -17,14 +17,14 @@ abbrev μ-loop : tie.MeasureT-loop
 
 slip-span-requires : tie.Need-slip-span-requires Inv-loop μ-loop
 slip-span-requires c κs =
-    let l = c .before .before in
-    level-slip (l .before .loop .inv .1) (l .loop-test .taken) (c .at .result) (c .at .ensures)
+    let turn = c .before .before in
+    level-slip (turn .before .loop .inv .1) (turn .loop-test .taken) (c .at .result) (c .at .ensures)
 
 add-place : tie.Need-add-place Inv-loop μ-loop
 add-place c =
-    let f = c .before in
-    let l = f .before .before .before .before .loop .inv .1 in
-    omega (arith, level-start l (search needs) (f .before .at .result) (search needs) (f .slip-span .result) (search needs))
+    let spanned = c .before in
+    let head = spanned .before .before .before .before in
+    omega (arith, level-start (head .loop .inv .1) (search needs) (spanned .before .at .result) (search needs) (spanned .slip-span .result) (search needs))
 
 number-letter-requires : tie.Need-number-letter-requires Inv-loop μ-loop
 number-letter-requires c κs = search level-letterable

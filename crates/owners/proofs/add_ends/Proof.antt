@@ -35,10 +35,10 @@ sub-d-2 c = search (needs, falling-letter)
 
 loop-holds : tie.Need-loop-holds Inv-loop μ-loop
 loop-holds c =
-    let a = c .before .before in
-    let b = a .before .before in
-    falling-start (b .before .before .before .before .before .before .pre) (b .before .at .ensures) _ (b .slip-span .ensures) (a .at2 .ensures)
-    (c .at3 .ensures)
+    let whole-got = c .before .before in
+    let spanned = whole-got .before .before in
+    let start = spanned .before .before .before .before .before .before in
+    falling-start (start .pre) (spanned .before .at .ensures) _ (spanned .slip-span .ensures) (whole-got .at2 .ensures) (c .at3 .ensures)
 
 at-requires-4 : tie.Need-at-requires-4 Inv-loop μ-loop
 at-requires-4 c κs = search falling-level
@@ -48,25 +48,25 @@ sub-d-3 c = search falling-left
 
 loop-less : tie.Need-loop-less Inv-loop μ-loop
 loop-less c =
-    let l = c .before .before .before in
-    omega (arith, falling-left (l .before .loop .inv) (l .loop-test .taken))
+    let turn = c .before .before .before in
+    omega (arith, falling-left (turn .before .loop .inv) (turn .loop-test .taken))
 
 loop-again : tie.Need-loop-again Inv-loop μ-loop
 loop-again c =
-    let l = c .before .before .before in
-    falling-skip (l .before .loop .inv) (l .loop-test .taken) (c .before .at4 .ensures) _ (c .if1 .taken) refl
+    let turn = c .before .before .before in
+    falling-skip (turn .before .loop .inv) (turn .loop-test .taken) (c .before .at4 .ensures) _ (c .if1 .taken) refl
 
 sub-push : tie.Need-sub-push Inv-loop μ-loop
 sub-push c =
-    let a = c .before .before in
-    let l = a .before .before in
-    falling-deep (l .before .loop .inv) (l .loop-test .taken) (a .at4 .ensures) (c .before .if1 .left)
+    let level-got = c .before .before in
+    let turn = level-got .before .before in
+    falling-deep (turn .before .loop .inv) (turn .loop-test .taken) (level-got .at4 .ensures) (c .before .if1 .left)
 
 push-requires : tie.Need-push-requires Inv-loop μ-loop
 push-requires c κs =
-    let a = c .before .before in
-    let l = a .before .before in
-    falling-can (l .before .loop .inv) (l .loop-test .taken) (a .at4 .ensures) (c .before .if1 .left)
+    let level-got = c .before .before in
+    let turn = level-got .before .before in
+    falling-can (turn .before .loop .inv) (turn .loop-test .taken) (level-got .at4 .ensures) (c .before .if1 .left)
 
 at-requires-5 : tie.Need-at-requires-5 Inv-loop μ-loop
 at-requires-5 c κs = search falling-next
@@ -76,8 +76,8 @@ sub-d-4 c = search falling-left
 
 loop-less-2 : tie.Need-loop-less-2 Inv-loop μ-loop
 loop-less-2 c =
-    let l = c .before .before .before .before .before .before .before .before .before in
-    omega (arith, falling-left (l .before .loop .inv) (l .loop-test .taken))
+    let turn = c .before .before .before .before .before .before .before .before .before in
+    omega (arith, falling-left (turn .before .loop .inv) (turn .loop-test .taken))
 
 loop-again-2 : tie.Need-loop-again-2 Inv-loop μ-loop
 loop-again-2 c = search falling-more

@@ -25,8 +25,8 @@ at-requires c κs = search heading-place
 
 node-of-requires : tie.Need-node-of-requires Inv-loop μ-loop
 node-of-requires c κs =
-    let l = c .before .before .before in
-    heading-among (l .before .loop .inv .0) (l .loop-test .taken) (c .before .at .ensures)
+    let turn = c .before .before .before in
+    heading-among (turn .before .loop .inv .0) (turn .loop-test .taken) (c .before .at .ensures)
 
 push-requires : tie.Need-push-requires Inv-loop μ-loop
 push-requires c κs = search heading-can

@@ -23,9 +23,11 @@ is-aside-requires c κs = search sifting-judged
 
 loop-again : tie.Need-loop-again Inv-loop μ-loop
 loop-again c =
-    let a = c .before .before .before in
-    let l = a .before .before in
-    (sifting-aside (l .before .loop .inv .0) (l .loop-test .taken) (a .at .ensures) _ (c .before .is-aside .ensures) (c .if1 .taken) refl, search needs)
+    let got = c .before .before .before in
+    let turn = got .before .before in (
+      sifting-aside (turn .before .loop .inv .0) (turn .loop-test .taken) (got .at .ensures) _ (c .before .is-aside .ensures) (c .if1 .taken) refl,
+      search needs,
+    )
 
 put-requires : tie.Need-put-requires Inv-loop μ-loop
 put-requires c κs = search sifting-can

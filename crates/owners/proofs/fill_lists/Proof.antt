@@ -5,12 +5,13 @@ use Rattle.owners.proofs.fill_lists.Tie as tie
 
 returns : tie.Need-returns
 returns c =
-    let e = c .before .before in
-    let s = e .before .before .before .before in
-    let k = s .before .before .before .before in
-    let m = k .before .before .before .before in
-    listed (m .before .before .before .before .fill-heads .ensures) (m .fill-marks .ensures) (k .fill-kept .ensures) (s .fill-starts .ensures)
-    (e .fill-ends .ensures)
+    let ends-filled = c .before .before in
+    let starts-filled = ends-filled .before .before .before .before in
+    let kept-filled = starts-filled .before .before .before .before in
+    let marks-filled = kept-filled .before .before .before .before in
+    let heads-filled = marks-filled .before .before .before .before in
+    listed (heads-filled .fill-heads .ensures) (marks-filled .fill-marks .ensures) (kept-filled .fill-kept .ensures)
+    (starts-filled .fill-starts .ensures) (ends-filled .fill-ends .ensures)
 
 pub fill-lists-spec : {M : Type 1} → statement M
 fill-lists-spec = tie.close (tie.spec (λ c κs. search needs) (λ c κs. search needs) (λ c κs. search needs) (λ c κs. search needs)

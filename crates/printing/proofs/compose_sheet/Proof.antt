@@ -3,36 +3,53 @@ use borrow.Author.Needs.{needs}
 use Rattle.printing.proofs.compose_sheet.Statement.{statement}
 use Rattle.printing.proofs.compose_sheet.Tie as tie
 
+-- where the function starts, from behind its first call
+abbrev start : tie.After-read-tray → tie.Start
+start read = read .before .before .before .before .before .before .before .before .before
+
 refused-line-requires : tie.Need-refused-line-requires
 refused-line-requires c κs =
-    compose-can _ _ _ _ _ _
-    (c .before .before .before .before .before .before .before .before .before .before .before .before .before .before .before .before .pre) _ _ _
-    (c .before .before .before .before .before .before .before .read-tray .ensures) (c .before .if1 .taken)
+    let refused = c .before in
+    let read = refused .before .before .before .before .before .before in
+    compose-can _ _ _ _ _ _ (start read .pre) _ _ _ (read .read-tray .ensures) (refused .if1 .taken)
 
 returns : tie.Need-returns
-returns c = compose-refused _ _ _ _ _ _
-    (c .before .before .before .before .before .before .before .before .before .before .before .before .before .before .before .before .before .before .before .pre) _ _ _ (c .before .before .before .before .before .before .before .before .before .before .read-tray .ensures) (c .before .before .before .before .if1 .taken) _ _ (c .before .before .refused-line .ensures)
+returns c =
+    let printed = c .before .before in
+    let refused = printed .before .before in
+    let read = refused .before .before .before .before .before .before in
+    compose-refused _ _ _ _ _ _ (start read .pre) _ _ _ (read .read-tray .ensures) (refused .if1 .taken) _ _ (printed .refused-line .ensures)
 
 slice-reshare-prefix-tray-sheet : tie.Need-slice-reshare-prefix-tray-sheet
 slice-reshare-prefix-tray-sheet c =
-    letters-within _ _ _
-    (c .before .before .before .before .before .before .before .before .before .before .before .before .before .before .before .before .before .pre .file) _ _ _ (c .before .before .before .before .before .before .before .before .read-tray .ensures) (c .before .before .if1 .left)
+    let accepted = c .before .before in
+    let read = accepted .before .before .before .before .before .before in
+    letters-within _ _ _ (start read .pre .file) _ _ _ (read .read-tray .ensures) (accepted .if1 .left)
 
 slice-aggregate-tray-sheet : tie.Need-slice-aggregate-tray-sheet
 slice-aggregate-tray-sheet c =
-    letters-count _ _ _ (c .before .before .before .before .before .before .before .before .before .before .before .before .before .before .before .before .before .before .pre .file) _ _ _ (c .before .before .before .before .before .before .before .before .before .read-tray .ensures) (c .before .before .before .if1 .left)
+    let accepted = c .before .before .before in
+    let read = accepted .before .before .before .before .before .before in
+    letters-count _ _ _ (start read .pre .file) _ _ _ (read .read-tray .ensures) (accepted .if1 .left)
 
 slice-reshare-prefix-tray-sheet-2 : tie.Need-slice-reshare-prefix-tray-sheet-2
 slice-reshare-prefix-tray-sheet-2 c =
-    ends-within _ _ _ (c .before .before .before .before .before .before .before .before .before .before .before .before .before .before .before .before .before .before .pre .file) _ _ _ (c .before .before .before .before .before .before .before .before .before .read-tray .ensures) (c .before .before .before .if1 .left)
+    let accepted = c .before .before .before in
+    let read = accepted .before .before .before .before .before .before in
+    ends-within _ _ _ (start read .pre .file) _ _ _ (read .read-tray .ensures) (accepted .if1 .left)
 
 slice-aggregate-tray-sheet-2 : tie.Need-slice-aggregate-tray-sheet-2
 slice-aggregate-tray-sheet-2 c =
-    ends-count _ _ _ (c .before .before .before .before .before .before .before .before .before .before .before .before .before .before .before .before .before .before .before .pre .file) _ _ _ (c .before .before .before .before .before .before .before .before .before .before .read-tray .ensures) (c .before .before .before .before .if1 .left)
+    let accepted = c .before .before .before .before in
+    let read = accepted .before .before .before .before .before .before in
+    ends-count _ _ _ (start read .pre .file) _ _ _ (read .read-tray .ensures) (accepted .if1 .left)
 
 returns-2 : tie.Need-returns-2
-returns-2 c = compose-printed _ _ _ _ _ _
-    (c .before .before .before .before .before .before .before .before .before .before .before .before .before .before .before .before .before .before .before .before .before .before .before .before .before .before .before .before .before .pre) _ _ _ (c .before .before .before .before .before .before .before .before .before .before .before .before .before .before .before .before .before .before .before .before .read-tray .ensures) (c .before .before .before .before .before .before .before .before .before .before .before .before .before .before .if1 .left) _ _ (c .before .before .before .before .before .before .tray-sheet .ensures)
+returns-2 c =
+    let printed = c .before .before .before .before .before .before in
+    let accepted = printed .before .before .before .before .before .before .before .before in
+    let read = accepted .before .before .before .before .before .before in
+    compose-printed _ _ _ _ _ _ (start read .pre) _ _ _ (read .read-tray .ensures) (accepted .if1 .left) _ _ (printed .tray-sheet .ensures)
 
 pub compose-sheet-spec : {M : Type 1} → statement M
 compose-sheet-spec = tie.close (tie.spec (λ c κs. search needs) refused-line-requires (λ c. search needs) (λ c. search needs)

@@ -3,35 +3,47 @@ use borrow.Author.Needs.{needs}
 use Rattle.printing.proofs.text_sheet.Statement.{statement}
 use Rattle.printing.proofs.text_sheet.Tie as tie
 
+-- where the function starts, from behind its first call
+abbrev start : tie.After-find-flat → tie.Start
+start searched = searched .before .before .before .before .before .before .before .before .before
+
 refused-line-requires : tie.Need-refused-line-requires
 refused-line-requires c κs =
-    refused-can _ _ _ _ _ _
-    (c .before .before .before .before .before .before .before .before .before .before .before .before .before .before .before .before .pre) _ _ _
-    (c .before .before .before .before .before .before .before .find-flat .ensures) (c .before .if1 .taken)
+    let refused = c .before in
+    let searched = refused .before .before .before .before .before .before in
+    refused-can _ _ _ _ _ _ (start searched .pre) _ _ _ (searched .find-flat .ensures) (refused .if1 .taken)
 
 returns : tie.Need-returns
-returns c = text-refused _ _ _ _ _ _
-    (c .before .before .before .before .before .before .before .before .before .before .before .before .before .before .before .before .before .before .before .pre) _ _ _ (c .before .before .before .before .before .before .before .before .before .before .find-flat .ensures) (c .before .before .before .before .if1 .taken) _ _ (c .before .before .refused-line .ensures)
+returns c =
+    let printed = c .before .before in
+    let refused = printed .before .before in
+    let searched = refused .before .before .before .before .before .before in
+    text-refused _ _ _ _ _ _ (start searched .pre) _ _ _ (searched .find-flat .ensures) (refused .if1 .taken) _ _ (printed .refused-line .ensures)
 
 slice-reshare-prefix-find-lines : tie.Need-slice-reshare-prefix-find-lines
 slice-reshare-prefix-find-lines c =
-    found-within _ _ _ _ _ _
-    (c .before .before .before .before .before .before .before .before .before .before .before .before .before .before .before .before .before .pre)
-    _ _ _ (c .before .before .before .before .before .before .before .before .find-flat .ensures) (c .before .before .if1 .left)
+    let accepted = c .before .before in
+    let searched = accepted .before .before .before .before .before .before in
+    found-within _ _ _ _ _ _ (start searched .pre) _ _ _ (searched .find-flat .ensures) (accepted .if1 .left)
 
 slice-aggregate-find-lines : tie.Need-slice-aggregate-find-lines
 slice-aggregate-find-lines c =
-    found-count _ _ _ _ _ _
-    (c .before .before .before .before .before .before .before .before .before .before .before .before .before .before .before .before .before .before .pre) _ _ _ (c .before .before .before .before .before .before .before .before .before .find-flat .ensures) (c .before .before .before .if1 .left)
+    let accepted = c .before .before .before in
+    let searched = accepted .before .before .before .before .before .before in
+    found-count _ _ _ _ _ _ (start searched .pre) _ _ _ (searched .find-flat .ensures) (accepted .if1 .left)
 
 find-lines-requires : tie.Need-find-lines-requires
 find-lines-requires c κs =
-    lines-can _ _ _ _ _ _
-    (c .before .before .before .before .before .before .before .before .before .before .before .before .before .before .before .before .before .before .before .pre) _ _ _ (c .before .before .before .before .before .before .before .before .before .before .find-flat .ensures) (c .before .before .before .before .if1 .left)
+    let accepted = c .before .before .before .before in
+    let searched = accepted .before .before .before .before .before .before in
+    lines-can _ _ _ _ _ _ (start searched .pre) _ _ _ (searched .find-flat .ensures) (accepted .if1 .left)
 
 returns-2 : tie.Need-returns-2
-returns-2 c = text-printed _ _ _ _ _ _
-    (c .before .before .before .before .before .before .before .before .before .before .before .before .before .before .before .before .before .before .before .before .before .before .pre) _ _ _ (c .before .before .before .before .before .before .before .before .before .before .before .before .before .find-flat .ensures) (c .before .before .before .before .before .before .before .if1 .left) _ _ (c .before .before .find-lines .ensures)
+returns-2 c =
+    let printed = c .before .before in
+    let accepted = printed .before .before .before .before .before in
+    let searched = accepted .before .before .before .before .before .before in
+    text-printed _ _ _ _ _ _ (start searched .pre) _ _ _ (searched .find-flat .ensures) (accepted .if1 .left) _ _ (printed .find-lines .ensures)
 
 pub text-sheet-spec : {M : Type 1} → statement M
 text-sheet-spec = tie.close (tie.spec (λ c κs. search needs) refused-line-requires (λ c. search needs) (λ c. search needs)

@@ -23,14 +23,16 @@ three-line-requires c κs = (search needs, search join-left, search join-right, 
 
 loop-again : tie.Need-loop-again Inv-loop μ-loop
 loop-again c =
-    let t = c .before .before in
-    let s = t .before .before in
-    let b = s .before .before .before .before in
-    let l = b .loop in
-    let a = b .before .before .before .args in (
+    let printed = c .before .before in
+    let shared-read = printed .before .before in
+    let right-read = shared-read .before in
+    let left-read = right-read .before in
+    let head = left-read .before .before in
+    let l = head .loop in
+    let start = head .before .before .before in (
       search needs,
-      join-turn (a .joins .now) (l .i) _ _ _ _ _ _ _ _ _ (s .before .before .small .ensures) (s .before .small2 .ensures)
-          (s .small3 .ensures) (l .inv .1) (t .three-line .ensures),
+      join-turn (start .args .joins .now) (l .i) _ _ _ _ _ _ _ _ _ (left-read .small .ensures) (right-read .small2 .ensures) (shared-read .small3 .ensures)
+          (l .inv .1) (printed .three-line .ensures),
     )
 
 returns : tie.Need-returns Inv-loop μ-loop

@@ -31,16 +31,18 @@ slip-line-requires c κs = (search needs, search slip-small, search slip-placed,
 
 loop-again : tie.Need-loop-again Inv-loop μ-loop
 loop-again c =
-    let t = c .before .before in
-    let s = t .before .before in
-    let b = s .before .before .before .before in
-    let l = b .loop in
-    let a = b .before .before .before .before .args in
-    let end = s .before .before .small .ensures in (
+    let printed = c .before .before in
+    let mark-read = printed .before .before in
+    let place-read = mark-read .before in
+    let end-read = place-read .before in
+    let head = end-read .before .before in
+    let l = head .loop in
+    let start = head .before .before .before .before in
+    let end = end-read .small .ensures in (
       search needs,
       here-turn _ (l .i) _ end,
-      slip-turn (a .ends .now) (a .places .now) (l .i) _ _ _ _ _ _ _ _ _ _ (l .inv .1) end
-          (s .before .small2 .ensures) (s .small3 .ensures) (l .inv .2) (t .slip-line .ensures),
+      slip-turn (start .args .ends .now) (start .args .places .now) (l .i) _ _ _ _ _ _ _ _ _ _ (l .inv .1) end
+          (place-read .small2 .ensures) (mark-read .small3 .ensures) (l .inv .2) (printed .slip-line .ensures),
     )
 
 returns : tie.Need-returns Inv-loop μ-loop

@@ -10,7 +10,10 @@ slip-part-requires : tie.Need-slip-part-requires
 slip-part-requires c κs = let t = pair-tells _ _ _ _ _ (c .before .before .check-pair .ensures) (c .if1 .left) in (t .0, t .1, t .2)
 
 slip-part-requires-2 : tie.Need-slip-part-requires-2
-slip-part-requires-2 c κs = let t = pair-tells _ _ _ _ _ (c .before .before .before .check-pair .ensures) (c .before .if1 .left) in (t .0, t .3, t .4)
+slip-part-requires-2 c κs =
+    let good = c .before in
+    let t = pair-tells _ _ _ _ _ (good .before .before .check-pair .ensures) (good .if1 .left) in
+    (t .0, t .3, t .4)
 
 cast-t10 : tie.Need-cast-t10
 cast-t10 c = record { fits = search pair-small }

@@ -18,9 +18,14 @@ returns : tie.Need-returns Inv-loop μ-loop
 returns c = search holding-here
 
 loop-again : tie.Need-loop-again Inv-loop μ-loop
-loop-again c = let l =
-    c .before .before .before .before .loop in
-    (search needs, search needs, holding-next _ _ (l .i) (l .slip) (c .before .wide .result) (search needs) (search needs) (l .inv .2) (search needs))
+loop-again c =
+    let got = c .before in
+    let head = got .before .before .before in
+    let l = head .loop in (
+      search needs,
+      search needs,
+      holding-next _ _ (l .i) (l .slip) (got .wide .result) (search needs) (search needs) (l .inv .2) (search needs),
+    )
 
 returns-2 : tie.Need-returns-2 Inv-loop μ-loop
 returns-2 c = search holding-none

@@ -28,8 +28,10 @@ loop-less : tie.Need-loop-less Inv-loop μ-loop
 loop-less c = search free-less
 
 loop-again : tie.Need-loop-again Inv-loop μ-loop
-loop-again c = free-turn (c .before .before .before .before .loop .inv) (search needs) (c .before .before .mark-of .ensures) (search needs)
-    (c .next-ender .ensures)
+loop-again c =
+    let marked = c .before .before in
+    let head = marked .before .before in
+    free-turn (head .loop .inv) (search needs) (marked .mark-of .ensures) (search needs) (c .next-ender .ensures)
 
 returns-2 : tie.Need-returns-2 Inv-loop μ-loop
 returns-2 c = search free-none

@@ -5,7 +5,9 @@ use Rattle.walking.proofs.next_starter.Statement.{statement}
 use Rattle.walking.proofs.next_starter.Tie as tie
 
 add-at : tie.Need-add-at
-add-at c = record { fits = omega (arith, starter-fits (c .before .before .before .pre .0) (c .before .before .before .pre .1) (c .slip-span .ensures)) }
+add-at c =
+    let start = c .before .before .before in
+    record { fits = omega (arith, starter-fits (start .pre .0) (start .pre .1) (c .slip-span .ensures)) }
 
 at-requires : tie.Need-at-requires
 at-requires c κs = search starter-within

@@ -3,9 +3,14 @@ use borrow.Author.Needs.{needs}
 use Rattle.walking.proofs.offer.Statement.{statement}
 use Rattle.walking.proofs.offer.Tie as tie
 
+-- where the function starts, from behind its first call
+abbrev start : tie.After-mark-of → tie.Start
+start marked = marked .before .before .before .before .before .before .before .before .before
+
 returns : tie.Need-returns
-returns c = let a = c .before in offer-refused (a .before .before .before .before .before .before .before .before .before .pre)
-    (a .mark-of .ensures) (c .if1 .taken)
+returns c =
+    let marked = c .before in
+    offer-refused (start marked .pre) (marked .mark-of .ensures) (c .if1 .taken)
 
 partner-requires : tie.Need-partner-requires
 partner-requires c κs = search offer-chooses
@@ -15,20 +20,22 @@ returns-2 c = search offer-nobody
 
 make-join-requires : tie.Need-make-join-requires
 make-join-requires c κs =
-    let q = c .before .before .before .before .before .before in
-    let p = q .before .before .before .before in
-    let a = p .before .before .before in
-    offer-joinable (a .before .before .before .before .before .before .before .before .before .pre) (a .mark-of .ensures)
-    (p .before .before .if1 .left) (p .mark-of2 .ensures) (q .before .partner .ensures) (q .if2 .left)
+    let chosen = c .before .before .before .before .before .before in
+    let ended = chosen .before .before .before .before in
+    let free = ended .before .before in
+    let marked = free .before in
+    offer-joinable (start marked .pre) (marked .mark-of .ensures) (free .if1 .left) (ended .mark-of2 .ensures) (chosen .before .partner .ensures)
+    (chosen .if2 .left)
 
 returns-3 : tie.Need-returns-3
 returns-3 c =
-    let m = c .before .before .before .before .before .before .before .before .before .before .before .before in
-    let q = m .before .before .before .before .before .before .before in
-    let p = q .before .before .before .before in
-    let a = p .before .before .before in
-    offer-joins (a .before .before .before .before .before .before .before .before .before .pre) (a .mark-of .ensures)
-    (p .before .before .if1 .left) (p .mark-of2 .ensures) (q .before .partner .ensures) (q .if2 .left) (m .make-join .ensures)
+    let joined = c .before .before .before .before .before .before .before .before .before .before .before .before in
+    let chosen = joined .before .before .before .before .before .before .before in
+    let ended = chosen .before .before .before .before in
+    let free = ended .before .before in
+    let marked = free .before in
+    offer-joins (start marked .pre) (marked .mark-of .ensures) (free .if1 .left) (ended .mark-of2 .ensures) (chosen .before .partner .ensures)
+    (chosen .if2 .left) (joined .make-join .ensures)
 
 pub offer-spec : {M : Type 1} → statement M
 offer-spec = tie.close (tie.spec (λ c κs. search needs) (λ c. search needs) returns (λ c κs. search needs) partner-requires

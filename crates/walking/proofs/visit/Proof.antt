@@ -23,16 +23,18 @@ next-free-requires c κs = search visit-searches
 
 offer-requires : tie.Need-offer-requires Inv-loop μ-loop
 offer-requires c κs =
-    let b = c .before .before .before .before .before .before in
-    visit-offers (b .before .before .before .before .loop .inv) (b .before .before .before .loop-test .taken) (b .next-free .ensures)
+    let found = c .before .before .before .before .before .before in
+    let turn = found .before .before .before in
+    visit-offers (turn .before .loop .inv) (turn .loop-test .taken) (found .next-free .ensures)
 
 next-starter-requires : tie.Need-next-starter-requires Inv-loop μ-loop
 next-starter-requires c κs =
-    let o = c .before .before .before .before .before .before .before .before .before .before .before .before .before in
-    let b = o .before .before .before .before .before .before .before in
-    let a = b .before .before .before in (
-      visit-next (a .before .loop .inv) (a .loop-test .taken) (b .next-free .ensures) (o .offer .ensures),
-      visit-real (a .before .loop .inv) (a .loop-test .taken),
+    let offered = c .before .before .before .before .before .before .before .before .before .before .before .before .before in
+    let found = offered .before .before .before .before .before .before .before in
+    let turn = found .before .before .before in
+    let head = turn .before in (
+      visit-next (head .loop .inv) (turn .loop-test .taken) (found .next-free .ensures) (offered .offer .ensures),
+      visit-real (head .loop .inv) (turn .loop-test .taken),
     )
 
 loop-less : tie.Need-loop-less Inv-loop μ-loop

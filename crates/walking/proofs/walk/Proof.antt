@@ -17,7 +17,9 @@ loop-holds : tie.Need-loop-holds Inv-loop μ-loop
 loop-holds c = search walk-start
 
 walk-row-requires : tie.Need-walk-row-requires Inv-loop μ-loop
-walk-row-requires c κs = let a = c .before .before .before .before .before .before in walk-asks (a .before .loop .inv) (a .loop-test .taken)
+walk-row-requires c κs =
+    let turn = c .before .before .before .before .before .before in
+    walk-asks (turn .before .loop .inv) (turn .loop-test .taken)
 
 loop-again : tie.Need-loop-again Inv-loop μ-loop
 loop-again c = search walk-turn
