@@ -1,21 +1,20 @@
 -- Building step by step: members, their order, common lengths, numbers, links.
-use mathlib.Core.Path.{_≡_, refl, sym, _∙_, ap, subst}
+use mathlib.Core.Path.{_≡_, _∙_}
 use mathlib.Core.List.{List}
-use Prim.Native.Nat.{ℕ, _+_, _≤_, _<_}
+use Prim.Native.Nat.{ℕ, _+_, _≤_}
 use native.Mathlib.Omega.{arith}
 use lib.ListN.{length}
 use Rattle.words.specs.Lists.{upFrom, inOrder}
-use Rattle.words.proofs.Members.{In, Asc, in-upFrom, asc-upFrom}
-use Rattle.tables.specs.Tables.{table, Only, Cells, Filled}
-use Rattle.tables.proofs.Tables.{cells-below, cells-above}
-use Rattle.trays.specs.Limits.{maxSlips, workNeed}
+use Rattle.words.proofs.Members.{in-upFrom, asc-upFrom}
+use Rattle.tables.specs.Tables.{table, Filled}
+use Rattle.tables.proofs.Tables.{cells-below}
+use Rattle.trays.specs.Limits.{maxSlips}
 use Rattle.trays.specs.Slips.{slipsOf, numbers}
-use Rattle.trays.specs.Faults.{trayFault}
 use Rattle.trays.proofs.Accepted.{accepted-tells, slips-count}
 use Rattle.order.specs.Order.{precedes, commons, Members, Sortable}
 use Rattle.order.proofs.AllMembers.{all-sortable}
 use Rattle.order.proofs.Precedes.{order-members}
-use Rattle.layout.specs.Layout.{MEMBERS, ORDER, COMMON, KID, LEVEL}
+use Rattle.layout.specs.Layout.{MEMBERS, ORDER, COMMON}
 use Rattle.layout.specs.Tables.{members}
 use Rattle.numbering.specs.Numbering.{Sorted, NodesFilled}
 use Rattle.links.specs.Links.{LinksFilled}
@@ -88,7 +87,8 @@ module _ (s es w : List ℕ) (a : Buildable s es w) where
               }
 
 -- numbers and links
-module _ (s es w w₁ : List ℕ) (a : SortedAll s es w w₁) (count : ℕ) (w₂ : List ℕ) (f : NodesFilled s es (length es) w₁ count w₂) (w₃ : List ℕ) (g : LinksFilled s es (length es) count w₂ w₃) where
+module _ (s es w w₁ : List ℕ) (a : SortedAll s es w w₁) (count : ℕ) (w₂ : List ℕ) (f : NodesFilled s es (length es) w₁ count w₂) (w₃ : List ℕ)
+    (g : LinksFilled s es (length es) count w₂ w₃) where
   pub built-same : length w₃ ≡ length w
   built-same = g .only .same ∙ f .only .same ∙ a .same
 

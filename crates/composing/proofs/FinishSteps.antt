@@ -35,7 +35,10 @@ module _ (s es w : List ℕ) (tray : trayFault s es .number ≡ 0) (room : workN
       (orElse (row 9 (ltb j (length (plainJoins ss)) || ltb p (length ss)) (length (plainJoins ss))) accepted)
   unfolding composeFault trayFault
   outcome-rows =
-      rows-append (trayRows s es) (workRow (length w) ∷ (row 8 (ltb l (length (legendOf ss))) (length (legendOf ss)) ∷ (row 9 (ltb j (length (plainJoins ss)) || ltb p (length ss)) (length (plainJoins ss)) ∷ [])))
+      rows-append (trayRows s es)
+      (workRow (length w) ∷
+      (row 8 (ltb l (length (legendOf ss))) (length (legendOf ss))
+      ∷ (row 9 (ltb j (length (plainJoins ss)) || ltb p (length ss)) (length (plainJoins ss)) ∷ [])))
       ∙ or-zero (firstRow (trayRows s es)) _ tray
       ∙ rw (le-ltb (length w) workNeed room)
 
@@ -50,7 +53,8 @@ module _ (s es w : List ℕ) (tray : trayFault s es .number ≡ 0) (room : workN
     nothing-short u v = outcome-rows ∙ rw (le-ltb l (length (legendOf ss)) h, le-ltb j (length (plainJoins ss)) u, le-ltb p (length ss) v)
 
 -- the two cases of the answer
-answer-refused : (s es : List ℕ) (w l j p : ℕ) (f : Refusal) (n d : ℕ) → f ≡ refusal (suc n) d → composeFault s es w l j p ≡ f → composedOf s es w l j p ≡ refusedBy f
+answer-refused : (s es : List ℕ) (w l j p : ℕ) (f : Refusal) (n d : ℕ) → f ≡ refusal (suc n) d → composeFault s es w l j p ≡ f →
+    composedOf s es w l j p ≡ refusedBy f
 unfolding composedOf
 answer-refused s es w l j p f n d e h =
     ap {B = Composed} (λ (g : Refusal). elim (g .number) [ zero ↦ outcomeOf (slipsOf s es) | suc m ↦ refusedBy g ]) (h ∙ e) ∙ ap refusedBy (sym e)
@@ -61,7 +65,8 @@ answer-composed s es w l j p h =
     ap {B = Composed} (λ (g : Refusal). elim (g .number) [ zero ↦ outcomeOf (slipsOf s es) | suc m ↦ refusedBy g ]) h
 
 -- a refusal in place C leaves every buffer as it was
-pub turned-back : (s es w l : List ℕ) (j p : ℕ) (f : Refusal) (n d : ℕ) (r : Composed) → f ≡ refusal (suc n) d → composeFault s es (length w) (length l) j p ≡ f → r ≡ refusedBy f → Finished s es w w l l j p r
+pub turned-back : (s es w l : List ℕ) (j p : ℕ) (f : Refusal) (n d : ℕ) (r : Composed) → f ≡ refusal (suc n) d →
+    composeFault s es (length w) (length l) j p ≡ f → r ≡ refusedBy f → Finished s es w w l l j p r
 turned-back s es w l j p f n d r e h q =
     record {
       answer-is = q ∙ sym (answer-refused s es (length w) (length l) j p f n d e h);
@@ -79,7 +84,8 @@ flat-more : (js : List Join) (j : Join) → flatJoins (js ++ (j ∷ [])) ≡ fla
 flat-more [] j = refl
 flat-more (k ∷ js) j = ap (λ (l : List ℕ). k .left ∷ (k .right ∷ (k .overlap ∷ l))) (flat-more js j)
 
-table-three : (w : List ℕ) (base n : ℕ) → base + (3 * suc n) ≤ length w → table w base (3 * suc n) ≡ table w base (3 * n) ++ (getD w (base + 3 * n) 0 ∷ (getD w (base + (3 * n + 1)) 0 ∷ (getD w (base + (3 * n + 2)) 0 ∷ [])))
+table-three : (w : List ℕ) (base n : ℕ) → base + (3 * suc n) ≤ length w →
+    table w base (3 * suc n) ≡ table w base (3 * n) ++ (getD w (base + 3 * n) 0 ∷ (getD w (base + (3 * n + 1)) 0 ∷ (getD w (base + (3 * n + 2)) 0 ∷ [])))
 table-three w base n h =
     let a = table-more w base (3 * n + 2) (3 * suc n) (omega arith) (omega arith) in
     let b = table-more w base (3 * n + 1) (3 * n + 2) (omega arith) (omega arith) in
@@ -93,5 +99,6 @@ module _ (w : List ℕ) (room : workNeed ≤ length w) where
   flat-table (suc n) h =
       let e : 0 + n ≡ n = omega arith in
       table-three w JOINS n (omega arith)
-      ∙ ap (λ (l : List ℕ). l ++ (getD w (JOINS + 3 * n) 0 ∷ (getD w (JOINS + (3 * n + 1)) 0 ∷ (getD w (JOINS + (3 * n + 2)) 0 ∷ [])))) (flat-table n (omega arith))
+      ∙ ap (λ (l : List ℕ). l ++ (getD w (JOINS + 3 * n) 0 ∷ (getD w (JOINS + (3 * n + 1)) 0 ∷ (getD w (JOINS + (3 * n + 2)) 0 ∷ []))))
+      (flat-table n (omega arith))
       ∙ sym (ap flatJoins (joins-more w 0 n) ∙ flat-more (joinsIn w n) (joinIn w (0 + n)) ∙ rw e)

@@ -39,7 +39,8 @@ module _ (a b : ℕ → ℕ) where
       let r = twos-at (suc m) n k (omega arith) in
       (rw (e, ← g) (r .0), rw (f, ← g) (r .1))
 
-pub flat-at : (ss : List (List ℕ)) (k : ℕ) → k < length ss → (getD (flatPlaces ss) (2 * k) 0 ≡ placeOf ss (suc k)) × (getD (flatPlaces ss) (2 * k + 1) 0 ≡ cond (isAside ss (numbers ss) (suc k)) 0 1)
+pub flat-at : (ss : List (List ℕ)) (k : ℕ) → k < length ss →
+    (getD (flatPlaces ss) (2 * k) 0 ≡ placeOf ss (suc k)) × (getD (flatPlaces ss) (2 * k + 1) 0 ≡ cond (isAside ss (numbers ss) (suc k)) 0 1)
 flat-at ss k h =
     let r = twos-at (placeOf ss) (λ i. cond (isAside ss (numbers ss) i) 0 1) 1 (length ss) k h in
     rw (← (one-add k)) r
@@ -58,7 +59,8 @@ module _ (ss : List (List ℕ)) (xs : List ℕ) (room : 2 * length ss ≤ length
   abbrev after : List ℕ
   after = asideBy ss (legendOf ss) (placedBy ss xs 1 ps) (length ss)
 
-  module _ (once : Once ps) (which : (k : ℕ) → k < length ss → laid (suc k) ps ≡ not (isAside ss (numbers ss) (suc k))) (longer : length (placedBy ss xs 1 ps) ≡ length xs) where
+  module _ (once : Once ps) (which : (k : ℕ) → k < length ss → laid (suc k) ps ≡ not (isAside ss (numbers ss) (suc k)))
+      (longer : length (placedBy ss xs 1 ps) ≡ length xs) where
     cells : (k : ℕ) → k < length ss → (getD after (2 * k) 0 ≡ placeOf ss (suc k)) × (getD after (2 * k + 1) 0 ≡ cond (isAside ss (numbers ss) (suc k)) 0 1)
     cells k h =
         by-test (isAside ss (numbers ss) (suc k))
@@ -79,7 +81,8 @@ module _ (ss : List (List ℕ)) (xs : List ℕ) (room : 2 * length ss ≤ length
     pub places-flat : 2 * length ss ≤ length after → take (2 * length ss) after ≡ flatPlaces ss
     places-flat l =
         let size : length (take (2 * length ss) after) ≡ 2 * length ss = length-take-le (2 * length ss) after l in
-        ext-getD 0 (take (2 * length ss) after) (flatPlaces ss) (size ∙ sym (twos-length (placeOf ss) (λ i. cond (isAside ss (numbers ss) i) 0 1) 1 (length ss)))
+        ext-getD 0 (take (2 * length ss) after) (flatPlaces ss)
+        (size ∙ sym (twos-length (placeOf ss) (λ i. cond (isAside ss (numbers ss) i) 0 1) 1 (length ss)))
         (λ j h.
         elim (half j (length ss) (omega arith)) [
           | inl r ↦

@@ -68,7 +68,8 @@ module _ (s es w : List ℕ) (k j : ℕ) (left right overs : List ℕ) (a : Join
   small : (i : ℕ) → rightOf i (joinsIn w j) ≤ maxSlips
   small i =
       rw (walked .joins-are)
-      (right-most maxSlips i (plainJoins ss) (all-map (λ e h. omega (arith, few-ends, kept-real s es (walked .tray) (e .right) (h .1) .1)) (plainJoins ss) (plain-in counted ss K)))
+      (right-most maxSlips i (plainJoins ss)
+      (all-map (λ e h. omega (arith, few-ends, kept-real s es (walked .tray) (e .right) (h .1) .1)) (plainJoins ss) (plain-in counted ss K)))
 
   here-pieces : piecesHere w k j left right overs ≡ piecesFor counted ss (numbers ss)
   here-pieces =
@@ -89,7 +90,8 @@ module _ (s es w : List ℕ) (k j : ℕ) (left right overs : List ℕ) (a : Join
         asks =
             record {
               enough = omega (arith, table-length w KEPT maxSlips (omega (arith, walked .room)), walked .few-kept);
-              real = λ i h. let q = r .real i h in let e = ap (λ (l : List ℕ). getD l i 0) (kept-part s es w k j walked) in (omega (arith, q .0), omega (arith, q .1, few-ends));
+              real = λ i h. let q = r .real i h in let e =
+                  ap (λ (l : List ℕ). getD l i 0) (kept-part s es w k j walked) in (omega (arith, q .0), omega (arith, q .1, few-ends));
               lefts = n .lefts;
               rights = n .rights;
               over-all = n .over-all;
@@ -142,15 +144,23 @@ module _ (s es w : List ℕ) (k j : ℕ) (left right overs : List ℕ) (a : Join
               tray = walked .tray;
               need-is = h .need-is;
               space = q;
-              pieces = record { size = p .size; count-is = count-kept; are = subst (λ (n : ℕ). staged xs 0 n ≡ piecesFor counted ss (numbers ss)) (pieces-count s es (walked .tray) ∙ sym count-kept) (rw here-pieces at (p .are)) };
+              pieces = record {
+                size = p .size;
+                count-is = count-kept;
+                are = subst (λ (n : ℕ). staged xs 0 n ≡ piecesFor counted ss (numbers ss))
+                    (pieces-count s es (walked .tray) ∙ sym count-kept) (rw here-pieces at (p .are));
+              };
             }
 
-        pub last-good : (w′ l′ : List ℕ) (r : Composed) → j ≤ jr → length es ≤ pr → Written s es w w′ l l′ → r ≡ outcomeBy (length es) k c j → Finished s es w w′ l l′ jr pr r
+        pub last-good : (w′ l′ : List ℕ) (r : Composed) → j ≤ jr → length es ≤ pr → Written s es w w′ l l′ → r ≡ outcomeBy (length es) k c j →
+            Finished s es w w′ l l′ jr pr r
         last-good w′ l′ r u v d o =
-            let f = nothing-short s es w (walked .tray) (walked .room) (length l) jr pr (omega (arith, h .need-is)) (omega (arith, count-plain)) (omega (arith, slips-count s es)) in
+            let f = nothing-short s es w (walked .tray) (walked .room) (length l) jr pr (omega (arith, h .need-is)) (omega (arith, count-plain))
+            (omega (arith, slips-count s es)) in
             let b = d .placed .below in
             record {
-              answer-is = o ∙ rw (← (slips-count s es), count-kept, h .letters-are, h .saved-are, h .need-is, count-plain) (sym (answer-composed s es (length w) (length l) jr pr f));
+              answer-is = o ∙ rw (← (slips-count s es), count-kept, h .letters-are, h .saved-are, h .need-is, count-plain)
+                  (sym (answer-composed s es (length w) (length l) jr pr f));
               legend-is = d .legend-is ∙ sym (ap (λ (g : Refusal). written g (legendOf ss) l) f);
               same = b .same;
               joins-are = λ z. rw o

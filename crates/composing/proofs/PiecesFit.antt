@@ -66,14 +66,16 @@ all-times P (p ∷ ps) h =
     (h (p .number) (omega (arith, is-same (p .number) (p .number) refl)), all-times P ps (λ i l. h i (omega arith)))
 
 -- an order of slips of the tray, behind so many letters, can be placed
-order-fits : (s es : List ℕ) (ps : List Piece) (x : List ℕ) → Order (slipsOf s es) x ps → All (λ p. (1 ≤ p .number) × (p .number ≤ length es)) ps → All (PieceFits s es) ps
+order-fits : (s es : List ℕ) (ps : List Piece) (x : List ℕ) → Order (slipsOf s es) x ps → All (λ p. (1 ≤ p .number) × (p .number ≤ length es)) ps →
+    All (PieceFits s es) ps
 order-fits s es [] x o a = tt
 order-fits s es (p ∷ ps) x o a = (
   record { some = a .0 .0; most = a .0 .1; within = over-most x (p .overlap) (slip (slipsOf s es) (p .number)) (o .0) },
   order-fits s es ps (slip (slipsOf s es) (p .number)) (o .1) (a .1),
 )
 
-order-places : (s es : List ℕ) (ps : List Piece) (x : List ℕ) (here : ℕ) → length x < here → here + length (spelled (slipsOf s es) ps) < 65536 → Order (slipsOf s es) x ps → All (λ p. (1 ≤ p .number) × (p .number ≤ length es)) ps → Placeable s es here ps
+order-places : (s es : List ℕ) (ps : List Piece) (x : List ℕ) (here : ℕ) → length x < here → here + length (spelled (slipsOf s es) ps) < 65536 →
+    Order (slipsOf s es) x ps → All (λ p. (1 ≤ p .number) × (p .number ≤ length es)) ps → Placeable s es here ps
 order-places s es [] x here h b o a = omega arith
 order-places s es (p ∷ ps) x here h b o a =
     let ss = slipsOf s es in
@@ -170,10 +172,22 @@ module _ (s es : List ℕ) (acc : trayFault s es .number ≡ 0) where
   pieces-count = sym (length-sum ps) ∙ pieces-numbers (rep .1) (λ i. 1) ∙ length-sum K
 
   pub kept-few : length K ≤ maxSlips
-  kept-few = omega (arith, length-those (λ i. not (isAside ss (numbers ss) i)) (numbers ss), length-upFrom 1 (length ss), slips-count s es, accepted-tells s es acc .few)
+  kept-few = omega (
+    arith,
+    length-those (λ i. not (isAside ss (numbers ss) i)) (numbers ss),
+    length-upFrom 1 (length ss),
+    slips-count s es,
+    accepted-tells s es acc .few,
+  )
 
   pub kept-small : total ss K ≤ maxLetters
-  kept-small = omega (arith, total-those ss (λ i. not (isAside ss (numbers ss) i)) (numbers ss), total-numbers ss, slips-most 0 s es, accepted-tells s es acc .small)
+  kept-small = omega (
+    arith,
+    total-those ss (λ i. not (isAside ss (numbers ss) i)) (numbers ss),
+    total-numbers ss,
+    slips-most 0 s es,
+    accepted-tells s es acc .small,
+  )
 
   pub legend-small : length (legendOf ss) ≤ maxLetters
   legend-small = omega (arith, kept-small, saving-of counted ss (rep .1))

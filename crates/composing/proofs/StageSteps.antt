@@ -28,10 +28,13 @@ kept-part : (w : List ℕ) → take (KEPT + maxSlips - KEPT) (drop KEPT w) ≡ t
 kept-part w = part-table w KEPT maxSlips (KEPT + maxSlips) refl
 
 module _ (w : List ℕ) (k j : ℕ) (left right overs : List ℕ) where
-  pub stage-asks : StageAsks w k j left right overs → PiecesAsk (take (KEPT + maxSlips - KEPT) (drop KEPT w)) k left right overs (j + 1) (replicate (2 * maxSlips) 0)
+  pub stage-asks : StageAsks w k j left right overs →
+      PiecesAsk (take (KEPT + maxSlips - KEPT) (drop KEPT w)) k left right overs (j + 1) (replicate (2 * maxSlips) 0)
   stage-asks a = rw (kept-part w) (a .asks)
 
-  pub stage-gives : (xs : List ℕ) (r : ℕ) → Flattened (piecesBy left right overs (j + 1) (take k (take (KEPT + maxSlips - KEPT) (drop KEPT w)))) 0 (replicate (2 * maxSlips) 0) xs r → PiecesStaged w k j left right overs xs
+  pub stage-gives : (xs : List ℕ) (r : ℕ) →
+      Flattened (piecesBy left right overs (j + 1) (take k (take (KEPT + maxSlips - KEPT) (drop KEPT w)))) 0 (replicate (2 * maxSlips) 0) xs r →
+      PiecesStaged w k j left right overs xs
   stage-gives xs r f =
       let g : Flattened (piecesHere w k j left right overs) 0 (replicate (2 * maxSlips) 0) xs r = rw (kept-part w) at f in
       let e : r ≡ length (piecesHere w k j left right overs) = omega (arith, g .count-is) in

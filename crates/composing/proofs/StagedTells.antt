@@ -4,19 +4,18 @@
 --   staged-tells == one of the two
 use mathlib.Core.Path.{_≡_, refl, sym, _∙_, ap}
 use mathlib.Core.Bool.{_||_}
-use mathlib.Core.List.{List, [], _∷_, _++_}
-use Prim.Native.Nat.{ℕ, zero, suc, _+_, _-_, _*_, _≤_, _<_}
+use mathlib.Core.List.{List, [], _∷_}
+use Prim.Native.Nat.{ℕ, zero, suc, _+_, _-_, _*_, _≤_}
 use borrow.Author.Tests.{ltb-false, leb-true, leb-false}
 use native.Mathlib.Omega.{arith}
 use lib.Dec.{ltb, leb}
 use lib.ListN.{length, length-drop, drop, take}
 use lib.Seq.{take-all}
-use Rattle.words.specs.Lists.{each}
 use Rattle.words.proofs.Tests.{by-test, neither}
 use Rattle.tables.specs.Tables.{table}
 use Rattle.trays.specs.declared.Refusal.{Refusal}
 use Rattle.trays.specs.Limits.{maxSlips, workNeed}
-use Rattle.trays.specs.Slips.{slipsOf, numbers}
+use Rattle.trays.specs.Slips.{slipsOf}
 use Rattle.trays.specs.Faults.{accepted, row, firstRow, trayRows, trayFault}
 use Rattle.trays.proofs.Rows.{both-silent, rows-append}
 use Rattle.trays.proofs.Accepted.{rows-silent, row-silent, accepted-tells, slips-count}
@@ -83,10 +82,16 @@ module _ (s es w : List ℕ) (l j p : ℕ) (r : Composed) where
     where
       go : (n : ℕ) → f .number ≡ n → P
       go zero h = good (accepts h (q ∙ rw (h, composedOf)))
-      go (suc n) h = bad (record { row-above = n; speaks = h; answer-is = q ∙ ap {B = Composed} (λ (m : ℕ). elim m [ zero ↦ outcomeOf ss | suc k ↦ refusedBy f ]) h })
+      go (suc n) h = bad (record {
+        row-above = n;
+        speaks = h;
+        answer-is = q
+            ∙ ap {B = Composed} (λ (m : ℕ). elim m [ zero ↦ outcomeOf ss | suc k ↦ refusedBy f ]) h;
+      })
 
 -- the staged joins stand within the work area
-pub staged-room : (s es w w′ l l′ : List ℕ) (j p : ℕ) (r : Composed) → Staged s es w w′ l l′ j p r → Accepts s es w (length l) j p r → JOINS + 3 * r .joins ≤ length w′
+pub staged-room : (s es w w′ l l′ : List ℕ) (j p : ℕ) (r : Composed) → Staged s es w w′ l l′ j p r → Accepts s es w (length l) j p r →
+    JOINS + 3 * r .joins ≤ length w′
 unfolding table
 staged-room s es w w′ l l′ j p r st a =
     let e = ap length (st .joins-are (ap (λ (c : Composed). c .number) (a .answer-is))) in

@@ -9,7 +9,7 @@ use lib.Dec.{ltb}
 use lib.ListN.{length}
 use Rattle.tables.proofs.Tables.{cells-below}
 use Rattle.trays.specs.declared.Refusal.{Refusal}
-use Rattle.trays.specs.Limits.{maxSlips, workNeed}
+use Rattle.trays.specs.Limits.{workNeed}
 use Rattle.trays.specs.Slips.{slipsOf, numbers}
 use Rattle.trays.specs.Aside.{kept, counted}
 use Rattle.trays.specs.Faults.{refusal, accepted, row, firstRow, trayRows, trayFault}
@@ -29,7 +29,8 @@ use Rattle.composing.specs.Answers.{beforeC, composeFault, refusedBy, St
 use Rattle.composing.specs.Steps.{Joined, Finished}
 use Rattle.composing.proofs.FinishSteps.{turned-back}
 
-module _ (s es w : List ℕ) (a : Buildable s es w) (nodes : ℕ) (w₁ : List ℕ) (b : Built s es w nodes w₁) (k : ℕ) (w₂ : List ℕ) (l : Listed s es (length es) nodes w₁ k w₂) where
+module _ (s es w : List ℕ) (a : Buildable s es w) (nodes : ℕ) (w₁ : List ℕ) (b : Built s es w nodes w₁) (k : ℕ) (w₂ : List ℕ)
+    (l : Listed s es (length es) nodes w₁ k w₂) where
   members-are : members w₂ (length es) ≡ numbers (slipsOf s es)
   members-are = members-kept (length es) (omega (arith, l .staged .automaton .branched .numbered .few-members)) (l .below) ∙ b .all-slips
 
@@ -88,7 +89,8 @@ module _ (s es w l : List ℕ) (jr pr : ℕ) (r : Composed) where
       let joins = length (plainJoins ss) in
       workRow (length w) ∷ (row 8 (ltb (length l) need) need ∷ (row 9 (ltb jr joins || ltb pr (length ss)) joins ∷ []))
 
-  refused-before : (f : Refusal) (n d : ℕ) → f ≡ refusal (suc n) d → composeFault s es (length w) (length l) jr pr ≡ f → r ≡ refusedBy f → Staged s es w w l l jr pr r
+  refused-before : (f : Refusal) (n d : ℕ) → f ≡ refusal (suc n) d → composeFault s es (length w) (length l) jr pr ≡ f → r ≡ refusedBy f →
+      Staged s es w w l l jr pr r
   refused-before f n d e h q =
       let t = turned-back s es w l jr pr f n d r e h q in
       record {

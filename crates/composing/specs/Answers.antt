@@ -6,9 +6,9 @@
 --   flatPlaces ss         == the places as numbers: for each slip its place, and 1 if it is kept
 --   Staged                == what the core leaves: the answer, the legend, and joins and places in the work area
 use mathlib.Core.Path.{_≡_}
-use mathlib.Core.Bool.{Bool, true, false, cond, _||_}
+use mathlib.Core.Bool.{cond, _||_}
 use mathlib.Core.List.{List, [], _∷_, _++_}
-use Prim.Native.Nat.{ℕ, zero, suc, _*_, _≤_}
+use Prim.Native.Nat.{ℕ, zero, suc, _*_}
 use lib.Dec.{ltb}
 use lib.ListN.{length}
 use Rattle.words.specs.Lists.{each}

@@ -4,7 +4,8 @@ ghost use Prim.Native.Nat.{_+_, _*_, _≤_, _<_};
 ghost use lib.ListN.{length, take};
 ghost use Rattle.trays.specs.Slips.{slipsOf, total};
 ghost use Rattle.layout.specs.Layout as L;
-ghost use Rattle.composing.specs.Steps.{thirds, KeptReal, StageAsks, PiecesStaged, Walked, CountsAre, PlacingAsks, Placed, WritingAsks, Written, Joined, Finished, OutcomeAsks, outcomeBy};
+ghost use Rattle.composing.specs.Steps.{thirds, KeptReal, StageAsks, PiecesStaged, Walked, CountsAre, PlacingAsks};
+ghost use Rattle.composing.specs.Steps.{Placed, WritingAsks, Written, Joined, Finished, OutcomeAsks, outcomeBy};
 ghost use Rattle.composing.specs.Answers.{refusedBy, Staged};
 ghost use Rattle.automaton.specs.Built.{Buildable};
 ghost use Rattle.trays.specs.Faults.{refusal};
@@ -183,7 +184,8 @@ fn finish(
     places_room: usize,
 ) -> Composed
     requires { ⌜ Joined (now letters) (now ends) (now work) k joins (now left) (now right) (now overs) ⌝ }
-    ensures { λ r. ⌜ Finished (now (letters .entry)) (now (ends .entry)) (now (work .entry)) (now (work .exit)) (now (legend .entry)) (now (legend .exit)) «joins_room» «places_room» r ⌝ }
+    ensures { λ r. ⌜ Finished (now (letters .entry)) (now (ends .entry)) (now (work .entry)) (now (work .exit))
+        (now (legend .entry)) (now (legend .exit)) «joins_room» «places_room» r ⌝ }
 {
     let counts = count_letters(letters, ends, work, k, joins);
     let need = counts.need;
@@ -211,7 +213,8 @@ fn compose_accepted(
     places_room: usize,
 ) -> Composed
     requires { ⌜ Buildable (now letters) (now ends) (now work) ⌝ }
-    ensures { λ r. ⌜ Finished (now (letters .entry)) (now (ends .entry)) (now (work .entry)) (now (work .exit)) (now (legend .entry)) (now (legend .exit)) «joins_room» «places_room» r ⌝ }
+    ensures { λ r. ⌜ Finished (now (letters .entry)) (now (ends .entry)) (now (work .entry)) (now (work .exit))
+        (now (legend .entry)) (now (legend .exit)) «joins_room» «places_room» r ⌝ }
 {
     let n = ends.len();
     let nodes = automaton::build(letters, ends, work);
@@ -258,7 +261,8 @@ pub fn compose_staged(
     joins_room: usize,
     places_room: usize,
 ) -> Composed
-    ensures { λ r. ⌜ Staged (now (letters .entry)) (now (ends .entry)) (now (work .entry)) (now (work .exit)) (now (legend .entry)) (now (legend .exit)) «joins_room» «places_room» r ⌝ }
+    ensures { λ r. ⌜ Staged (now (letters .entry)) (now (ends .entry)) (now (work .entry)) (now (work .exit))
+        (now (legend .entry)) (now (legend .exit)) «joins_room» «places_room» r ⌝ }
 {
     let tray = trays::check_tray(letters, ends);
     if tray.number != 0 {

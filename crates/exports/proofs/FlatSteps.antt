@@ -2,28 +2,26 @@
 --   cells-more, cells-all == one turn of the loop that copies cells, and its end
 --   joins-can, places-can == what copying asks
 --   flat-says             == what composing over slices of numbers leaves
-use mathlib.Core.Path.{_≡_, refl, sym, _∙_, ap}
-use mathlib.Core.List.{List, [], _∷_, _++_}
-use Prim.Native.Nat.{ℕ, zero, suc, _+_, _-_, _*_, _/_, _≤_, _<_}
+use mathlib.Core.Path.{_≡_, refl, _∙_, ap}
+use mathlib.Core.List.{List}
+use Prim.Native.Nat.{ℕ, _+_, _-_, _*_, _/_, _≤_, _<_}
 use native.Mathlib.Omega.{arith}
 use lib.ListN.{length, getD, set}
 use Rattle.words.specs.Lists.{over}
 use Rattle.words.proofs.Buffers.{over-set}
 use Rattle.tables.specs.Tables.{table}
 use Rattle.tables.proofs.Tables.{table-length, table-more}
-use Rattle.trays.specs.declared.Refusal.{Refusal}
-use Rattle.trays.specs.Limits.{maxSlips, workNeed}
-use Rattle.trays.specs.Slips.{slipsOf}
-use Rattle.trays.specs.Faults.{written}
 use Rattle.layout.specs.Layout.{JOINS, PLACES}
 use Rattle.composing.specs.declared.Composed.{Composed}
 use Rattle.composing.specs.Answers.{Staged}
-use Rattle.composing.proofs.StagedTells.{Accepts, Refuses, staged-tells, staged-room}
-use Rattle.exports.specs.Flat.{CanCopy, flatFault, FlatSays}
+use Rattle.composing.proofs.StagedTells.{staged-tells, staged-room}
+use Rattle.exports.specs.Flat.{CanCopy, FlatSays}
 
-pub cells-more : (w old out : List ℕ) (base i n : ℕ) → CanCopy w base n old → i < n → out ≡ over (table w base i) old → set out i (getD w (base + i) 0) ≡ over (table w base (i + 1)) old
+pub cells-more : (w old out : List ℕ) (base i n : ℕ) → CanCopy w base n old → i < n → out ≡ over (table w base i) old →
+    set out i (getD w (base + i) 0) ≡ over (table w base (i + 1)) old
 cells-more w old out base i n a h e =
-    rw (e, table-more w base i (i + 1) (omega (arith, a .there)) refl) (over-set 0 (table w base i) old i (getD w (base + i) 0) (table-length w base i (omega (arith, a .there))) (omega (arith, a .room)))
+    rw (e, table-more w base i (i + 1) (omega (arith, a .there)) refl)
+    (over-set 0 (table w base i) old i (getD w (base + i) 0) (table-length w base i (omega (arith, a .there))) (omega (arith, a .room)))
 
 pub cells-none : (w old : List ℕ) (base : ℕ) → old ≡ over (table w base 0) old
 unfolding table

@@ -34,7 +34,8 @@ pub fn compose_flat(
     joins: &mut [u16],
     places: &mut [u16],
 ) -> Composed
-    ensures { λ r. ⌜ FlatSays (now (letters .entry)) (now (ends .entry)) (now (work .entry)) (now (work .exit)) (now (legend .entry)) (now (legend .exit)) (now (joins .entry)) (now (joins .exit)) (now (places .entry)) (now (places .exit)) r ⌝ }
+    ensures { λ r. ⌜ FlatSays (now (letters .entry)) (now (ends .entry)) (now (work .entry)) (now (work .exit))
+        (now (legend .entry)) (now (legend .exit)) (now (joins .entry)) (now (joins .exit)) (now (places .entry)) (now (places .exit)) r ⌝ }
 {
     let joins_room = joins.len() / 3;
     let places_room = places.len() / 2;
@@ -55,7 +56,8 @@ pub extern "C" fn kotsghane_compose(
     places: &mut [u16],
     answer: &mut [u32; 8],
 )
-    ensures { λ _. ⌜ ComposeExported (now (letters .entry)) (now (ends .entry)) (now (work .entry)) (now (work .exit)) (now (legend .entry)) (now (legend .exit)) (now (joins .entry)) (now (joins .exit)) (now (places .entry)) (now (places .exit)) (now (answer .exit)) ⌝ }
+    ensures { λ _. ⌜ ComposeExported (now (letters .entry)) (now (ends .entry)) (now (work .entry)) (now (work .exit))
+        (now (legend .entry)) (now (legend .exit)) (now (joins .entry)) (now (joins .exit)) (now (places .entry)) (now (places .exit)) (now (answer .exit)) ⌝ }
 {
     let r = compose_flat(letters, ends, work, legend, joins, places);
     *answer = [
@@ -80,7 +82,8 @@ pub extern "C" fn kotsghane_find(
     found: &mut [u32],
     answer: &mut [u32; 4],
 )
-    ensures { λ _. ⌜ FindExported (now (letters .entry)) (now (ends .entry)) (now (text .entry)) (now (work .entry)) (now (work .exit)) (now (found .entry)) (now (found .exit)) (now (answer .exit)) ⌝ }
+    ensures { λ _. ⌜ FindExported (now (letters .entry)) (now (ends .entry)) (now (text .entry)) (now (work .entry)) (now (work .exit))
+        (now (found .entry)) (now (found .exit)) (now (answer .exit)) ⌝ }
 {
     let r = finding::find_flat(letters, ends, text, work, found);
     *answer = [r.number as u32, r.detail, r.moves, r.count];

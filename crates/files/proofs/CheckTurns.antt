@@ -45,7 +45,8 @@ module _ (k : ℕ) where
 
     pub long-enough : lineFault k l .number ≡ 0 → 10 ≤ length l
     long-enough z =
-        let p : not (isLaidOut l) ≡ false = silent (not (isLaidOut l)) (not (eqb (slipField l) (suc k))) (not (eqb (lengthField l) (suc (length (letters l))))) z in
+        let p : not (isLaidOut l) ≡ false =
+        silent (not (isLaidOut l)) (not (eqb (slipField l) (suc k))) (not (eqb (lengthField l) (suc (length (letters l))))) z in
         leb-true 10 (length l) (both (leb 10 (length l)) _ (not-false (isLaidOut l) p) .0)
 
 module _ (s : List ℕ) (at k : ℕ) (line : Line) (e : line ≡ lineAt s at k) where
@@ -82,7 +83,8 @@ module _ (s : List ℕ) (at k : ℕ) (line : Line) (h : at < length s) (e : line
   pub next-count : k ≤ at + 1 → k + 1 ≤ line .next + 1
   next-count b = omega (arith, next-after)
 
-module _ (s : List ℕ) (at k : ℕ) (line : Line) (h : at < length s) (e : line ≡ lineAt s at k) (inv : linesFault 1 (linesOf s) ≡ linesFault k (linesOf (drop at s))) where
+module _ (s : List ℕ) (at k : ℕ) (line : Line) (h : at < length s) (e : line ≡ lineAt s at k)
+    (inv : linesFault 1 (linesOf s) ≡ linesFault k (linesOf (drop at s))) where
   abbrev l : List ℕ
   l = firstLine (drop at s)
 
@@ -99,5 +101,6 @@ module _ (s : List ℕ) (at k : ℕ) (line : Line) (h : at < length s) (e : line
       let y : lineFault k l .number ≡ 0 = parsed-fault s at k line e ∙ z in
       rw (add-one k, parsed-next s at k line e y) (faults-at ∙ or-zero _ _ y)
 
-pub check-done : (s : List ℕ) (at k : ℕ) → length s ≤ at → linesFault 1 (linesOf s) ≡ linesFault k (linesOf (drop at s)) → refusal 0 0 ≡ linesFault 1 (linesOf s)
+pub check-done : (s : List ℕ) (at k : ℕ) → length s ≤ at → linesFault 1 (linesOf s) ≡ linesFault k (linesOf (drop at s)) →
+    refusal 0 0 ≡ linesFault 1 (linesOf s)
 check-done s at k h inv = rw (inv, drop-of-length-le s h)

@@ -40,7 +40,8 @@ letters-snoc : (ls : List (List ℕ)) (l : List ℕ) → lettersOf (ls ++ (l ∷
 letters-snoc [] l = append-nil (letters l)
 letters-snoc (x ∷ ls) l = rw (letters-snoc ls l) (sym (append-assoc (letters x) (lettersOf ls) (letters l)))
 
-ends-snoc : (here : ℕ) (ls : List (List ℕ)) (l : List ℕ) → endsFrom here (ls ++ (l ∷ [])) ≡ endsFrom here ls ++ ((here + length (lettersOf ls) + length (letters l)) ∷ [])
+ends-snoc : (here : ℕ) (ls : List (List ℕ)) (l : List ℕ) →
+    endsFrom here (ls ++ (l ∷ [])) ≡ endsFrom here ls ++ ((here + length (lettersOf ls) + length (letters l)) ∷ [])
 ends-snoc here [] l = rw add-zero
 ends-snoc here (x ∷ ls) l =
     rw (length-append, ← add-assoc) (ap (λ r. (here + length (letters x)) ∷ r) (ends-snoc (here + length (letters x)) ls l))
@@ -129,7 +130,8 @@ module _ (s a b a′ b′ : List ℕ) (at count slips : ℕ) (t : Lent s a b) (i
         rw (n, turn .start-is, ← drop-drop 9 at s) (ap (map filed) (line-letters (drop at s) l _ (sym x) (turn .long)))
 
     pub passed-more : (p : List ℕ) → p ≡ over (map filed (take (line .end - line .start) (drop (line .start) s))) (take (length a′ - count) (drop count a′)) →
-        Passed s a b (putMid count (length a′ - count) a′ p) (set b′ slips (count + (line .end - line .start))) (line .next) (count + (line .end - line .start)) (slips + 1)
+        Passed s a b (putMid count (length a′ - count) a′ p) (set b′ slips (count + (line .end - line .start))) (line .next)
+        (count + (line .end - line .start)) (slips + 1)
     passed-more p f = record {
       left = rw (turn .next-is, add-one) (sym (next-drop slips (linesOf s) next-lines));
       few = omega (arith, ap length next-lines, length-drop slips (linesOf s));
@@ -141,7 +143,8 @@ module _ (s a b a′ b′ : List ℕ) (at count slips : ℕ) (t : Lent s a b) (i
           rw (add-one, next-take slips (linesOf s) next-lines, letters-snoc)
           (over-mid (lettersOf (take slips (linesOf s))) (letters l) a a′ p count (sym (i .counted)) (i .letters-are) (rw filed-letters at f));
       ends-are =
-          let v : count + (line .end - line .start) ≡ 0 + length (lettersOf (take slips (linesOf s))) + length (letters l) = omega (arith, turn, i .counted, letters-length l) in
+          let v : count + (line .end - line .start) ≡ 0 + length (lettersOf (take slips (linesOf s))) + length (letters l) =
+          omega (arith, turn, i .counted, letters-length l) in
           rw (add-one, next-take slips (linesOf s) next-lines, ends-snoc, v, i .ends-are)
           (over-set 0 (endsFrom 0 (take slips (linesOf s))) b slips _ ends-count (omega (arith, t, i)));
     }

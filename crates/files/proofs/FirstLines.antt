@@ -44,7 +44,8 @@ pub lines-cons : (s : List ℕ) → 1 ≤ length s → linesOf s ≡ firstLine s
 lines-cons [] h = absurd (omega arith)
 lines-cons (b ∷ s) h = by-test (eqb b lf) (λ e. rw (first-lf b s e, e, linesOf)) (λ e. rw (first-more b s e, e, linesOf) (more s (lines-cons s)))
   where
-    more : (t : List ℕ) → (1 ≤ length t → linesOf t ≡ firstLine t ∷ linesOf (drop (length (firstLine t)) t)) → onFirst b (linesOf t) ≡ (b ∷ firstLine t) ∷ linesOf (drop (length (firstLine t)) t)
+    more : (t : List ℕ) → (1 ≤ length t → linesOf t ≡ firstLine t ∷ linesOf (drop (length (firstLine t)) t)) →
+        onFirst b (linesOf t) ≡ (b ∷ firstLine t) ∷ linesOf (drop (length (firstLine t)) t)
     more [] e = refl
     more (c ∷ t) e = ap (onFirst b) (e (omega arith))
 
@@ -57,7 +58,8 @@ module _ (s : List ℕ) (at i : ℕ) (k : at + length (firstLine (drop at s)) �
 
   pub end-more : i < length s → (getD s i 0 ≡ lf → ⊥) → at + length (firstLine (drop at s)) ≡ i + 1 + length (firstLine (drop (i + 1) s))
   end-more h e =
-      let p : firstLine (drop i s) ≡ getD s i 0 ∷ firstLine (drop (suc i) s) = rw (drop-cons s i 0) (first-more (getD s i 0) (drop (suc i) s) (ne-eqb (getD s i 0) lf e)) in
+      let p : firstLine (drop i s) ≡ getD s i 0 ∷ firstLine (drop (suc i) s) =
+      rw (drop-cons s i 0) (first-more (getD s i 0) (drop (suc i) s) (ne-eqb (getD s i 0) lf e)) in
       rw (add-one i) (omega (arith, ap length p))
 
   pub end-none : length s ≤ i → i ≡ at + length (firstLine (drop at s))

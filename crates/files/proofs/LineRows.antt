@@ -54,7 +54,14 @@ module _ (l : List ℕ) (k : ℕ) where
 
             module _ (n : slip - 1 ≡ k) where
               pub line-length : (stated - 1 ≡ length l - 10 → ⊥) → 19 ≡ lineFault k l .number
-              line-length m = rw (laid, ← s, eq-eqb slip (suc k) (omega arith), ← t, letters-length l, ne-eqb stated (suc (length l - 10)) (λ q. m (omega arith)))
+              line-length m = rw (
+                laid,
+                ← s,
+                eq-eqb slip (suc k) (omega arith),
+                ← t,
+                letters-length l,
+                ne-eqb stated (suc (length l - 10)) (λ q. m (omega arith)),
+              )
 
               pub line-good : stated - 1 ≡ length l - 10 → 0 ≡ lineFault k l .number
               line-good m = rw (laid, ← s, eq-eqb slip (suc k) (omega arith), ← t, letters-length l, eq-eqb stated (suc (length l - 10)) (omega arith))
@@ -64,7 +71,8 @@ bad-is s at k zero p q = absurd (q refl)
 bad-is s at k (suc n) p q = rw (p, lineAt)
 
 -- the line that starts at `at` ends before `next`
-module _ (s : List ℕ) (at k next fault : ℕ) (e : next ≡ at + length (firstLine (drop at s))) (f : fault ≡ lineFault k (take (next - at) (drop at s)) .number) where
+module _ (s : List ℕ) (at k next fault : ℕ) (e : next ≡ at + length (firstLine (drop at s)))
+    (f : fault ≡ lineFault k (take (next - at) (drop at s)) .number) where
   faulty : lineFault k (firstLine (drop at s)) .number ≡ fault
   faulty =
       let p : take (next - at) (drop at s) ≡ firstLine (drop at s) = rw (e, add-sub-cancel-left) (first-take (drop at s)) in

@@ -52,7 +52,8 @@ before-specimens =
     ∷ specimen (call "ab" (1 ∷ []) (many 2001 32) 0 0) (refusal 5 0)
     ∷ []
 
-pub before-computed : map (λ s. let c = s .given in findBefore (c .letters) (c .ends) (c .text) (c .cells)) before-specimens ≡ map (λ s. s .value) before-specimens
+pub before-computed : map (λ s. let c = s .given in findBefore (c .letters) (c .ends) (c .text) (c .cells)) before-specimens ≡
+    map (λ s. s .value) before-specimens
 unfolding before-specimens findBefore
 before-computed = refl
 

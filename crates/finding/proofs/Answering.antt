@@ -3,11 +3,11 @@
 --   core-..         == a call that is turned back; the steps before and behind the rows of place B
 --   find-says       == occurrences stored as records are the promise, flat-says as numbers
 use mathlib.Core.Path.{_≡_, refl, sym, ap, _∙_}
-use mathlib.Core.List.{List, [], _∷_, _++_, map}
-use Prim.Native.Nat.{ℕ, zero, suc, _*_, _/_, _≤_, _<_}
+use mathlib.Core.List.{List, map}
+use Prim.Native.Nat.{ℕ, zero, suc, _/_, _≤_}
 use native.Mathlib.Nat.{div-add-mod'}
 use native.Mathlib.Omega.{arith}
-use lib.ListN.{length, take, drop, length-map, List·getD-map}
+use lib.ListN.{length, take, length-map, List·getD-map}
 use lib.Seq.{take-length}
 use Rattle.words.specs.Lists.{over}
 use Rattle.trays.specs.declared.Refusal.{Refusal}
@@ -18,13 +18,12 @@ use Rattle.stores.specs.Firsts.{firsts}
 use Rattle.stores.proofs.Firsts.{firsts-are}
 use Rattle.matching.specs.Occurrences as O
 use Rattle.matching.specs.Occurrences.{occurrences}
-use Rattle.matching.proofs.States.{few-from}
 use Rattle.layout.specs.WorkArea.{WorkKept}
 use Rattle.finding.specs.declared.Found.{Found}
 use Rattle.finding.specs.declared.Search.{Search}
 use Rattle.finding.specs.declared.Begun.{Begun}
 use Rattle.finding.specs.Answers.{findBefore, findFault, outcomeOf, refusedBy, searchOf, recordOf, flatFound, Answered, FindSays, FlatSays}
-use Rattle.finding.specs.Steps.{Clear, foundAt, Enough, Left, turnedBack, CoreSays, CanFlat, Flattened}
+use Rattle.finding.specs.Steps.{Clear, foundAt, Left, turnedBack, CoreSays, CanFlat, Flattened}
 use Rattle.finding.proofs.Checks.{fault-before}
 
 -- the two cases of the answer
@@ -107,7 +106,8 @@ find-says {s} {es} {t} {w} {o = o} {r = r} c e l =
 pub flat-can : {s es t w w₁ o : List ℕ} {room : ℕ} {r : Begun} → CoreSays s es t w w₁ room r → room ≡ length o / 2 → CanFlat s es t (r .count) w₁ o
 flat-can {o = o} c e = record { room = omega (arith, c .fits, div-add-mod' (length o) 2); enough = c .enough }
 
-pub flat-says : {s es t w w₁ w′ o o′ : List ℕ} {r : Begun} → CoreSays s es t w w₁ (length o / 2) r → Flattened s es t (r .count) w₁ w′ o o′ → FlatSays s es t w w′ o o′ (r .answer)
+pub flat-says : {s es t w w₁ w′ o o′ : List ℕ} {r : Begun} → CoreSays s es t w w₁ (length o / 2) r → Flattened s es t (r .count) w₁ w′ o o′ →
+    FlatSays s es t w w′ o o′ (r .answer)
 flat-says {s} {es} {t} {w} {o = o} {r = r} c g =
     let f = findFault s es t (length w) (length o / 2) in
     let os = occurrences (slipsOf s es) t in
@@ -115,6 +115,7 @@ flat-says {s} {es} {t} {w} {o = o} {r = r} c g =
       answered = answered-after c (g .left);
       found-are =
           by-number f
-          (λ z. g .found-are ∙ ap (λ (fs : List O.Found). over (flatFound fs) o) (ap (λ (n : ℕ). take n os) (all-stored c z) ∙ take-length os) ∙ sym (written-all f (flatFound os) o z))
+          (λ z. g .found-are ∙ ap (λ (fs : List O.Found). over (flatFound fs) o) (ap (λ (n : ℕ). take n os) (all-stored c z) ∙ take-length os)
+          ∙ sym (written-all f (flatFound os) o z))
           (λ p. g .found-are ∙ ap (λ (n : ℕ). over (flatFound (take n os)) o) (none-stored c p) ∙ sym (written-none f (flatFound os) o p));
     }

@@ -3,15 +3,14 @@
 --   begin-..               == moves and occurrences counted, 14 decided, and a scan that has read nothing
 use mathlib.Core.Path.{_≡_, refl, sym, ap, subst, _∙_}
 use mathlib.Core.List.{List, []}
-use Prim.Native.Nat.{ℕ, _+_, _*_, _≤_, _<_}
+use Prim.Native.Nat.{ℕ, _≤_, _<_}
 use native.Mathlib.Omega.{arith}
 use lib.ListN.{length}
-use Rattle.trays.specs.Limits.{maxSlips, maxText}
+use Rattle.trays.specs.Limits.{maxSlips}
 use Rattle.trays.specs.Slips.{slipsOf}
 use Rattle.trays.specs.Faults.{refusal}
 use Rattle.matching.specs.Occurrences.{occurrences}
 use Rattle.matching.proofs.States.{few-from}
-use Rattle.layout.specs.Tables.{cell}
 use Rattle.layout.specs.Numbered.{Numbered}
 use Rattle.layout.specs.WorkArea.{WorkKept}
 use Rattle.layout.proofs.Frames.{members-kept}
@@ -20,12 +19,12 @@ use Rattle.owners.specs.Owners.{HeadsFilled}
 use Rattle.outputs.specs.Outputs.{OutputsFilled}
 use Rattle.scanning.specs.declared.Counts.{Counts}
 use Rattle.scanning.specs.declared.Scan.{Scan}
-use Rattle.scanning.specs.Scanning.{SCAN, Able, CountsAre, Loadable, Standing, fresh, scanIn, Started}
+use Rattle.scanning.specs.Scanning.{Able, CountsAre, Loadable, Standing, fresh, scanIn, Started}
 use Rattle.scanning.proofs.Scans.{able-few}
 use Rattle.scanning.proofs.Keeping.{standing-kept, fresh-standing}
 use Rattle.finding.specs.declared.Begun.{Begun}
-use Rattle.finding.specs.Answers.{findBefore, outcomeOf}
-use Rattle.finding.specs.Steps.{Clear, Prepared, scanAt, turnedBack, CoreSays}
+use Rattle.finding.specs.Answers.{findBefore}
+use Rattle.finding.specs.Steps.{Clear, Prepared, turnedBack, CoreSays}
 use Rattle.finding.proofs.Checks.{silent-short, fault-list, fault-none}
 use Rattle.finding.proofs.Answering.{answer-found, core-refused}
 
@@ -75,7 +74,8 @@ module _ {s es t w w₁ : List ℕ} {nodes : ℕ} (h : Clear s es t w) (p : Prep
           let stands : Standing s es t (length es) nodes w₂ fresh = standing-kept (g .below) (fresh-standing begin-able) in
           record {
             answered = record {
-              answer-is = (λ i. record { number = 0; detail = 0; moves = r .moves-are i; count = r .found-are i }) ∙ sym (answer-found s es t (length w) room (ap (λ f. f .number) none));
+              answer-is = (λ i. record { number = 0; detail = 0; moves = r .moves-are i; count = r .found-are i })
+                  ∙ sym (answer-found s es t (length w) room (ap (λ f. f .number) none));
               few-moves = omega (arith, r .moves-are, few-from (slipsOf s es) [] t 0);
               work-is = kept-so (g .below .same);
             };

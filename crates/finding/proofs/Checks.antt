@@ -41,7 +41,8 @@ row-silent n d false h = refl
 module _ (s es t : List ℕ) (cells : ℕ) (f : Refusal) (e : f ≡ trayFault s es) where
   pub before-tray : (f .number ≡ 0 → ⊥) → f ≡ findBefore s es t cells
   unfolding findBefore trayFault
-  before-tray z = sym (rows-append (trayRows s es) (textRows t ++ (workRow cells ∷ [])) ∙ rw (← e) (or-some f (firstRow (textRows t ++ (workRow cells ∷ []))) (omega arith)))
+  before-tray z = sym (rows-append (trayRows s es) (textRows t ++ (workRow cells ∷ []))
+      ∙ rw (← e) (or-some f (firstRow (textRows t ++ (workRow cells ∷ []))) (omega arith)))
 
   module _ (z : f .number ≡ 0) where
     behind-tray : findBefore s es t cells ≡ firstRow (textRows t ++ (workRow cells ∷ []))
@@ -72,10 +73,13 @@ module _ (s es t : List ℕ) (cells : ℕ) (f : Refusal) (e : f ≡ trayFault s 
 module _ {s es t w : List ℕ} (c : Clear s es t w) where
   parts : (trayFault s es .number ≡ 0) × (firstRow (textRows t ++ (workRow (length w) ∷ [])) .number ≡ 0)
   unfolding findBefore trayFault
-  parts = both-silent (firstRow (trayRows s es)) (firstRow (textRows t ++ (workRow (length w) ∷ []))) (rw (← (rows-append (trayRows s es) (textRows t ++ (workRow (length w) ∷ [])))) (c .silent))
+  parts = both-silent (firstRow (trayRows s es)) (firstRow (textRows t ++ (workRow (length w) ∷ [])))
+      (rw (← (rows-append (trayRows s es) (textRows t ++ (workRow (length w) ∷ [])))) (c .silent))
 
-  text-parts : (row 12 (ltb maxText (length t)) 0 .number ≡ 0) × (orElse (row 13 (leb 1 (badPlace 1 t)) (badPlace 1 t)) (orElse (workRow (length w)) accepted) .number ≡ 0)
-  text-parts = both-silent (row 12 (ltb maxText (length t)) 0) (orElse (row 13 (leb 1 (badPlace 1 t)) (badPlace 1 t)) (orElse (workRow (length w)) accepted)) (parts .1)
+  text-parts : (row 12 (ltb maxText (length t)) 0 .number ≡ 0) ×
+      (orElse (row 13 (leb 1 (badPlace 1 t)) (badPlace 1 t)) (orElse (workRow (length w)) accepted) .number ≡ 0)
+  text-parts = both-silent (row 12 (ltb maxText (length t)) 0)
+      (orElse (row 13 (leb 1 (badPlace 1 t)) (badPlace 1 t)) (orElse (workRow (length w)) accepted)) (parts .1)
 
   work-parts : workRow (length w) .number ≡ 0
   work-parts =

@@ -19,7 +19,7 @@ use Rattle.matching.specs.Occurrences.{occurrences}
 use Rattle.scanning.proofs.Scans.{able-few}
 use Rattle.finding.specs.declared.Found.{Found}
 use Rattle.finding.specs.Answers.{flatFound}
-use Rattle.finding.specs.Steps.{foundAt, Ready, Next, FlatTo, CanFlat, Flattened}
+use Rattle.finding.specs.Steps.{Ready, Next, FlatTo, CanFlat, Flattened}
 use Rattle.finding.proofs.Telling.{Telling, telling-start, telling-ready, telling-more}
 
 over-two : (xs old : List ℕ) (n a b : ℕ) → length xs ≡ n → n + 1 < length old → set (set (over xs old) n a) (n + 1) b ≡ over (xs ++ (a ∷ (b ∷ []))) old
@@ -87,7 +87,8 @@ module _ {s es t : List ℕ} {count : ℕ} {w₀ w o₀ o : List ℕ} {i : ℕ} 
           found-are =
               rw (a, b)
               (ap (λ (z : List ℕ). set (set z (2 * i) (getD os i (O.found 0 0) .end)) (2 * i + 1) (getD os i (O.found 0 0) .which)) (F .found-are)
-              ∙ over-two (flatFound (take i os)) o₀ (2 * i) (getD os i (O.found 0 0) .end) (getD os i (O.found 0 0) .which) written-length (omega (arith, F .room))
+              ∙ over-two (flatFound (take i os)) o₀ (2 * i) (getD os i (O.found 0 0) .end) (getD os i (O.found 0 0) .which) written-length
+              (omega (arith, F .room))
               ∙ ap (λ (z : List ℕ). over z o₀) (sym (flat-suc os i (omega (arith, F .telling .upto)))));
           same = rw (length-set, length-set) (F .same);
         }

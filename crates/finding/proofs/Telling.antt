@@ -14,7 +14,7 @@ use Rattle.tables.specs.Tables.{Got}
 use Rattle.matching.specs.Occurrences as O
 use Rattle.matching.specs.Occurrences.{occurrences}
 use Rattle.layout.specs.Tables.{cell}
-use Rattle.layout.specs.Numbered.{Numbered, Kept}
+use Rattle.layout.specs.Numbered.{Numbered}
 use Rattle.layout.proofs.Frames.{kept-lower}
 use Rattle.scanning.specs.declared.Scan.{Scan}
 use Rattle.scanning.specs.Scanning.{SCAN, Standing, Ahead, Reached, Reportable, Passed, scanIn, CanKeep, Loadable, Keeps}
@@ -22,7 +22,7 @@ use Rattle.scanning.proofs.Scans.{reportable-found}
 use Rattle.scanning.proofs.Keeping.{standing-kept, standing-keeps}
 use Rattle.finding.specs.declared.Found.{Found}
 use Rattle.finding.specs.Answers.{recordOf}
-use Rattle.finding.specs.Steps.{scanAt, foundAt, Ready, Next, Enough, Left}
+use Rattle.finding.specs.Steps.{scanAt, Ready, Next, Enough, Left}
 
 module _ {s es t : List ℕ} {n count : ℕ} {w : List ℕ} {x y : Scan} (q : Reached s es t n count w x y) where
   pub reached-end : y .read < 4294967296
@@ -57,7 +57,8 @@ module _ {s es t w : List ℕ} {i : ℕ} (R : Ready s es t i w) where
       done-is : y .done ≡ i
       done-is = q .done ∙ ap (λ (v : Scan). v .done) e
 
-      pub ready-told : {z : Scan} {w′ : List ℕ} → Passed s es t (length es) nodes w y z → Keeps w z w′ → Next s es t i w w′ (record { end = y .read; slip = y .slip })
+      pub ready-told : {z : Scan} {w′ : List ℕ} → Passed s es t (length es) nodes w y z → Keeps w z w′ →
+          Next s es t i w w′ (record { end = y .read; slip = y .slip })
       ready-told {z} {w′} p k =
           let os = occurrences (slipsOf s es) t in
           let same-count : cell w′ SCAN 0 ≡ nodes = k .below .cells (SCAN + 0) (omega arith) ∙ sym (g .is) in

@@ -10,7 +10,6 @@
 --   Answered .. w w′ k r  == r is the answer, and the work area is as it may be
 --   FindSays, FlatSays    == what finding promises, with a lent list of records and with one of numbers
 use mathlib.Core.Path.{_≡_}
-use mathlib.Core.Bool.{Bool, true, false}
 use mathlib.Core.List.{List, [], _∷_, _++_, map}
 use Prim.Native.Nat.{ℕ, zero, suc, _*_, _/_, _≤_}
 use lib.Dec.{ltb, leb}

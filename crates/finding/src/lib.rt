@@ -156,7 +156,8 @@ fn scan_found(
     count: usize,
 )
     requires { ⌜ (count ≤ length (now found)) × T.Enough (now letters) (now ends) (now text) count (now work) ⌝ }
-    ensures { λ _. ⌜ (now (found .exit) ≡ over (firsts (T.foundAt (now (letters .entry)) (now (ends .entry)) (now (text .entry))) count) (now (found .entry))) × T.Left (now (letters .entry)) (now (ends .entry)) (now (text .entry)) count (now (work .entry)) (now (work .exit)) ⌝ }
+    ensures { λ _. ⌜ (now (found .exit) ≡ over (firsts (T.foundAt (now (letters .entry)) (now (ends .entry)) (now (text .entry))) count) (now (found .entry)))
+        × T.Left (now (letters .entry)) (now (ends .entry)) (now (text .entry)) count (now (work .entry)) (now (work .exit)) ⌝ }
 {
     let mut i = 0;
     while i < count {
@@ -173,7 +174,8 @@ pub fn find_slips(
     work: &mut [u16],
     found: &mut [Found],
 ) -> Search
-    ensures { λ r. ⌜ F.FindSays (now (letters .entry)) (now (ends .entry)) (now (text .entry)) (now (work .entry)) (now (work .exit)) (now (found .entry)) (now (found .exit)) r ⌝ }
+    ensures { λ r. ⌜ F.FindSays (now (letters .entry)) (now (ends .entry)) (now (text .entry)) (now (work .entry)) (now (work .exit))
+        (now (found .entry)) (now (found .exit)) r ⌝ }
 {
     let room = found.len();
     let a = find_core(letters, ends, text, &mut *work, room);
@@ -197,7 +199,8 @@ fn scan_flat(
     count: usize,
 )
     requires { ⌜ T.CanFlat (now letters) (now ends) (now text) count (now work) (now found) ⌝ }
-    ensures { λ _. ⌜ T.Flattened (now (letters .entry)) (now (ends .entry)) (now (text .entry)) count (now (work .entry)) (now (work .exit)) (now (found .entry)) (now (found .exit)) ⌝ }
+    ensures { λ _. ⌜ T.Flattened (now (letters .entry)) (now (ends .entry)) (now (text .entry)) count (now (work .entry)) (now (work .exit))
+        (now (found .entry)) (now (found .exit)) ⌝ }
 {
     let mut i: usize = 0;
     while i < count {
@@ -217,7 +220,8 @@ pub fn find_flat(
     work: &mut [u16],
     found: &mut [u32],
 ) -> Search
-    ensures { λ r. ⌜ F.FlatSays (now (letters .entry)) (now (ends .entry)) (now (text .entry)) (now (work .entry)) (now (work .exit)) (now (found .entry)) (now (found .exit)) r ⌝ }
+    ensures { λ r. ⌜ F.FlatSays (now (letters .entry)) (now (ends .entry)) (now (text .entry)) (now (work .entry)) (now (work .exit))
+        (now (found .entry)) (now (found .exit)) r ⌝ }
 {
     let room = found.len() / 2;
     let a = find_core(letters, ends, text, work, room);

@@ -15,7 +15,8 @@ use lib.Seq.{length-take-le}
 use Rattle.words.specs.Lists.{those, any, inOrder}
 use Rattle.words.specs.Words.{begins, before}
 use Rattle.words.proofs.Tests.{tell, not-both, neither}
-use Rattle.words.proofs.Members.{In, by-in, Asc, Less, each-in, in-each, those-yes, those-no, those-in, in-those, in-any, any-in, asc-those, asc-one, inOrder-sorts}
+use Rattle.words.proofs.Members.{In, by-in, Asc, Less, each-in, in-each, those-yes, those-no, those-in}
+use Rattle.words.proofs.Members.{in-those, in-any, any-in, asc-those, asc-one, inOrder-sorts}
 use Rattle.words.proofs.Orders.{down, strings, lex-irr, lex-tr, lex-con}
 use Rattle.words.proofs.Strings.{begins-take, begins-prefix, begins-length}
 use Rattle.trays.specs.Slips.{slip}

@@ -75,7 +75,8 @@ module _ (ss : List (List ℕ)) where
   ties-asc K xs a b =
       asc-each (Less sooner) (Prior ss) (ties ss K K) xs b
       (λ x. asc-each _<_ (Prior ss) (tiesTo ss K x) K a
-      (λ r. asc-each _<_ (Prior ss) (tie ss x r) K a (λ l. asc-cond (Prior ss) (begins x (slip ss r) && endsProperly x (slip ss l)) (join l r (length x))) (λ l k c d h m n.
+      (λ r. asc-each _<_ (Prior ss) (tie ss x r) K a
+      (λ l. asc-cond (Prior ss) (begins x (slip ss r) && endsProperly x (slip ss l)) (join l r (length x))) (λ l k c d h m n.
       let (e, f, t) = in-tie ss x r l c m in
       let (p, q, u) = in-tie ss x r k d n in
       firstArc-numbers x c d (lex-then up (c .right) (d .right) (ltb (c .left) (d .left)) (f ∙ sym q) (rw (e, p) (lt-ltb l k h))) t u))
@@ -140,7 +141,8 @@ module _ (counts : List ℕ → Bool) (ss : List (List ℕ)) (K : List ℕ) wher
           | yes e ↦ inl (refused-last (c .left) (c .right) [] (sym e))
           | no ne ↦ inr (
             d,
-            arcs-sorted counts ss K .into d (arcs-in counts ss K (R .rule) d (record { left-in = l; right-in = r; other = ne; size = refl; counted = counted })),
+            arcs-sorted counts ss K .into d
+                (arcs-in counts ss K (R .rule) d (record { left-in = l; right-in = r; other = ne; size = refl; counted = counted })),
             refl,
             refl,
             firstArc-not ss c d refl refl (omega (arith, t .size, met-overlap x s y (t .ends) (t .starts))),

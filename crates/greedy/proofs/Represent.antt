@@ -16,7 +16,8 @@ use lib.ListN.{length, length-append}
 use borrow.Author.Tests.{eqb-true, eqb-false, eq-eqb, ne-eqb}
 use Rattle.words.specs.Lists.{lastOr, inOrder}
 use Rattle.words.proofs.Tests.{tell, not-both}
-use Rattle.words.proofs.Sums.{sum, All, is, held, sum-append, sum-cut, all-append, all-split, all-cut, all-where, held-first, held-last, all-held, all-of, all-in, all-at, in-held}
+use Rattle.words.proofs.Sums.{sum, All, is, held, sum-append, sum-cut, all-append, all-split, all-cut}
+use Rattle.words.proofs.Sums.{all-where, held-first, held-last, all-held, all-of, all-in, all-at, in-held}
 use Rattle.words.proofs.Overlaps.{overlapFor-yes}
 use Rattle.trays.specs.Slips.{slip}
 use Rattle.greedy.specs.Joins.{Join, rightOf, leftOf, lastOf, free, takeArcs, arcs, firstArc, plainFor, saved as savedBy}
@@ -146,7 +147,8 @@ module _ (w : ℕ → ℕ → ℕ) (K : List ℕ) (once : (x : ℕ) → held x K
   rep-more A B X Y Cs ea eb sums rA rB rs r =
       let C = merged A B in
       let more = js ++ (j ∷ []) in
-      let sums-more : (f : Chain → ℕ) → sum f (X ++ (C ∷ Y)) + f A + f B ≡ f C + sum f Cs = λ f. omega (arith, sums f, sum-append f X Y, sum-append f X (C ∷ Y)) in
+      let sums-more : (f : Chain → ℕ) → sum f (X ++ (C ∷ Y)) + f A + f B ≡ f C + sum f Cs =
+      λ f. omega (arith, sums f, sum-append f X Y, sum-append f X (C ∷ Y)) in
       let in-l : Chain → ℕ = λ D. held (j .left) (whole D) in
       let in-r : Chain → ℕ = λ D. held (j .right) (whole D) in
       let hl = held-last (j .left) (A .first) (A .rest) ea in

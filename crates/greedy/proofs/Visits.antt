@@ -21,7 +21,8 @@ use Rattle.words.proofs.Members.{In, Asc, in-each, each-in, in-those, those-yes
 use Rattle.trays.specs.Slips.{slip}
 use Rattle.greedy.specs.Joins.{Join, join, rightOf, leftOf, lastOf, free, takeArcs}
 use Rattle.greedy.specs.Walk.{waiting, behind, visitSlip, visit, walkFrom}
-use Rattle.greedy.proofs.Takes.{Sound, by-zero, some-eqb, in-cond, leftOf-joined, refused-right, refused-left, refused-last, take-append, take-none, sound-take}
+use Rattle.greedy.proofs.Takes.{Sound, by-zero, some-eqb, in-cond, leftOf-joined, refused-right}
+use Rattle.greedy.proofs.Takes.{refused-left, refused-last, take-append, take-none, sound-take}
 
 -- 0, or a member
 headOr-in : (ws : List ℕ) → (headOr 0 ws ≡ 0) ⊎ In (headOr 0 ws) ws

@@ -4,7 +4,7 @@
 --   waiting ss x K js        == the slips that wait at the beginning x
 --   behind r ws js           == the waiting slip behind which slip r is joined, 0 for none
 --   walkFor counts ss K      == the joins of the walk
-use mathlib.Core.Bool.{Bool, true, false, cond, _&&_, _||_}
+use mathlib.Core.Bool.{Bool, cond, _&&_, _||_}
 use mathlib.Core.List.{List, [], _∷_, _++_}
 use Prim.Native.Nat.{ℕ, zero, suc}
 use lib.Dec.{eqb, ltb, leb}

@@ -52,7 +52,8 @@ chain-none right overs zero o = refl
 chain-none right overs (suc n) o = refl
 
 -- a chain's first piece and the rest
-chain-next : (right overs : List ℕ) (n i o : ℕ) → 0 < n → (i ≡ 0 → ⊥) → chainBy right overs n i o ≡ piece i o ∷ chainBy right overs (n - 1) (getD right (i - 1) 0) (getD overs (i - 1) 0)
+chain-next : (right overs : List ℕ) (n i o : ℕ) → 0 < n → (i ≡ 0 → ⊥) →
+    chainBy right overs n i o ≡ piece i o ∷ chainBy right overs (n - 1) (getD right (i - 1) 0) (getD overs (i - 1) 0)
 chain-next right overs zero i o h z = absurd (omega arith)
 chain-next right overs (suc n) zero o h z = absurd (z refl)
 chain-next right overs (suc n) (suc i) o h z = rw (sub-one (suc n), sub-one (suc i))
@@ -60,7 +61,8 @@ chain-next right overs (suc n) (suc i) o h z = rw (sub-one (suc n), sub-one (suc
 pub writing-start : (right overs : List ℕ) (n i : ℕ) (xs : List ℕ) (m : ℕ) → ChainAsks right overs n i xs m → Writing right overs n i xs m m i 0 n xs
 writing-start right overs n i xs m a = record { pieces-are = refl; count-is = refl; small = a .small; over-small = omega arith; same = refl }
 
-module _ (right overs : List ℕ) (n i : ℕ) (xs₀ : List ℕ) (m : ℕ) (a : ChainAsks right overs n i xs₀ m) (count slip shared left : ℕ) (xs : List ℕ) (w : Writing right overs n i xs₀ m count slip shared left xs) where
+module _ (right overs : List ℕ) (n i : ℕ) (xs₀ : List ℕ) (m : ℕ) (a : ChainAsks right overs n i xs₀ m) (count slip shared left : ℕ) (xs : List ℕ)
+    (w : Writing right overs n i xs₀ m count slip shared left xs) where
   pub writing-stop : slip ≡ 0 → Flattened (chainBy right overs n i 0) m xs₀ xs count
   writing-stop z =
       let e : chainBy right overs left slip shared ≡ [] = rw z (chain-none right overs left shared) in
@@ -90,7 +92,9 @@ module _ (right overs : List ℕ) (n i : ℕ) (xs₀ : List ℕ) (m : ℕ) (a : 
     pub writing-cells : 2 * count + 1 < length xs
     writing-cells = omega (arith, writing-room, a .cells, w .same)
 
-    pub writing-turn : (xs′ : List ℕ) (slip′ shared′ : ℕ) → PieceLaid xs count slip shared xs′ → (shared′ ≡ getD overs (slip - 1) 0) × (shared′ < 65536) → (slip′ ≡ getD right (slip - 1) 0) × (slip′ < 65536) → Writing right overs n i xs₀ m (count + 1) slip′ shared′ (left - 1) xs′
+    pub writing-turn : (xs′ : List ℕ) (slip′ shared′ : ℕ) → PieceLaid xs count slip shared xs′ →
+        (shared′ ≡ getD overs (slip - 1) 0) × (shared′ < 65536) → (slip′ ≡ getD right (slip - 1) 0) × (slip′ < 65536) →
+        Writing right overs n i xs₀ m (count + 1) slip′ shared′ (left - 1) xs′
     writing-turn xs′ slip′ shared′ p o r =
         let e : chainBy right overs left slip shared ≡ piece slip shared ∷ chainBy right overs (left - 1) slip′ shared′ = next ∙ rw (o .0, r .0) in
         record {

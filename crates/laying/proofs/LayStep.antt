@@ -14,7 +14,8 @@ use Rattle.greedy.specs.Legends.{added, spelled}
 use Rattle.laying.specs.Laying.{pieceAt, staged, CanLayOne, LaidOne, CanLay}
 
 -- the part `&part[shared..]` is what the piece adds
-module _ (s es xs : List ℕ) (k room i o : ℕ) (part : List ℕ) (c : CanLayOne s es xs k room) (hi : i ≡ getD xs (2 * k) 0) (ho : o ≡ getD xs (2 * k + 1) 0) (hp : part ≡ slip (slipsOf s es) i) where
+module _ (s es xs : List ℕ) (k room i o : ℕ) (part : List ℕ) (c : CanLayOne s es xs k room) (hi : i ≡ getD xs (2 * k) 0)
+    (ho : o ≡ getD xs (2 * k + 1) 0) (hp : part ≡ slip (slipsOf s es) i) where
   pub piece-within : o ≤ length part
   piece-within = rw (ho, hp, hi) (c .fits .within)
 
@@ -24,7 +25,8 @@ module _ (s es xs : List ℕ) (k room i o : ℕ) (part : List ℕ) (c : CanLayOn
   pub piece-room : length (take (length part - o) (drop o part)) ≤ room
   piece-room = rw piece-added (c .room-is)
 
-  pub piece-laid : (l l′ : List ℕ) → l′ ≡ over (take (length part - o) (drop o part)) l → LaidOne (slipsOf s es) (pieceAt xs k) l l′ (length (take (length part - o) (drop o part)))
+  pub piece-laid : (l l′ : List ℕ) → l′ ≡ over (take (length part - o) (drop o part)) l →
+      LaidOne (slipsOf s es) (pieceAt xs k) l l′ (length (take (length part - o) (drop o part)))
   piece-laid l l′ e = record { letters-are = rw piece-added at e; count-is = rw piece-added }
 
 rest-is : (l : List ℕ) (r : ℕ) → take (length l - r) (drop r l) ≡ drop r l
@@ -51,7 +53,8 @@ module _ (s es xs : List ℕ) where
         let o = lay-one k n (length l) z c in
         rw (d .letters-are, d .count-is, length-over (added (slipsOf s es) (pieceAt xs k)) l (o .room-is)) (o .room-is)
 
-  pub lay-rest : (k n r : ℕ) (l l′ m : List ℕ) → (n ≡ 0 → ⊥) → CanLay s es xs k n (length l) → LaidOne (slipsOf s es) (pieceAt xs k) l l′ r → m ≡ take (length l′ - r) (drop r l′) → CanLay s es xs (k + 1) (n - 1) (length m)
+  pub lay-rest : (k n r : ℕ) (l l′ m : List ℕ) → (n ≡ 0 → ⊥) → CanLay s es xs k n (length l) → LaidOne (slipsOf s es) (pieceAt xs k) l l′ r →
+      m ≡ take (length l′ - r) (drop r l′) → CanLay s es xs (k + 1) (n - 1) (length m)
   lay-rest k zero r l l′ m z c d h = absurd (z refl)
   lay-rest k (suc n) r l l′ m z c d h =
       let o = lay-one k (suc n) (length l) z c in
@@ -66,7 +69,9 @@ module _ (s es xs : List ℕ) where
       })
 
   -- what comes back: the piece, and the rest in its part of the legend
-  pub lay-both : (k n r : ℕ) (l l′ m m′ : List ℕ) → (n ≡ 0 → ⊥) → CanLay s es xs k n (length l) → LaidOne (slipsOf s es) (pieceAt xs k) l l′ r → m ≡ take (length l′ - r) (drop r l′) → m′ ≡ over (spelled (slipsOf s es) (staged xs (k + 1) (n - 1))) m → putMid r (length l′ - r) l′ m′ ≡ over (spelled (slipsOf s es) (staged xs k n)) l
+  pub lay-both : (k n r : ℕ) (l l′ m m′ : List ℕ) → (n ≡ 0 → ⊥) → CanLay s es xs k n (length l) → LaidOne (slipsOf s es) (pieceAt xs k) l l′ r →
+      m ≡ take (length l′ - r) (drop r l′) → m′ ≡ over (spelled (slipsOf s es) (staged xs (k + 1) (n - 1))) m →
+      putMid r (length l′ - r) l′ m′ ≡ over (spelled (slipsOf s es) (staged xs k n)) l
   lay-both k zero r l l′ m m′ z c d h e = absurd (z refl)
   lay-both k (suc n) r l l′ m m′ z c d h e =
       let u : r ≤ length l′ = lay-fits k (suc n) r l l′ z c d in

@@ -14,7 +14,9 @@ use Rattle.greedy.specs.Joins.{Join, rightOf, leftOf}
 use Rattle.greedy.specs.Legends.{Piece, piece, overlapAfter, chainFrom, chainAt, pieces}
 use Rattle.laying.specs.Chains.{chainBy, chainOf, piecesBy}
 
-module _ (js : List Join) (left right overs : List ℕ) (left-is : (i : ℕ) → i < maxSlips → getD left i 0 ≡ leftOf (suc i) js) (right-is : (i : ℕ) → i < maxSlips → getD right i 0 ≡ rightOf (suc i) js) (over-is : (i : ℕ) → i < maxSlips → getD overs i 0 ≡ overlapAfter (suc i) js) (small : (i : ℕ) → rightOf i js ≤ maxSlips) where
+module _ (js : List Join) (left right overs : List ℕ) (left-is : (i : ℕ) → i < maxSlips → getD left i 0 ≡ leftOf (suc i) js)
+    (right-is : (i : ℕ) → i < maxSlips → getD right i 0 ≡ rightOf (suc i) js)
+    (over-is : (i : ℕ) → i < maxSlips → getD overs i 0 ≡ overlapAfter (suc i) js) (small : (i : ℕ) → rightOf i js ≤ maxSlips) where
   chain-by : (n i o : ℕ) → i ≤ maxSlips → chainBy right overs n i o ≡ chainFrom n js i o
   chain-by zero i o h = refl
   chain-by (suc n) zero o h = refl

@@ -14,7 +14,8 @@ use Rattle.laying.specs.Laying.{staged}
 use Rattle.laying.specs.Chains.{chainBy, chainOf, piecesBy, PiecesAsk, AddAsks, ChainAsks, Flattened}
 
 -- one slip: its chain, if it begins one
-module _ (left right overs : List ℕ) (n i : ℕ) (xs : List ℕ) (m mark : ℕ) (a : AddAsks left right overs n i xs m) (w : (mark ≡ getD left (i - 1) 0) × (mark < 65536)) where
+module _ (left right overs : List ℕ) (n i : ℕ) (xs : List ℕ) (m mark : ℕ) (a : AddAsks left right overs n i xs m)
+    (w : (mark ≡ getD left (i - 1) 0) × (mark < 65536)) where
   pub add-none : (mark ≡ 0 → ⊥) → Flattened (chainOf left right overs n i) m xs xs m
   add-none z =
       let e : chainOf left right overs n i ≡ [] = rw (ne-eqb (getD left (i - 1) 0) 0 (λ q. z (w .0 ∙ q)), chainOf) in
@@ -60,7 +61,11 @@ module _ (kept : List ℕ) (n : ℕ) (left right overs : List ℕ) (turns : ℕ)
     fits =
         let e : length (by (take n kept)) ≡ length (by (take (suc k) kept)) + length (by (drop (suc k) (take n kept))) =
         ap (λ (K : List ℕ). length (by K)) (sym (take-append-drop (suc k) (take n kept)))
-        ∙ rw (each-append (chainOf left right overs turns) (take (suc k) (take n kept)) (drop (suc k) (take n kept)), length-append, take-take (suc k) n kept l) in
+        ∙ rw (
+          each-append (chainOf left right overs turns) (take (suc k) (take n kept)) (drop (suc k) (take n kept)),
+          length-append,
+          take-take (suc k) n kept l,
+        ) in
         omega (arith, a .room)
 
     pub pieces-asks : AddAsks left right overs turns slip xs count

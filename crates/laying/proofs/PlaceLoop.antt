@@ -61,7 +61,8 @@ module _ (x t : List ℕ) (p k : ℕ) (s : lowest 1 x t ≡ lowest (p + 1) x (dr
   whole-here h = place-here x t p s l (agree-whole x t p k h a)
 
 -- the value with which the trial is left
-pub left-whole : (x t : List ℕ) (p k f : ℕ) → lowest 1 x t ≡ lowest (p + 1) x (drop p t) → p < length t → Agrees x t p k → length x ≤ k → f ≡ p → f + 1 ≡ lowest 1 x t
+pub left-whole : (x t : List ℕ) (p k f : ℕ) → lowest 1 x t ≡ lowest (p + 1) x (drop p t) → p < length t → Agrees x t p k → length x ≤ k → f ≡ p →
+    f + 1 ≡ lowest 1 x t
 left-whole x t p k f s l a h e = rw e (whole-here x t p k s l a h)
 
 pub left-end : (x t : List ℕ) (p f : ℕ) → lowest 1 x t ≡ lowest (p + 1) x (drop p t) → length t ≤ p → f ≡ p → f + 1 ≡ lowest 1 x t

@@ -31,15 +31,19 @@ Within n (p ∷ ps) = (p .number ≤ n) × Within n ps
 
 module _ (ss : List (List ℕ)) where
   -- the cells of another slip are kept
-  put-other : (xs : List ℕ) (p : Piece) (here k j : ℕ) → 1 ≤ p .number → (p .number ≡ suc k → ⊥) → (j ≡ 2 * k) → (getD (putPlace xs p here) j 0 ≡ getD xs j 0) × (getD (putPlace xs p here) (j + 1) 0 ≡ getD xs (j + 1) 0)
+  put-other : (xs : List ℕ) (p : Piece) (here k j : ℕ) → 1 ≤ p .number → (p .number ≡ suc k → ⊥) → (j ≡ 2 * k) →
+      (getD (putPlace xs p here) j 0 ≡ getD xs j 0) × (getD (putPlace xs p here) (j + 1) 0 ≡ getD xs (j + 1) 0)
   put-other xs p here k j one ne e =
       let f : p .number - 1 ≡ k → ⊥ = λ q. ne (omega arith) in
       let a : List ℕ = set xs (2 * (p .number - 1)) (here - p .overlap) in (
-        getD-set-other a (2 * (p .number - 1) + 1) j 1 0 (λ q. omega arith) ∙ getD-set-other xs (2 * (p .number - 1)) j (here - p .overlap) 0 (λ q. f (omega arith)),
-        getD-set-other a (2 * (p .number - 1) + 1) (j + 1) 1 0 (λ q. f (omega arith)) ∙ getD-set-other xs (2 * (p .number - 1)) (j + 1) (here - p .overlap) 0 (λ q. omega arith),
+        getD-set-other a (2 * (p .number - 1) + 1) j 1 0 (λ q. omega arith) ∙ getD-set-other xs (2 * (p .number - 1)) j (here - p .overlap) 0
+            (λ q. f (omega arith)),
+        getD-set-other a (2 * (p .number - 1) + 1) (j + 1) 1 0 (λ q. f (omega arith))
+            ∙ getD-set-other xs (2 * (p .number - 1)) (j + 1) (here - p .overlap) 0 (λ q. omega arith),
       )
 
-  put-same : (xs : List ℕ) (p : Piece) (here k j : ℕ) → p .number ≡ suc k → j ≡ 2 * k → j + 1 < length xs → (getD (putPlace xs p here) j 0 ≡ here - p .overlap) × (getD (putPlace xs p here) (j + 1) 0 ≡ 1)
+  put-same : (xs : List ℕ) (p : Piece) (here k j : ℕ) → p .number ≡ suc k → j ≡ 2 * k → j + 1 < length xs →
+      (getD (putPlace xs p here) j 0 ≡ here - p .overlap) × (getD (putPlace xs p here) (j + 1) 0 ≡ 1)
   put-same xs p here k j n e l =
       let f : 2 * (p .number - 1) ≡ j = omega arith in
       rw f (
@@ -55,7 +59,8 @@ module _ (ss : List (List ℕ)) where
   placed-length (p ∷ ps) xs here = placed-length ps (putPlace xs p here) (here + length (added ss p)) ∙ put-length xs p here
 
   -- slip k + 1 is not among the pieces: its cells are kept
-  pub placed-other : (ps : List Piece) (xs : List ℕ) (here k j : ℕ) → Once ps → laid (suc k) ps ≡ false → j ≡ 2 * k → (getD (placedBy ss xs here ps) j 0 ≡ getD xs j 0) × (getD (placedBy ss xs here ps) (j + 1) 0 ≡ getD xs (j + 1) 0)
+  pub placed-other : (ps : List Piece) (xs : List ℕ) (here k j : ℕ) → Once ps → laid (suc k) ps ≡ false → j ≡ 2 * k →
+      (getD (placedBy ss xs here ps) j 0 ≡ getD xs j 0) × (getD (placedBy ss xs here ps) (j + 1) 0 ≡ getD xs (j + 1) 0)
   placed-other [] xs here k j o h e = (refl, refl)
   placed-other (p ∷ ps) xs here k j o h e =
       let n = neither (eqb (suc k) (p .number)) (laid (suc k) ps) h in
@@ -64,7 +69,8 @@ module _ (ss : List (List ℕ)) where
       (r .0 ∙ a .0, r .1 ∙ a .1)
 
   -- it is: its place there, and the mark
-  pub placed-here : (ps : List Piece) (xs : List ℕ) (here k j : ℕ) → Once ps → laid (suc k) ps ≡ true → j ≡ 2 * k → j + 1 < length xs → (getD (placedBy ss xs here ps) j 0 ≡ placeIn ss (suc k) here ps) × (getD (placedBy ss xs here ps) (j + 1) 0 ≡ 1)
+  pub placed-here : (ps : List Piece) (xs : List ℕ) (here k j : ℕ) → Once ps → laid (suc k) ps ≡ true → j ≡ 2 * k → j + 1 < length xs →
+      (getD (placedBy ss xs here ps) j 0 ≡ placeIn ss (suc k) here ps) × (getD (placedBy ss xs here ps) (j + 1) 0 ≡ 1)
   placed-here [] xs here k j o h e l = absurd (no h)
     where
       no : false ≡ true → ⊥
@@ -100,10 +106,12 @@ module _ (ss : List (List ℕ)) where
     not-yet xs zero k h = refl
     not-yet xs (suc n) k h = at-other (asideBy ss t xs n) n (2 * k) (λ q. omega arith) ∙ not-yet xs n k (omega arith)
 
-    here-now : (xs : List ℕ) (k : ℕ) → 2 * k < length xs → getD (asideAt ss t xs k) (2 * k) 0 ≡ cond (eqb (getD xs (2 * k + 1) 0) 0) (lowest 1 (slip ss (suc k)) t) (getD xs (2 * k) 0)
+    here-now : (xs : List ℕ) (k : ℕ) → 2 * k < length xs →
+        getD (asideAt ss t xs k) (2 * k) 0 ≡ cond (eqb (getD xs (2 * k + 1) 0) 0) (lowest 1 (slip ss (suc k)) t) (getD xs (2 * k) 0)
     here-now xs k h = by-test (eqb (getD xs (2 * k + 1) 0) 0) (λ e. rw e (getD-set-same xs (2 * k) _ 0 h)) (λ e. rw e)
 
-    pub aside-cell : (xs : List ℕ) (n k : ℕ) → k < n → 2 * k < length xs → getD (asideBy ss t xs n) (2 * k) 0 ≡ cond (eqb (getD xs (2 * k + 1) 0) 0) (lowest 1 (slip ss (suc k)) t) (getD xs (2 * k) 0)
+    pub aside-cell : (xs : List ℕ) (n k : ℕ) → k < n → 2 * k < length xs →
+        getD (asideBy ss t xs n) (2 * k) 0 ≡ cond (eqb (getD xs (2 * k + 1) 0) 0) (lowest 1 (slip ss (suc k)) t) (getD xs (2 * k) 0)
     aside-cell xs zero k h l = absurd (omega arith)
     aside-cell xs (suc n) k h l =
         elim (ℕ-discrete n k) [

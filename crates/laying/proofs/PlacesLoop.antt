@@ -16,11 +16,14 @@ use Rattle.laying.specs.Laying.{pieceAt, staged}
 use Rattle.laying.specs.Places.{putPlace, placedBy, asideAt, asideBy, Placeable, PlaceAsks, PlacedOne, PlacesAsk, AsideAsks}
 
 -- one piece
-module _ (s es ps : List ℕ) (q here : ℕ) (xs : List ℕ) (slip′ shared : ℕ) (part : List ℕ) (a : PlaceAsks s es ps q here xs) (hi : (slip′ ≡ getD ps (2 * q) 0) × (slip′ < 65536)) (ho : (shared ≡ getD ps (2 * q + 1) 0) × (shared < 65536)) (hp : part ≡ slip (slipsOf s es) slip′) where
+module _ (s es ps : List ℕ) (q here : ℕ) (xs : List ℕ) (slip′ shared : ℕ) (part : List ℕ) (a : PlaceAsks s es ps q here xs)
+    (hi : (slip′ ≡ getD ps (2 * q) 0) × (slip′ < 65536)) (ho : (shared ≡ getD ps (2 * q + 1) 0) × (shared < 65536))
+    (hp : part ≡ slip (slipsOf s es) slip′) where
   pub place-within : shared ≤ length part
   place-within = rw (ho .0, hp, hi .0) (a .within)
 
-  pub place-put : (xs′ : List ℕ) → xs′ ≡ set (set xs (2 * (slip′ - 1)) (here - shared)) (2 * (slip′ - 1) + 1) 1 → PlacedOne (slipsOf s es) (pieceAt ps q) here xs xs′ (here + (length part - shared))
+  pub place-put : (xs′ : List ℕ) → xs′ ≡ set (set xs (2 * (slip′ - 1)) (here - shared)) (2 * (slip′ - 1) + 1) 1 →
+      PlacedOne (slipsOf s es) (pieceAt ps q) here xs xs′ (here + (length part - shared))
   place-put xs′ e =
       record {
         places-are = e ∙ rw (hi .0, ho .0);
@@ -64,7 +67,8 @@ module _ (s es ps : List ℕ) (n : ℕ) (xs₀ : List ℕ) (a : PlacesAsk s es p
     pub placing-turn : (xs′ : List ℕ) (r : ℕ) → PlacedOne (slipsOf s es) (pieceAt ps q) here xs xs′ r → Placing s es ps n xs₀ (q + 1) r xs′
     placing-turn xs′ r o =
         let f : Placeable s es here (pieceAt ps q ∷ staged ps (suc q) (n - suc q)) = rw rest at (p .fits) in
-        let d : placedBy (slipsOf s es) xs here (pieceAt ps q ∷ staged ps (suc q) (n - suc q)) ≡ placedBy (slipsOf s es) xs₀ 1 (staged ps 0 n) = rw rest at (p .done) in
+        let d : placedBy (slipsOf s es) xs here (pieceAt ps q ∷ staged ps (suc q) (n - suc q)) ≡ placedBy (slipsOf s es) xs₀ 1 (staged ps 0 n) =
+        rw rest at (p .done) in
         rw (add-one q)
         (record {
           most = l;
@@ -99,7 +103,8 @@ module _ (s es t : List ℕ) (xs₀ : List ℕ) (a : (trayFault s es .number ≡
   pub aside-asks : (i : ℕ) (xs : List ℕ) → i < length es → length xs ≡ length xs₀ → AsideAsks s es t i xs
   aside-asks i xs l e = record { tray = a .0; slips = l; places = omega (arith, a .2); small = a .1 }
 
-  pub aside-turn : (i : ℕ) (xs xs′ : List ℕ) → xs ≡ asideBy (slipsOf s es) t xs₀ i → xs′ ≡ asideAt (slipsOf s es) t xs i → xs′ ≡ asideBy (slipsOf s es) t xs₀ (i + 1)
+  pub aside-turn : (i : ℕ) (xs xs′ : List ℕ) → xs ≡ asideBy (slipsOf s es) t xs₀ i → xs′ ≡ asideAt (slipsOf s es) t xs i →
+      xs′ ≡ asideBy (slipsOf s es) t xs₀ (i + 1)
   aside-turn i xs xs′ e f = rw (add-one i, f, e)
 
   pub aside-same : (i : ℕ) (xs xs′ : List ℕ) → length xs ≡ length xs₀ → xs′ ≡ asideAt (slipsOf s es) t xs i → length xs′ ≡ length xs₀

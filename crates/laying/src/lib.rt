@@ -79,7 +79,8 @@ fn add_chain(
     m: usize,
 ) -> usize
     requires { ⌜ AddAsks (now left) (now right) (now overs) turns slip (now pieces) m ⌝ }
-    ensures { λ r. ⌜ Flattened (chainOf (now (left .entry)) (now (right .entry)) (now (overs .entry)) turns slip) m (now (pieces .entry)) (now (pieces .exit)) r ⌝ }
+    ensures { λ r. ⌜ Flattened (chainOf (now (left .entry)) (now (right .entry)) (now (overs .entry)) turns slip) m
+        (now (pieces .entry)) (now (pieces .exit)) r ⌝ }
 {
     let mark = wide(left[slip - 1]);
     if mark != 0 {
@@ -99,7 +100,8 @@ pub fn all_pieces(
     pieces: &mut [u16],
 ) -> usize
     requires { ⌜ PiecesAsk (now kept) n (now left) (now right) (now overs) turns (now pieces) ⌝ }
-    ensures { λ r. ⌜ Flattened (piecesBy (now (left .entry)) (now (right .entry)) (now (overs .entry)) turns (take n (now (kept .entry)))) 0 (now (pieces .entry)) (now (pieces .exit)) r ⌝ }
+    ensures { λ r. ⌜ Flattened (piecesBy (now (left .entry)) (now (right .entry)) (now (overs .entry)) turns (take n (now (kept .entry)))) 0
+        (now (pieces .entry)) (now (pieces .exit)) r ⌝ }
 {
     let mut count: usize = 0;
     let mut k: usize = 0;
@@ -114,7 +116,8 @@ pub fn all_pieces(
 // Lays the `k`-th piece: its slip's letters beyond the overlap. Answers how many letters that are.
 fn lay_piece(letters: &[u8], ends: &[u16], pieces: &[u16], k: usize, legend: &mut [u8]) -> usize
     requires { ⌜ CanLayOne (now letters) (now ends) (now pieces) k (length (now legend)) ⌝ }
-    ensures { λ r. ⌜ LaidOne (slipsOf (now (letters .entry)) (now (ends .entry))) (pieceAt (now (pieces .entry)) k) (now (legend .entry)) (now (legend .exit)) r ⌝ }
+    ensures { λ r. ⌜ LaidOne (slipsOf (now (letters .entry)) (now (ends .entry))) (pieceAt (now (pieces .entry)) k)
+        (now (legend .entry)) (now (legend .exit)) r ⌝ }
 {
     let slip = wide(pieces[2 * k]);
     let shared = wide(pieces[2 * k + 1]);
@@ -127,7 +130,8 @@ fn lay_piece(letters: &[u8], ends: &[u16], pieces: &[u16], k: usize, legend: &mu
 // Lays the `n` pieces from the `k`-th on: by the first slip, then the rest in the same manner with one slip fewer.
 pub fn lay(letters: &[u8], ends: &[u16], pieces: &[u16], k: usize, n: usize, legend: &mut [u8])
     requires { ⌜ CanLay (now letters) (now ends) (now pieces) k n (length (now legend)) ⌝ }
-    ensures { λ _. ⌜ now (legend .exit) ≡ over (G.spelled (slipsOf (now (letters .entry)) (now (ends .entry))) (staged (now (pieces .entry)) k n)) (now (legend .entry)) ⌝ }
+    ensures { λ _. ⌜ now (legend .exit) ≡ over (G.spelled (slipsOf (now (letters .entry)) (now (ends .entry))) (staged (now (pieces .entry)) k n))
+        (now (legend .entry)) ⌝ }
 {
     if n == 0 {
         return;
@@ -181,7 +185,8 @@ fn put_place(
     places: &mut [u16],
 ) -> usize
     requires { ⌜ PlaceAsks (now letters) (now ends) (now pieces) q here (now places) ⌝ }
-    ensures { λ r. ⌜ PlacedOne (slipsOf (now (letters .entry)) (now (ends .entry))) (pieceAt (now (pieces .entry)) q) here (now (places .entry)) (now (places .exit)) r ⌝ }
+    ensures { λ r. ⌜ PlacedOne (slipsOf (now (letters .entry)) (now (ends .entry))) (pieceAt (now (pieces .entry)) q) here
+        (now (places .entry)) (now (places .exit)) r ⌝ }
 {
     let slip = wide(pieces[2 * q]);
     let shared = wide(pieces[2 * q + 1]);
@@ -193,7 +198,8 @@ fn put_place(
 // Writes the places of the first `n` pieces' slips.
 pub fn kept_places(letters: &[u8], ends: &[u16], pieces: &[u16], n: usize, places: &mut [u16])
     requires { ⌜ PlacesAsk (now letters) (now ends) (now pieces) n (now places) ⌝ }
-    ensures { λ _. ⌜ now (places .exit) ≡ placedBy (slipsOf (now (letters .entry)) (now (ends .entry))) (now (places .entry)) 1 (staged (now (pieces .entry)) 0 n) ⌝ }
+    ensures { λ _. ⌜ now (places .exit) ≡ placedBy (slipsOf (now (letters .entry)) (now (ends .entry))) (now (places .entry)) 1
+        (staged (now (pieces .entry)) 0 n) ⌝ }
 {
     let mut here: usize = 1;
     let mut q: usize = 0;
@@ -219,7 +225,8 @@ fn aside_place(letters: &[u8], ends: &[u16], legend: &[u8], i: usize, places: &m
 // Writes the places of the slips that are not marked as kept.
 pub fn aside_places(letters: &[u8], ends: &[u16], legend: &[u8], places: &mut [u16])
     requires { ⌜ (F.trayFault (now letters) (now ends) .number ≡ 0) × (length (now legend) < 65535) × (2 * length (now ends) ≤ length (now places)) ⌝ }
-    ensures { λ _. ⌜ now (places .exit) ≡ asideBy (slipsOf (now (letters .entry)) (now (ends .entry))) (now (legend .entry)) (now (places .entry)) (length (now (ends .entry))) ⌝ }
+    ensures { λ _. ⌜ now (places .exit) ≡ asideBy (slipsOf (now (letters .entry)) (now (ends .entry))) (now (legend .entry)) (now (places .entry))
+        (length (now (ends .entry))) ⌝ }
 {
     let mut i: usize = 0;
     while i < ends.len() {

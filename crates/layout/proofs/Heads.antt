@@ -3,9 +3,9 @@
 --   member-..     == a member has a letter, and a number up to the most slips
 --   node-most     == the number of a node is at most count
 --   headed-kept   == what is written behind TWIN leaves HEAD and TWIN as they are
-use mathlib.Core.Path.{_≡_, refl, sym, ap, _∙_}
+use mathlib.Core.Path.{_≡_, refl}
 use mathlib.Core.List.{List, [], _∷_, List·Memᴰ·head, List·Memᴰ·tail}
-use Prim.Native.Nat.{ℕ, _+_, _≤_, _<_}
+use Prim.Native.Nat.{ℕ, _+_, _≤_}
 use native.Mathlib.Omega.{arith}
 use lib.ListN.{length, length-take, length-drop}
 use Rattle.words.specs.Lists.{headOr}

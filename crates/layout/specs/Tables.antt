@@ -12,7 +12,7 @@ use mathlib.Core.Bool.{false}
 use mathlib.Core.List.{List, [], _∷_, _++_, map}
 use Prim.Native.Nat.{ℕ, suc, _+_, _-_, _*_, _≤_, _<_}
 use lib.ListN.{length, getD, take}
-use Rattle.words.specs.Lists.{those, headOr, tailOf}
+use Rattle.words.specs.Lists.{those, tailOf}
 use Rattle.words.specs.Words.{same, begins, endsProperly}
 use Rattle.words.proofs.Members.{In}
 use Rattle.trays.specs.Slips.{slip, startOf, endOf}
@@ -97,7 +97,8 @@ enders ss K x = those (λ l. endsProperly x (slip ss l)) K
 
 abbrev pub StartsIs : List (List ℕ) → List ℕ → List ℕ → List ℕ → (ℕ → ℕ) → (ℕ → ℕ) → Type 0
 StartsIs ss es M K starts next =
-    (v d : ℕ) → Num (patterns ss M) v → length (string (patterns ss M) v) ≡ suc d → Linked (λ r. next (startOf es r + d)) (starts v) (starters ss K (string (patterns ss M) v))
+    (v d : ℕ) → Num (patterns ss M) v → length (string (patterns ss M) v) ≡ suc d →
+    Linked (λ r. next (startOf es r + d)) (starts v) (starters ss K (string (patterns ss M) v))
 
 abbrev pub EndsIs : List (List ℕ) → List ℕ → List ℕ → List ℕ → (ℕ → ℕ) → (ℕ → ℕ) → Type 0
 EndsIs ss es M K ends next =

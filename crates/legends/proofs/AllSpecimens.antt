@@ -1,4 +1,5 @@
--- Computed specimens of the records: what the definitions put into the lists of joins and places. The outcomes are document 01's, or worked out by hand from its sentences.
+-- Computed specimens of the records: what the definitions put into the lists of joins and places. The outcomes are document 01's, or worked out by
+-- hand from its sentences.
 -- Modules are checked in the order of their names: an edited definition is refused here first.
 --   Records      == the two lists of records of one tray
 --   recordsOf ss == those of the slips ss

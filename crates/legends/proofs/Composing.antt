@@ -2,9 +2,9 @@
 --   joins-can, places-can == what the two storing functions ask
 --   composing-says        == the lists, written over by what is staged, are those of `ComposeSays`
 -- A refusal counts nothing, so nothing is written; otherwise the counts are those of the tray and the records are made (Records.antt).
-use mathlib.Core.Path.{_≡_, refl, sym, _∙_, ap}
+use mathlib.Core.Path.{_≡_, sym, _∙_, ap}
 use mathlib.Core.List.{List, map}
-use Prim.Native.Nat.{ℕ, zero, suc, _-_, _*_, _≤_, _<_}
+use Prim.Native.Nat.{ℕ, _-_, _*_, _≤_, _<_}
 use native.Mathlib.Omega.{arith}
 use lib.ListN.{length}
 use Rattle.words.specs.Lists.{over}
@@ -34,7 +34,8 @@ module _ (s es w w′ l l′ : List ℕ) (js : List Join) (ps : List Place) (r :
   f = faultOf s es w l js ps
 
   -- nothing turns composing back, or something does
-  by-answer : {P : Type 0} → (Accepts s es w (length l) (length js) (length ps) (r .answer) → P) → (Refuses s es w (length l) (length js) (length ps) (r .answer) → P) → P
+  by-answer : {P : Type 0} → (Accepts s es w (length l) (length js) (length ps) (r .answer) → P) →
+      (Refuses s es w (length l) (length js) (length ps) (r .answer) → P) → P
   by-answer good bad = staged-tells s es w (length l) (length js) (length ps) (r .answer) (c .stages .answer-is) good bad
 
   module _ (a : Accepts s es w (length l) (length js) (length ps) (r .answer)) where
@@ -60,28 +61,38 @@ module _ (s es w w′ l l′ : List ℕ) (js : List Join) (ps : List Place) (r :
   pub joins-can : (r .joins ≤ length js) × (3 * r .joins ≤ length w′ - JOINS)
   joins-can =
       by-answer
-      (λ a. (omega (arith, c .joins-is, a .joins-fit), omega (arith, c .joins-is, staged-room s es w w′ l l′ (length js) (length ps) (r .answer) (c .stages) a)))
+      (λ a. (
+        omega (arith, c .joins-is, a .joins-fit),
+        omega (arith, c .joins-is, staged-room s es w w′ l l′ (length js) (length ps) (r .answer) (c .stages) a),
+      ))
       (λ a. let e = no-joins a in (omega arith, omega arith))
 
   pub places-can : (r .places ≤ length ps) × ((2 * r .places ≤ length w′ - PLACES) × (r .places < 65536))
   places-can =
       by-answer
-      (λ a. (omega (arith, c .places-is, a .places-fit), (omega (arith, c .places-is, a .few-slips, a .room, c .stages .work-is .same), omega (arith, c .places-is, a .few-slips))))
+      (λ a. (
+        omega (arith, c .places-is, a .places-fit),
+        (omega (arith, c .places-is, a .few-slips, a .room, c .stages .work-is .same), omega (arith, c .places-is, a .few-slips)),
+      ))
       (λ a. let e = no-places a in (omega arith, (omega arith, omega arith)))
 
   joins-stored : over (firsts (joinAt w′) (r .joins)) js ≡ written f (map recordOf (plainJoins ss)) js
   joins-stored =
       by-answer
-      (λ a. ap (λ (n : ℕ). over (firsts (joinAt w′) n) js) (c .joins-is ∙ all-joins a) ∙ ap (λ (xs : List Join). over xs js) (joins-made w′ (plainJoins ss) (joins-staged a)) ∙ sym (written-all f (map recordOf (plainJoins ss)) js (a .silent)))
+      (λ a. ap (λ (n : ℕ). over (firsts (joinAt w′) n) js) (c .joins-is ∙ all-joins a)
+      ∙ ap (λ (xs : List Join). over xs js) (joins-made w′ (plainJoins ss) (joins-staged a))
+      ∙ sym (written-all f (map recordOf (plainJoins ss)) js (a .silent)))
       (λ a. ap (λ (n : ℕ). over (firsts (joinAt w′) n) js) (no-joins a) ∙ sym (written-none f (map recordOf (plainJoins ss)) js (omega (arith, a .speaks))))
 
   places-stored : over (firsts (placeAt w′) (r .places)) ps ≡ written f (map (placed ss) (numbers ss)) ps
   places-stored =
       by-answer
-      (λ a. ap (λ (n : ℕ). over (firsts (placeAt w′) n) ps) (c .places-is ∙ all-places a) ∙ ap (λ (xs : List Place). over xs ps) (places-made w′ ss (places-staged a)) ∙ sym (written-all f (map (placed ss) (numbers ss)) ps (a .silent)))
+      (λ a. ap (λ (n : ℕ). over (firsts (placeAt w′) n) ps) (c .places-is ∙ all-places a)
+      ∙ ap (λ (xs : List Place). over xs ps) (places-made w′ ss (places-staged a)) ∙ sym (written-all f (map (placed ss) (numbers ss)) ps (a .silent)))
       (λ a. ap (λ (n : ℕ). over (firsts (placeAt w′) n) ps) (no-places a) ∙ sym (written-none f (map (placed ss) (numbers ss)) ps (omega (arith, a .speaks))))
 
-  pub composing-says : (js′ : List Join) (ps′ : List Place) → js′ ≡ over (firsts (joinAt w′) (r .joins)) js → ps′ ≡ over (firsts (placeAt w′) (r .places)) ps → ComposeSays s es w w′ l l′ js js′ ps ps′ (r .answer)
+  pub composing-says : (js′ : List Join) (ps′ : List Place) → js′ ≡ over (firsts (joinAt w′) (r .joins)) js →
+      ps′ ≡ over (firsts (placeAt w′) (r .places)) ps → ComposeSays s es w w′ l l′ js js′ ps ps′ (r .answer)
   composing-says js′ ps′ a b =
       record {
         answer-is = c .stages .answer-is;

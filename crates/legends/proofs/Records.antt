@@ -62,7 +62,8 @@ module _ (w : List ℕ) (js : List G.Join) (e : table w JOINS (3 * length js) �
   join-made i h =
       let is = cell-in w JOINS (3 * length js) (flatJoins js) e in
       let r = joins-flat js i h in
-      join-by _ _ _ (getD (map recordOf js) i none) (is (3 * i) (omega arith) ∙ r .0) (is (3 * i + 1) (omega arith) ∙ r .1 .0) (is (3 * i + 2) (omega arith) ∙ r .1 .1)
+      join-by _ _ _ (getD (map recordOf js) i none) (is (3 * i) (omega arith) ∙ r .0) (is (3 * i + 1) (omega arith) ∙ r .1 .0)
+      (is (3 * i + 2) (omega arith) ∙ r .1 .1)
 
   pub joins-made : firsts (joinAt w) (length js) ≡ map recordOf js
   joins-made =

@@ -91,7 +91,8 @@ fn staged(
     joins_room: usize,
     places_room: usize,
 ) -> Counted
-    ensures { λ r. ⌜ Counts (now (letters .entry)) (now (ends .entry)) (now (work .entry)) (now (work .exit)) (now (legend .entry)) (now (legend .exit)) «joins_room» «places_room» r ⌝ }
+    ensures { λ r. ⌜ Counts (now (letters .entry)) (now (ends .entry)) (now (work .entry)) (now (work .exit))
+        (now (legend .entry)) (now (legend .exit)) «joins_room» «places_room» r ⌝ }
 {
     let answer = composing::compose_staged(letters, ends, work, legend, joins_room, places_room);
     let joins = answer.joins as usize;

@@ -31,7 +31,8 @@ module _ {s es : List ℕ} {n count : ℕ} {w : List ℕ} {v p : ℕ} (C : CanLi
 
   pub link-root : p ≡ 0 → LinkIs ps v 0
   link-root z =
-      rw (fail-root ps (nodes ps) (nodes-numbered ps) (parentOf w) (letterOf s w) (parents-tree (C .branched .numbered)) v (C .some, inside) (sym e ∙ z)) (is-root ps)
+      rw (fail-root ps (nodes ps) (nodes-numbered ps) (parentOf w) (letterOf s w) (parents-tree (C .branched .numbered)) v (C .some, inside)
+      (sym e ∙ z)) (is-root ps)
 
   above : p < v
   above = rw e (parent-below (C .branched .numbered) (record { some = C .some; inside = inside }))
@@ -63,7 +64,8 @@ module _ {s es : List ℕ} {n count : ℕ} {w : List ℕ} {v p : ℕ} (C : CanLi
         record {
           inside = i .state .inside;
           is = i .state .is ∙ step-state ps (suc (length x)) x c 0 (omega arith)
-              ∙ sym (rw q (fail-from ps (nodes ps) (nodes-numbered ps) (parentOf w) (letterOf s w) t v f (C .some, inside) (rw e at (parent .some)) (rw e at (from .is))));
+              ∙ sym (rw q (fail-from ps (nodes ps) (nodes-numbered ps) (parentOf w) (letterOf s w) t v f (C .some, inside) (rw e at (parent .some))
+              (rw e at (from .is))));
         }
 
 pub record FillingFails (s es : List ℕ) (n count : ℕ) (w₀ w : List ℕ) (v : ℕ) : Type 0 where
@@ -134,7 +136,8 @@ module _ {s es : List ℕ} {n count : ℕ} {w₀ w : List ℕ} {v : ℕ} (F : Fi
         only = F .only;
       }
 
-pub links-filled : {s es : List ℕ} {n count : ℕ} {w w₁ w₂ w₃ : List ℕ} → KidsFilled s es n count w w₁ → NearFilled s es n count w₁ w₂ → FailsFilled s es n count w₂ w₃
+pub links-filled : {s es : List ℕ} {n count : ℕ} {w w₁ w₂ w₃ : List ℕ} → KidsFilled s es n count w w₁ → NearFilled s es n count w₁ w₂ →
+    FailsFilled s es n count w₂ w₃
     → LinksFilled s es n count w w₃
 links-filled k g f =
     record {

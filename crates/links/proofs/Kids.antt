@@ -114,7 +114,10 @@ module _ {s es : List ℕ} {n count : ℕ} {w₀ w : List ℕ} {v u : ℕ} (F : 
             let h : u ≤ count = omega (arith, m .inside, F .numbered .all-nodes) in
             let i : Num ps u = record { some = F .some; inside = omega (arith, F .numbered .all-nodes) } in
             let l : v ≤ parentOf w u =
-            elim (one-of (leb u count) (ltb (parentOf w u) v) (sym e ∙ t)) [ inl q ↦ absurd (omega (arith, leb-false u count q)) | inr q ↦ ltb-false (parentOf w u) v q ] in
+            elim (one-of (leb u count) (ltb (parentOf w u) v) (sym e ∙ t)) [
+              | inl q ↦ absurd (omega (arith, leb-false u count q))
+              | inr q ↦ ltb-false (parentOf w u) v q
+            ] in
             parent-from (F .numbered) v u x i
             (rw (parent-kept (F .numbered) w u kids-kept (F .some) h) at l) m k;
       }

@@ -18,7 +18,8 @@ use Rattle.layout.specs.Numbered.{patternsIn, Branched, Kept}
 use Rattle.layout.proofs.Frames.{only-kept, patterns-kept, branched-kept}
 use Rattle.links.specs.Links.{CanFill, CanLook, RowFilled, NearFilled}
 
-module _ {s es : List ℕ} {n count : ℕ} {w : List ℕ} {v c k : ℕ} (C : CanLook s es n count w v) (close : v < nearNodes) (from : firstSign ≤ c) (upto : c ≤ lastSign)
+module _ {s es : List ℕ} {n count : ℕ} {w : List ℕ} {v c k : ℕ} (C : CanLook s es n count w v) (close : v < nearNodes) (from : firstSign ≤ c)
+    (upto : c ≤ lastSign)
     (e : k ≡ nearLetters * v + (c - firstSign)) where
   pub near-got : {r : ℕ} → Got w NEAR k r → Child (patternsIn s es n w) v c r
   near-got g =

@@ -94,7 +94,8 @@ module _ {s es : List ℕ} {n count : ℕ} {w : List ℕ} (N : Numbered s es n c
         elim (decLt v (cell w LEVEL 2)) [
           | yes h ↦
               let e : o .letter ≡ 0 =
-              elim (decLt (o .letter) 1) [ yes k ↦ omega arith | no k ↦ absurd (omega (arith, N .level .from 2 v (omega arith) (omega arith) m (omega arith))) ] in
+              elim (decLt (o .letter) 1)
+              [ yes k ↦ omega arith | no k ↦ absurd (omega (arith, N .level .from 2 v (omega arith) (omega arith) m (omega arith))) ] in
               rw (parent-one w v h, e) (is-root ps)
           | no h ↦
               let k = N .level .back 2 v (omega arith) (omega arith) m (omega arith) in
@@ -144,7 +145,8 @@ module _ {s es : List ℕ} {n count : ℕ} {w : List ℕ} (N : Numbered s es n c
   pub parent-below : {v : ℕ} → Num ps v → parentOf w v < v
   parent-below {v} m = T.par-below ps (nodes ps) (nodes-numbered ps) (parentOf w) (letterOf s w) parents-tree v (m .some, m .inside)
 
-  pub parents-ascend : {u v : ℕ} → Num ps u → Num ps v → u < v → (parentOf w u < parentOf w v) ⊎ ((parentOf w u ≡ parentOf w v) × (letterOf s w u < letterOf s w v))
+  pub parents-ascend : {u v : ℕ} → Num ps u → Num ps v → u < v →
+      (parentOf w u < parentOf w v) ⊎ ((parentOf w u ≡ parentOf w v) × (letterOf s w u < letterOf s w v))
   parents-ascend {u} {v} m k h =
       T.par-last ps (nodes ps) (nodes-numbered ps) (parentOf w) (letterOf s w) parents-tree u v (m .some, m .inside) (k .some, k .inside) h
 

@@ -15,7 +15,8 @@ use Rattle.words.proofs.Picks.{getD-in}
 use Rattle.trays.specs.Slips.{slip}
 use Rattle.matching.specs.Moves.{beginsSome}
 use Rattle.matching.proofs.Levels.{NotAfter}
-use Rattle.matching.proofs.Numbering.{higher, levelsUp, levelsDown, Prefix, in-levelsUp, levelsUp-in, in-levelsDown, levelsDown-in, nodes-asc, levelsDown-asc}
+use Rattle.matching.proofs.Numbering.{higher, levelsUp, levelsDown, Prefix, in-levelsUp, levelsUp-in}
+use Rattle.matching.proofs.Numbering.{in-levelsDown, levelsDown-in, nodes-asc, levelsDown-asc}
 use Rattle.matching.proofs.Ranking.{ranks, ranks-asc}
 use Rattle.matching.proofs.Numbered.{str, Num, Numbered}
 

@@ -57,7 +57,8 @@ module _ (ps : List (List ℕ)) where
         all = λ w h b. List·Memᴰ·tail (sorts .into w (prefixes-in w h b));
       }
     where
-      node : (v : ℕ) → Numbered.Num ([] ∷ inOrder lower (prefixes ps)) v → (1 ≤ length (getD ([] ∷ inOrder lower (prefixes ps)) v [])) × (beginsSome (getD ([] ∷ inOrder lower (prefixes ps)) v []) ps ≡ true)
+      node : (v : ℕ) → Numbered.Num ([] ∷ inOrder lower (prefixes ps)) v →
+          (1 ≤ length (getD ([] ∷ inOrder lower (prefixes ps)) v [])) × (beginsSome (getD ([] ∷ inOrder lower (prefixes ps)) v []) ps ≡ true)
       node zero n = absurd (omega arith)
       node (suc v) n = let l = inOrder lower (prefixes ps) in in-prefixes (getD l v []) (sorts .back _ (getD-in [] l v (omega arith)))
 

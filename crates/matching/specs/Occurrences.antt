@@ -4,8 +4,8 @@
 --   endingAt ss t        == the slips that end the text t, in the order of report
 --   occurrences ss t     == every occurrence of every slip, in the order of report
 use mathlib.Core.Bool.{Bool, _&&_, _||_}
-use mathlib.Core.List.{List, [], _∷_, _++_, map}
-use Prim.Native.Nat.{ℕ, zero, suc}
+use mathlib.Core.List.{List, map}
+use Prim.Native.Nat.{ℕ}
 use lib.Dec.{eqb, ltb}
 use lib.ListN.{length, take}
 use Rattle.words.specs.Lists.{each, those, upFrom, inOrder}

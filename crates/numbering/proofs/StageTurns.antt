@@ -56,7 +56,8 @@ module _ {ss : List (List ℕ)} {es M O : List ℕ} (R : Ranked ss es M O) where
         level = t .level;
       }
 
-  module _ (c r k p : ℕ) (w : List ℕ) (h : r < length O) (l : c < length (slip ss (getD O r 0))) (e : p ≡ startOf es (getD O r 0) + c) (t : Counted ss es O c r k w) where
+  module _ (c r k p : ℕ) (w : List ℕ) (h : r < length O) (l : c < length (slip ss (getD O r 0))) (e : p ≡ startOf es (getD O r 0) + c)
+      (t : Counted ss es O c r k w) where
     c-fits : c < maxSlip
     c-fits = let (i, j) = rank-real R r h in omega (arith, R .spans .short (getD O r 0) i j)
 

@@ -23,7 +23,8 @@ pub commons-length : (ss : List (List ℕ)) (p : ℕ) (M : List ℕ) → length 
 commons-length ss p [] = refl
 commons-length ss p (i ∷ M) = ap suc (commons-length ss i M)
 
-pub commons-at : (ss : List (List ℕ)) (p : ℕ) (M : List ℕ) (j : ℕ) → j < length M → getD (commons ss p M) j 0 ≡ common (slip ss (getD (p ∷ M) j 0)) (slip ss (getD M j 0))
+pub commons-at : (ss : List (List ℕ)) (p : ℕ) (M : List ℕ) (j : ℕ) → j < length M →
+    getD (commons ss p M) j 0 ≡ common (slip ss (getD (p ∷ M) j 0)) (slip ss (getD M j 0))
 commons-at ss p [] j h = absurd (omega arith)
 commons-at ss p (i ∷ M) zero h = refl
 commons-at ss p (i ∷ M) (suc j) h = commons-at ss i M j (omega arith)
@@ -61,10 +62,16 @@ common-next s es M i a b r x y o h n u v q w e =
     record {
       is = f ∙ rw (u, v) (sym (rw (commons-at ss 0 M i h, before-at 0 i M n)));
       small =
-          omega (arith, common-at-most (slip ss a) (slip ss b), slip-small s es b (o .accepted) (member-least (length es) M i b (o .within) h v) (member-most (length es) M i b (o .within) h v));
+          omega (
+            arith,
+            common-at-most (slip ss a) (slip ss b),
+            slip-small s es b (o .accepted) (member-least (length es) M i b (o .within) h v)
+                (member-most (length es) M i b (o .within) h v),
+          );
     }
 
-module _ (s es w₀ w : List ℕ) (order to n i e : ℕ) (o : Members s es (table w₀ order n)) (far : order + n ≤ to) (room : to + n ≤ length w₀) (q : e ≡ order + n) (f : Filling to n (commons (slipsOf s es) 0 (table w₀ order n)) i w₀ w) where
+module _ (s es w₀ w : List ℕ) (order to n i e : ℕ) (o : Members s es (table w₀ order n)) (far : order + n ≤ to) (room : to + n ≤ length w₀)
+    (q : e ≡ order + n) (f : Filling to n (commons (slipsOf s es) 0 (table w₀ order n)) i w₀ w) where
   order-kept : take (e - order) (drop order w) ≡ table w₀ order n
   order-kept = part-table w order n e q ∙ cells-below order n (f .only) far
 
@@ -77,5 +84,6 @@ module _ (s es w₀ w : List ℕ) (order to n i e : ℕ) (o : Members s es (tabl
   pub fill-size : length (commons (slipsOf s es) 0 (table w₀ order n)) ≡ n
   fill-size = commons-length (slipsOf s es) 0 (table w₀ order n) ∙ table-length w₀ order n (omega arith)
 
-  pub fill-more : (x : ℕ) (w′ : List ℕ) (k : ℕ) → i < n → CommonAt (slipsOf s es) (take (e - order) (drop order w)) i x → Put w to i x w′ → k ≡ i + 1 → Filling to n (commons (slipsOf s es) 0 (table w₀ order n)) k w₀ w′
+  pub fill-more : (x : ℕ) (w′ : List ℕ) (k : ℕ) → i < n → CommonAt (slipsOf s es) (take (e - order) (drop order w)) i x → Put w to i x w′ →
+      k ≡ i + 1 → Filling to n (commons (slipsOf s es) 0 (table w₀ order n)) k w₀ w′
   fill-more x w′ k h c p g = filling-more k room fill-size h f p (rw order-kept at (c .is)) g

@@ -24,7 +24,8 @@ module _ (x y : List ℕ) (n : ℕ) (e : n ≡ common x y) where
   compared-ends h = rw (e, before-common x y, le-ltb (common x y) (length y) (omega arith))
 
   pub compared-whole : n < length y → length x ≤ n → seen n true ≡ compared x y
-  compared-whole h g = rw (e, before-common x y, lt-ltb (common x y) (length y) (omega arith), eq-eqb (common x y) (length x) (omega (arith, common-at-most x y)))
+  compared-whole h g =
+      rw (e, before-common x y, lt-ltb (common x y) (length y) (omega arith), eq-eqb (common x y) (length x) (omega (arith, common-at-most x y)))
 
   pub compared-letters : n < length y → n < length x → seen n (ltb (getD x n 0) (getD y n 0)) ≡ compared x y
   compared-letters h g = rw (e, before-common x y, lt-ltb (common x y) (length y) (omega arith), ne-eqb (common x y) (length x) (omega arith))
@@ -78,7 +79,13 @@ module _ (x t : List ℕ) (i : ℕ) (b : Bound) (r : Compared) (e : r ≡ compar
 
       pub below-number : (k : ℕ) → b ≡ Number k → length x ≡ r .common → ltb i k ≡ below b t x i
       below-number k u w =
-          rw (u, not-before, same-common x t, eq-eqb (common x t) (length x) (omega (arith, n-is)), eq-eqb (common x t) (length t) (omega (arith, n-is, common-at-most x t)))
+          rw (
+            u,
+            not-before,
+            same-common x t,
+            eq-eqb (common x t) (length x) (omega (arith, n-is)),
+            eq-eqb (common x t) (length t) (omega (arith, n-is, common-at-most x t)),
+          )
 
       pub below-longer : (k : ℕ) → b ≡ Number k → (length x ≡ r .common → ⊥) → false ≡ below b t x i
       below-longer k u w = rw (u, not-before, same-common x t, ne-eqb (common x t) (length x) (λ q. w (omega (arith, n-is))))

@@ -14,7 +14,8 @@ use Rattle.words.proofs.Members.{In, Asc, Less, those-yes, those-no, inOrder-so
 use Rattle.words.proofs.Picks.{those-none, asc-getD}
 use Rattle.order.specs.Order.{Distinct, Falling}
 
-module _ (lt : ℕ → ℕ → Bool) (irr : (a : ℕ) → lt a a ≡ false) (tr : (a b c : ℕ) → Less lt a b → Less lt b c → Less lt a c) (con : (a b : ℕ) → lt a b ≡ false → lt b a ≡ false → a ≡ b) where
+module _ (lt : ℕ → ℕ → Bool) (irr : (a : ℕ) → lt a a ≡ false) (tr : (a b c : ℕ) → Less lt a b → Less lt b c → Less lt a c)
+    (con : (a b : ℕ) → lt a b ≡ false → lt b a ≡ false → a ≡ b) where
   rank : ℕ → List ℕ → ℕ
   rank x ys = length (those (λ y. lt y x) ys)
 
@@ -29,13 +30,15 @@ module _ (lt : ℕ → ℕ → Bool) (irr : (a : ℕ) → lt a a ≡ false) (tr 
   insert-front x y ys e n =
       elim (tell (lt x y)) [ inl h ↦ rw (h, insert) | inr h ↦ absurd (n (con x y h e)) ]
 
-  pub insert-rank : (x : ℕ) (ys : List ℕ) → Asc (Less lt) ys → (In x ys → ⊥) → insert lt x ys ≡ take (length (those (λ y. lt y x) ys)) ys ++ (x ∷ drop (length (those (λ y. lt y x) ys)) ys)
+  pub insert-rank : (x : ℕ) (ys : List ℕ) → Asc (Less lt) ys → (In x ys → ⊥) →
+      insert lt x ys ≡ take (length (those (λ y. lt y x) ys)) ys ++ (x ∷ drop (length (those (λ y. lt y x) ys)) ys)
   insert-rank x [] p n = refl
   insert-rank x (y ∷ ys) p n =
       elim (tell (lt y x)) [
         | inl e ↦ rw (insert-behind x y ys e, those-yes (λ z. lt z x) y ys e) (ap (λ l. y ∷ l) (insert-rank x ys (p .1) (λ m. n (List·Memᴰ·tail m))))
         | inr e ↦
-            let none : (z : ℕ) → In z ys → lt z x ≡ false = λ z m. elim (tell (lt z x)) [ inl h ↦ absurd (not-both (lt y x) (tr y z x (p .0 z m) h) e) | inr h ↦ h ] in
+            let none : (z : ℕ) → In z ys → lt z x ≡ false =
+            λ z m. elim (tell (lt z x)) [ inl h ↦ absurd (not-both (lt y x) (tr y z x (p .0 z m) h) e) | inr h ↦ h ] in
             rw (insert-front x y ys e (λ q. n (List·Memᴰ·head q)), those-no (λ z. lt z x) y ys e, those-none (λ z. lt z x) ys none)
       ]
 

@@ -40,14 +40,16 @@ module _ (n : ℕ) (M : List ℕ) (i m : ℕ) (t : Within n M) (h : i < length M
 middle-within : (low high n i : ℕ) → low < high → high ≤ n → i ≡ low + (high - low) / 2 → i < n
 middle-within low high n i u g w = omega arith
 
-module _ (n : ℕ) (M : List ℕ) (low high i m : ℕ) (t : Within n M) (u : low < high) (g : high ≤ length M) (w : i ≡ low + (high - low) / 2) (v : m ≡ getD M i 0) where
+module _ (n : ℕ) (M : List ℕ) (low high i m : ℕ) (t : Within n M) (u : low < high) (g : high ≤ length M) (w : i ≡ low + (high - low) / 2)
+    (v : m ≡ getD M i 0) where
   pub middle-least : 1 ≤ m
   middle-least = member-least n M i m t (middle-within low high (length M) i u g w) v
 
   pub middle-most : m ≤ n
   middle-most = member-most n M i m t (middle-within low high (length M) i u g w) v
 
-module _ (p : ℕ → Bool) (M : List ℕ) (f : Falling p M) (low high i m : ℕ) (r : Bool) (u : low < high) (g : high ≤ length M) (w : i ≡ low + (high - low) / 2) (v : m ≡ getD M i 0) (e : r ≡ p m) where
+module _ (p : ℕ → Bool) (M : List ℕ) (f : Falling p M) (low high i m : ℕ) (r : Bool) (u : low < high) (g : high ≤ length M)
+    (w : i ≡ low + (high - low) / 2) (v : m ≡ getD M i 0) (e : r ≡ p m) where
   h : i < length M
   h = middle-within low high (length M) i u g w
 
@@ -73,7 +75,9 @@ rank-split p (i ∷ M) zero h a b =
     (rank-split p M zero (omega arith) (passed-none p M) (record { each = λ j u v. b .each (suc j) (omega arith) (omega arith) }))
 rank-split p (i ∷ M) (suc k) h a b =
     rw (those-yes p i M (a .each 0 (omega arith)))
-    (ap suc (rank-split p M k (omega arith) (record { each = λ j u. a .each (suc j) (omega arith) }) (record { each = λ j u v. b .each (suc j) (omega arith) (omega arith) })))
+    (ap suc (rank-split p M k (omega arith) (record { each = λ j u. a .each (suc j) (omega arith) })
+    (record { each = λ j u v. b .each (suc j) (omega arith) (omega arith) })))
 
-pub rank-found : (p : ℕ → Bool) (M : List ℕ) (low high : ℕ) → low ≤ high → high ≤ length M → high ≤ low → Passed p M low → Failed p M high → low ≡ length (those p M)
+pub rank-found : (p : ℕ → Bool) (M : List ℕ) (low high : ℕ) → low ≤ high → high ≤ length M → high ≤ low → Passed p M low → Failed p M high →
+    low ≡ length (those p M)
 rank-found p M low high h l g a b = let e : high ≡ low = omega arith in rank-split p M low (omega arith) a (rw e at b)

@@ -81,12 +81,19 @@ module _ (s es : List ℕ) where
 
     module _ (k : ℕ) (r : k ≡ rankOf (slipsOf s es) (others c) t (Number m)) where
       pub first-rank : k < length c
-      first-rank = omega (arith, g .some, those-length (λ i. below (Number m) t (slip (slipsOf s es) i) i) (others c), length-take (length c - 1) (drop 1 c), length-drop 1 c)
+      first-rank = omega (
+        arith,
+        g .some,
+        those-length (λ i. below (Number m) t (slip (slipsOf s es) i) i) (others c),
+        length-take (length c - 1) (drop 1 c),
+        length-drop 1 c,
+      )
 
       pub first-inserted : (d : List ℕ) → d ≡ layBehind k c → d ≡ insertFirst lt c
       first-inserted d w = w ∙ go c g (g .some) e r
         where
-          go : (c : List ℕ) → Insertable s es c → 0 < length c → m ≡ getD c 0 0 → k ≡ rankOf (slipsOf s es) (others c) t (Number m) → layBehind k c ≡ insertFirst lt c
+          go : (c : List ℕ) → Insertable s es c → 0 < length c → m ≡ getD c 0 0 → k ≡ rankOf (slipsOf s es) (others c) t (Number m) →
+              layBehind k c ≡ insertFirst lt c
           go [] g h e r = absurd (omega arith)
           go (x ∷ xs) g h e r =
               let ss = slipsOf s es in
@@ -125,7 +132,8 @@ module _ (xs ys c : List ℕ) (j : ℕ) (e : c ≡ xs ++ ys) (l : length xs ≡ 
       let b : drop (length c - j) (drop j c) ≡ [] = rw cut-drop (drop-of-length-le ys n) in
       rw (f, b, append-nil)
 
-module _ (s es c₀ c : List ℕ) (m j : ℕ) (S : Sortable s es c₀) (u : 0 < m) (v : m ≤ length c₀) (w : c ≡ sorting (precedes (slipsOf s es)) m c₀) (q : j ≡ m - 1) where
+module _ (s es c₀ c : List ℕ) (m j : ℕ) (S : Sortable s es c₀) (u : 0 < m) (v : m ≤ length c₀) (w : c ≡ sorting (precedes (slipsOf s es)) m c₀)
+    (q : j ≡ m - 1) where
   abbrev by : ℕ → ℕ → Bool
   by = precedes (slipsOf s es)
 
@@ -157,7 +165,11 @@ module _ (s es c₀ c : List ℕ) (m j : ℕ) (S : Sortable s es c₀) (u : 0 < 
       rw (cut-part (take j c₀) (here ∷ rest) c j split front)
       (record {
         some = omega arith;
-        members = record { accepted = S .members .accepted; within = record { each = λ i n. S .members .within .each i (in-drop j c₀ (rw whole (by-in n List·Memᴰ·head (λ k. List·Memᴰ·tail (sorted .back i k))))) } };
+        members = record {
+          accepted = S .members .accepted;
+          within =
+              record { each = λ i n. S .members .within .each i (in-drop j c₀ (rw whole (by-in n List·Memᴰ·head (λ k. List·Memᴰ·tail (sorted .back i k))))) };
+        };
         fresh = λ n. rw whole at (distinct-drop j c₀ (S .distinct)) .0 (sorted .back here n);
         ordered = sorted .asc;
       })
@@ -179,7 +191,8 @@ module _ (s es w : List ℕ) (base n e : ℕ) (S : Sortable s es (table w base n
   pub part-sortable : Sortable s es (take (e - base) (drop base w))
   part-sortable = rw (part-table w base n e q) S
 
-  pub part-sorted : (ys : List ℕ) → base + n ≤ length w → ys ≡ inOrder (precedes (slipsOf s es)) (take (e - base) (drop base w)) → Filled base n (inOrder (precedes (slipsOf s es)) (table w base n)) w (take base w ++ (ys ++ drop (e - base) (drop base w)))
+  pub part-sorted : (ys : List ℕ) → base + n ≤ length w → ys ≡ inOrder (precedes (slipsOf s es)) (take (e - base) (drop base w)) →
+      Filled base n (inOrder (precedes (slipsOf s es)) (table w base n)) w (take base w ++ (ys ++ drop (e - base) (drop base w)))
   part-sorted ys h f =
       let ss = slipsOf s es in
       let g : ys ≡ inOrder (precedes ss) (table w base n) = rw (part-table w base n e q) at f in

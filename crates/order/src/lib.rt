@@ -144,7 +144,8 @@ pub fn sort(letters: &[u8], ends: &[u16], cells: &mut [u16])
 // The same for the table of `n` members at `base` of the work area.
 pub fn sort_table(letters: &[u8], ends: &[u16], work: &mut [u16], base: usize, n: usize)
     requires { ⌜ O.Sortable (now letters) (now ends) (table (now work) base n) × (base + n ≤ length (now work)) ⌝ }
-    ensures { λ _. ⌜ Filled base n (inOrder (O.precedes (slipsOf (now (letters .entry)) (now (ends .entry)))) (table (now (work .entry)) base n)) (now (work .entry)) (now (work .exit)) ⌝ }
+    ensures { λ _. ⌜ Filled base n (inOrder (O.precedes (slipsOf (now (letters .entry)) (now (ends .entry)))) (table (now (work .entry)) base n))
+        (now (work .entry)) (now (work .exit)) ⌝ }
 {
     let end = base + n;
     sort(letters, ends, &mut work[base..end]);
@@ -173,7 +174,8 @@ pub fn fill_common(
     n: usize,
 )
     requires { ⌜ O.Members (now letters) (now ends) (table (now work) order n) × (order + n ≤ common) × (common + n ≤ length (now work)) ⌝ }
-    ensures { λ _. ⌜ Filled common n (O.commons (slipsOf (now (letters .entry)) (now (ends .entry))) 0 (table (now (work .entry)) order n)) (now (work .entry)) (now (work .exit)) ⌝ }
+    ensures { λ _. ⌜ Filled common n (O.commons (slipsOf (now (letters .entry)) (now (ends .entry))) 0 (table (now (work .entry)) order n))
+        (now (work .entry)) (now (work .exit)) ⌝ }
 {
     let end = order + n;
     let mut i = 0;

@@ -4,7 +4,7 @@
 --   filling-..              == the turns of the loop
 use mathlib.Core.Path.{_≡_, refl, sym, ap, subst, _∙_}
 use mathlib.Core.List.{List, [], _∷_, List·Memᴰ·head}
-use Prim.Native.Nat.{ℕ, zero, suc, _+_, _≤_, _<_}
+use Prim.Native.Nat.{ℕ, _+_, _≤_, _<_}
 use native.Mathlib.Decide.{ℕ-discrete}
 use native.Mathlib.Omega.{arith}
 use lib.ListN.{length, length-append}
@@ -22,7 +22,7 @@ use Rattle.layout.specs.Layout.{FAIL, HEAD, TWIN, MARK, OUT, TALLY}
 use Rattle.layout.specs.Tables.{cell, members, patterns, owners}
 use Rattle.layout.specs.Numbered.{patternsIn, Numbered, Kept, Headed}
 use Rattle.layout.proofs.Frames.{only-kept, kept-lower, members-kept}
-use Rattle.outputs.specs.Outputs.{OutOf, TallyOf, Owning, Telling, Tallied, OutputsFilled}
+use Rattle.outputs.specs.Outputs.{OutOf, TallyOf, Telling, Tallied, OutputsFilled}
 use Rattle.outputs.proofs.Outs.{by-list, ending-most, ending-link, ending-root, out-root, out-here, out-next}
 use Rattle.layout.proofs.Heads.{linked-head, member-some, member-letters, members-length, node-most, headed-kept}
 

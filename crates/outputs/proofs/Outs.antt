@@ -9,7 +9,7 @@
 -- What ends a string is what is all of it, then what ends it without its first letter. So an ending that is no member's whole string may be
 -- passed over, and a member's whole string is a node, so that the failure link passes over none.
 use mathlib.Core.Path.{_≡_, refl, sym, ap, _∙_}
-use mathlib.Core.Bool.{Bool, true, false}
+use mathlib.Core.Bool.{Bool, false}
 use mathlib.Core.List.{List, [], _∷_, _++_}
 use Prim.Native.Nat.{ℕ, zero, suc, _≤_, _<_}
 use native.Mathlib.Decide.{ℕ-discrete}
@@ -94,7 +94,8 @@ module _ (ss : List (List ℕ)) (M : List ℕ) where
   owners-none : (x : List ℕ) → beginsSome x ps ≡ false → owners ss M x ≡ []
   owners-none x e =
       those-none (λ i. same (slip ss i) x) M
-      (λ i m. by-test (same (slip ss i) x) (λ h. absurd (not-both (beginsSome x ps) (slip-some ss M x m (rw (same-is (slip ss i) x h) (begins-refl x))) e)) (λ h. h))
+      (λ i m. by-test (same (slip ss i) x)
+      (λ h. absurd (not-both (beginsSome x ps) (slip-some ss M x m (rw (same-is (slip ss i) x h) (begins-refl x))) e)) (λ h. h))
 
   pub owned-longest : (t : List ℕ) → longestOwned ss M t ≡ longestOwned ss M (longestEnding t ps)
   owned-longest [] = refl

@@ -1,8 +1,8 @@
 -- Counting the members of a node's letters along TWIN.
 --   Counting .. v i k   == k of them are counted, and the others run from i on
 use mathlib.Core.Path.{_≡_, refl, sym, ap, subst, _∙_}
-use mathlib.Core.List.{List, [], _∷_, List·Memᴰ·head, List·Memᴰ·tail}
-use Prim.Native.Nat.{ℕ, suc, _+_, _-_, _≤_, _<_}
+use mathlib.Core.List.{List, _∷_, List·Memᴰ·head, List·Memᴰ·tail}
+use Prim.Native.Nat.{ℕ, _+_, _-_, _≤_, _<_}
 use native.Mathlib.Omega.{arith}
 use lib.ListN.{length}
 use Rattle.words.specs.Words.{same}
@@ -86,4 +86,8 @@ module _ {s es : List ℕ} {n count : ℕ} {w : List ℕ} {v i k : ℕ} (C : Cou
       let N = C .owning .headed .automaton .branched .numbered in
       by-list (C .rest)
       (λ e. omega (arith, C .all, ap length e))
-      (λ y ys e. absurd (omega (arith, subst (Linked (cell w TWIN) i) e (C .linked) .0, member-some N y (C .among y (subst (In y) (sym e) (List·Memᴰ·head refl))))))
+      (λ y ys e. absurd (omega (
+        arith,
+        subst (Linked (cell w TWIN) i) e (C .linked) .0,
+        member-some N y (C .among y (subst (In y) (sym e) (List·Memᴰ·head refl))),
+      )))

@@ -11,7 +11,7 @@
 --   OutputsFilled .. w w′    == they are known in w′, which has the cells of w below the tables OUT and TALLY
 use mathlib.Core.Path.{_≡_}
 use mathlib.Core.List.{List, [], _∷_}
-use Prim.Native.Nat.{ℕ, _≤_, _<_}
+use Prim.Native.Nat.{ℕ, _<_}
 use lib.ListN.{length}
 use Rattle.words.specs.Lists.{tailOf}
 use Rattle.trays.specs.Slips.{slipsOf}

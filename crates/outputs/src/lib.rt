@@ -11,7 +11,8 @@ ghost use Rattle.outputs.specs.Outputs as O;
 // How many members have all letters of node `v`.
 fn owners_of(letters: &[u8], ends: &[u16], work: &[u16], n: usize, count: usize, v: usize) -> usize
     requires { ⌜ O.Owning (now letters) (now ends) n count (now work) v ⌝ }
-    ensures { λ r. ⌜ r ≡ length (owners (slipsOf (now (letters .entry)) (now (ends .entry))) (members (now (work .entry)) n) (string (patternsIn (now (letters .entry)) (now (ends .entry)) n (now (work .entry))) v)) ⌝ }
+    ensures { λ r. ⌜ r ≡ length (owners (slipsOf (now (letters .entry)) (now (ends .entry))) (members (now (work .entry)) n)
+        (string (patternsIn (now (letters .entry)) (now (ends .entry)) n (now (work .entry))) v)) ⌝ }
 {
     let mut i = tables::at(work, layout::HEAD, v);
     let mut k: usize = 0;

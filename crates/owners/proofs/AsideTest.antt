@@ -8,10 +8,9 @@ use mathlib.Core.Bool.{true, false}
 use mathlib.Core.Logic.{_⊎_, inl, inr}
 use mathlib.Core.List.{List, [], _∷_, _++_, List·Memᴰ·head, List·Memᴰ·not-nil}
 use Prim.Native.Nat.{ℕ, suc, _+_, _≤_, _<_}
-use native.Mathlib.Decide.{ℕ-discrete}
 use native.Mathlib.Numerals.{add-one}
 use native.Mathlib.Omega.{arith}
-use lib.ListN.{length, getD, length-append}
+use lib.ListN.{length, length-append}
 use Rattle.words.specs.Lists.{those, headOr, tailOf}
 use Rattle.words.specs.Words.{same}
 use Rattle.words.proofs.Tests.{tell}
@@ -21,15 +20,15 @@ use Rattle.trays.specs.Slips.{slipsOf, slip}
 use Rattle.trays.specs.Aside.{isAside}
 use Rattle.tables.specs.Tables.{Got}
 use Rattle.matching.specs.Moves.{beginsSome, longestEnding}
-use Rattle.matching.specs.Nodes.{nodes, string, IsNode, Num}
+use Rattle.matching.specs.Nodes.{string, IsNode, Num}
 use Rattle.matching.proofs.AsideNodes.{Inner, Earlier, aside-inner, inner-aside}
 use Rattle.matching.proofs.NodeLaws.{node-some, node-of, node-one}
 use Rattle.layout.specs.Layout.{KID, MARK, HEAD, FAIL}
 use Rattle.layout.specs.Tables.{cell, members, owners}
 use Rattle.layout.specs.Numbered.{patternsIn, Numbered}
-use Rattle.owners.specs.Owners.{Among, Judged}
+use Rattle.owners.specs.Owners.{Judged}
 use Rattle.layout.proofs.Heads.{linked-head}
-use Rattle.owners.proofs.MemberNodes.{Member, in-member, node-num, node-most}
+use Rattle.owners.proofs.MemberNodes.{in-member, node-num}
 
 -- the first of an ascending list
 head-least : (xs : List ℕ) (k : ℕ) → Asc _<_ xs → In k xs → headOr 0 xs ≤ k
@@ -83,7 +82,8 @@ module _ {s es : List ℕ} {n count : ℕ} {w : List ℕ} {i : ℕ} (J : Judged 
     aside-kid {a} {b} g h l =
         let K = J .marked .headed .automaton .branched .kids in
         let e : cell w KID (suc f) ≡ b = rw (← add-one f) (sym (h .is)) in
-        let q : Num ps (cell w KID f) = record { some = K .some f (omega (arith, m .inside)) .0; inside = omega (arith, g .is, e, K .some (suc f) (m .inside) .1) } in
+        let q : Num ps (cell w KID f) =
+        record { some = K .some f (omega (arith, m .inside)) .0; inside = omega (arith, g .is, e, K .some (suc f) (m .inside) .1) } in
         let (c, t) = K .back f (cell w KID f) (m .inside) q (omega arith) (omega (arith, g .is, e)) in
         sym (inner-aside ss i M (inl (inl (c, rw (t, m .is) at (node-some ps (cell w KID f) q .1)))))
 

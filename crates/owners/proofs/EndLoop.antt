@@ -7,14 +7,14 @@
 -- A proper ending of a slip that is a node ends the failure of the slip's node. If the node u has d letters, then it is the one ending of that
 -- length, and the shorter ones end its failure; if it has fewer, then there is none of that length.
 use mathlib.Core.Path.{_≡_, refl, sym, ap, _∙_}
-use mathlib.Core.Bool.{Bool, true, false, _&&_, _||_}
+use mathlib.Core.Bool.{Bool, true, false, _&&_}
 use mathlib.Core.Logic.{inl, inr}
 use mathlib.Core.List.{List, [], _∷_}
-use Prim.Native.Nat.{ℕ, suc, _+_, _-_, _≤_, _<_}
+use Prim.Native.Nat.{ℕ, _+_, _-_, _≤_, _<_}
 use native.Mathlib.Decide.{ℕ-discrete, decLt}
 use native.Mathlib.Omega.{arith}
 use lib.Dec.{ltb, leb}
-use lib.ListN.{length, getD, drop, replicate, drop-of-length-le}
+use lib.ListN.{length, drop, replicate, drop-of-length-le}
 use borrow.Author.Tests.{ltb-true, ltb-false, lt-ltb, le-ltb, le-leb}
 use Rattle.words.specs.Lists.{tailOf}
 use Rattle.words.specs.Words.{ends, endsProperly}
@@ -22,7 +22,7 @@ use Rattle.words.proofs.Tests.{tell, both}
 use Rattle.words.proofs.Strings.{ends-length, ends-refl, endsProperly-ends}
 use Rattle.words.proofs.Members.{In, in-those}
 use Rattle.trays.specs.Limits.{maxSlip}
-use Rattle.trays.specs.Slips.{slipsOf, slip, startOf, endOf}
+use Rattle.trays.specs.Slips.{slipsOf, slip, endOf}
 use Rattle.trays.specs.Checks.{spanOf}
 use Rattle.trays.specs.declared.Span.{Span}
 use Rattle.tables.specs.Tables.{Got, Filled}
@@ -93,8 +93,11 @@ pub record Falling (s es : List ℕ) (n k count : ℕ) (w₀ : List ℕ) (j i en
   pub node : u < length (nodes (patternsIn s es n w₀))
   pub short : length (string (patternsIn s es n w₀) u) ≤ d
   pub most : d < length (slip (slipsOf s es) i)
-  pub path : (v : ℕ) → Num (patternsIn s es n w₀) v → length (string (patternsIn s es n w₀) v) ≤ d → endsProperly (string (patternsIn s es n w₀) v) (slip (slipsOf s es) i) ≡ ends (string (patternsIn s es n w₀) v) (string (patternsIn s es n w₀) u)
-  pub lists : Lists (Num (patternsIn s es n w₀)) (endKey (patternsIn s es n w₀) es) (cell w ENDS) (cell w ENDS-NEXT) (λ v. front (passed (patternsIn s es n w₀) (slip (slipsOf s es) i) d v) i (enders (slipsOf s es) (drop (j + 1) (keptIn w₀ k)) (string (patternsIn s es n w₀) v)))
+  pub path : (v : ℕ) → Num (patternsIn s es n w₀) v → length (string (patternsIn s es n w₀) v) ≤ d →
+      endsProperly (string (patternsIn s es n w₀) v) (slip (slipsOf s es) i) ≡ ends (string (patternsIn s es n w₀) v) (string (patternsIn s es n w₀) u)
+  pub lists : Lists (Num (patternsIn s es n w₀)) (endKey (patternsIn s es n w₀) es) (cell w ENDS) (cell w ENDS-NEXT)
+      (λ v. front (passed (patternsIn s es n w₀) (slip (slipsOf s es) i) d v) i
+      (enders (slipsOf s es) (drop (j + 1) (keptIn w₀ k)) (string (patternsIn s es n w₀) v)))
 
 module _ {s es : List ℕ} {n k count : ℕ} {w₀ : List ℕ} {j i : ℕ} (E : Ending s es n k count w₀ (j + 1)) (g : Got w₀ KEPT j i) where
   abbrev ss : List (List ℕ)
@@ -238,7 +241,9 @@ module _ {s es : List ℕ} {n k count : ℕ} {w₀ : List ℕ} {j i end : ℕ} {
         other v m ne e =
             F .path v m (omega arith) ∙ elim (tell (ends (string ps′ v) (string ps′ u))) [
               | inl t ↦
-                  absurd (ne (node-one ps′ (record { inside = m .inside; is = end-full (ends-end (string ps′ v) (string ps′ u) t) (omega (arith, long)) }) (record { inside = F .node; is = refl })))
+                  absurd (ne (node-one ps′
+                  (record { inside = m .inside; is = end-full (ends-end (string ps′ v) (string ps′ u) t) (omega (arith, long)) })
+                  (record { inside = F .node; is = refl })))
               | inr t ↦ t
             ]
 
@@ -309,7 +314,11 @@ module _ {s es : List ℕ} {n k count : ℕ} {w₀ : List ℕ} {j i end : ℕ} {
               staged = staged-kept (kept-lower STARTS (omega arith) (F .below)) (F .base .staged);
               upto = omega (arith, F .base .upto);
               lists =
-                  rw (members-kept n (omega (arith, N′ .few-members)) (F .below), kept-same (F .base .staged .few-kept) (kept-lower STARTS (omega arith) (F .below)), drop-got (F .base .staged) (F .got) (omega (arith, F .base .upto)))
+                  rw (
+                    members-kept n (omega (arith, N′ .few-members)) (F .below),
+                    kept-same (F .base .staged .few-kept) (kept-lower STARTS (omega arith) (F .below)),
+                    drop-got (F .base .staged) (F .got) (omega (arith, F .base .upto)),
+                  )
                   (λ v m. rw (those-front (λ r. endsProperly (string ps′ v) (slip ss′ r)) i (drop (j + 1) (keptIn w₀ k)), ← whole v m) (F .lists v m));
             };
         below = F .below;
@@ -336,7 +345,8 @@ module _ {s es : List ℕ} {n k count : ℕ} {w : List ℕ} where
   pub kept-ended : {a w′ : List ℕ} {j : ℕ} → Kept ENDS a w → Ended s es n k count w j w′ → Kept ENDS a w′
   kept-ended b S = kept-trans b (S .below)
 
-  pub ending-all : {a w′ : List ℕ} {j : ℕ} → Filled ENDS (count + 1) (replicate (count + 1) 0) w a → Kept ENDS a w′ → Ending s es n k count w′ j → j ≤ 0 → EndsFilled s es n k count w w′
+  pub ending-all : {a w′ : List ℕ} {j : ℕ} → Filled ENDS (count + 1) (replicate (count + 1) 0) w a → Kept ENDS a w′ → Ending s es n k count w′ j →
+      j ≤ 0 → EndsFilled s es n k count w w′
   ending-all {j = j} f b S l =
       let e : j ≡ 0 = omega arith in
       record {

@@ -18,19 +18,20 @@ use Rattle.tables.specs.Tables.{Got, Filled}
 use Rattle.tables.proofs.Tables.{table-at, filled-at, replicate-at}
 use Rattle.matching.specs.Nodes.{string, IsNode, Num}
 use Rattle.matching.proofs.NodeLaws.{node-one}
-use Rattle.layout.specs.Layout.{MEMBERS, HEAD, TWIN, MARK}
+use Rattle.layout.specs.Layout.{MEMBERS, HEAD, TWIN}
 use Rattle.layout.specs.Tables.{cell, members, owners}
-use Rattle.layout.specs.Numbered.{patternsIn, Automaton, Kept, Headed}
-use Rattle.layout.proofs.Frames.{kept-lower, members-kept, automaton-kept}
+use Rattle.layout.specs.Numbered.{patternsIn, Automaton, Kept}
+use Rattle.layout.proofs.Frames.{members-kept, automaton-kept}
 use Rattle.owners.specs.Owners.{Among, CanPush, Pushed, Lists, HeadsFilled}
 use Rattle.owners.proofs.Threading.{drop-here, drop-later, push-lists}
 use Rattle.owners.proofs.Keeping.{kept-trans, kept-filled, kept-pushed}
-use Rattle.owners.proofs.MemberNodes.{Member, in-member, got-member, members-length, node-num, node-most, num-most}
+use Rattle.owners.proofs.MemberNodes.{Member, got-member, members-length, node-num, node-most, num-most}
 
 pub record Heading (s es : List ℕ) (n count : ℕ) (w : List ℕ) (j : ℕ) : Type 0 where
   pub automaton : Automaton s es n count w
   pub upto : j ≤ n
-  pub lists : Lists (Num (patternsIn s es n w)) (λ v r. r) (cell w HEAD) (cell w TWIN) (λ v. owners (slipsOf s es) (drop j (members w n)) (string (patternsIn s es n w) v))
+  pub lists : Lists (Num (patternsIn s es n w)) (λ v r. r) (cell w HEAD) (cell w TWIN)
+      (λ v. owners (slipsOf s es) (drop j (members w n)) (string (patternsIn s es n w) v))
 
 module _ {s es : List ℕ} {n count : ℕ} {w : List ℕ} where
   pub heading-room : Automaton s es n count w → HEAD + (count + 1) ≤ length w
@@ -52,7 +53,8 @@ module _ {s es : List ℕ} {n count : ℕ} {w : List ℕ} where
   pub heading-place : {j : ℕ} → Heading s es n count w j → 0 < j → MEMBERS + (j - 1) < length w
   heading-place {j} H h = omega (arith, H .upto, H .automaton .branched .numbered .few-members, H .automaton .branched .numbered .room)
 
-  pub heading-all : {a w′ : List ℕ} {j : ℕ} → Filled HEAD (count + 1) (replicate (count + 1) 0) w a → Kept HEAD a w′ → Heading s es n count w′ j → j ≤ 0 → HeadsFilled s es n count w w′
+  pub heading-all : {a w′ : List ℕ} {j : ℕ} → Filled HEAD (count + 1) (replicate (count + 1) 0) w a → Kept HEAD a w′ → Heading s es n count w′ j →
+      j ≤ 0 → HeadsFilled s es n count w w′
   heading-all {w′ = w′} {j = j} f k H l =
       let e : j ≡ 0 = omega arith in
       record {

@@ -1,7 +1,7 @@
 -- What the cells below a table are after a table is cleared, a cell is written, or a list gets one more number.
 use mathlib.Core.Path.{refl, _∙_}
 use mathlib.Core.List.{List}
-use Prim.Native.Nat.{ℕ, _+_, _≤_, _<_}
+use Prim.Native.Nat.{ℕ, _≤_}
 use native.Mathlib.Omega.{arith}
 use Rattle.tables.specs.Tables.{Put, Filled}
 use Rattle.tables.proofs.Tables.{put-only}

@@ -8,7 +8,7 @@ use mathlib.Core.List.{List, [], _∷_, _++_, append-nil}
 use Prim.Native.Nat.{ℕ, suc, _+_, _≤_, _<_}
 use native.Mathlib.Numerals.{add-one}
 use native.Mathlib.Omega.{arith}
-use lib.ListN.{length, getD, take}
+use lib.ListN.{length, take}
 use lib.Seq.{take-suc, take-all}
 use Rattle.words.specs.Lists.{those}
 use Rattle.words.proofs.Members.{those-yes, those-no, those-append}
@@ -22,7 +22,7 @@ use Rattle.layout.specs.Tables.{cell, members}
 use Rattle.layout.specs.Numbered.{patternsIn, Kept}
 use Rattle.layout.proofs.Frames.{kept-lower, members-kept, patterns-kept}
 use Rattle.owners.specs.Owners.{Marked, Judged, KeptFilled}
-use Rattle.owners.proofs.Keeping.{kept-refl, kept-trans, kept-put}
+use Rattle.owners.proofs.Keeping.{kept-put}
 use Rattle.owners.proofs.MemberNodes.{got-member, members-length, node-most, num-most}
 use Rattle.layout.proofs.Heads.{headed-kept}
 
@@ -92,7 +92,8 @@ module _ {s es : List ℕ} {n count : ℕ} {w : List ℕ} where
         let N = S .marked .headed .automaton .branched .numbered in
         record { within = omega (arith, S .fewer, N .few-members, N .room); small = g .small }
 
-    pub sifting-kept : {b : Bool} {w′ : List ℕ} (j′ k′ : ℕ) → b ≡ isAside (slipsOf s es) (members w n) i → b ≡ false → Put w KEPT k i w′ → k′ ≡ k + 1 → j′ ≡ j + 1 → Sifting s es n count w′ j′ k′
+    pub sifting-kept : {b : Bool} {w′ : List ℕ} (j′ k′ : ℕ) → b ≡ isAside (slipsOf s es) (members w n) i → b ≡ false → Put w KEPT k i w′ →
+        k′ ≡ k + 1 → j′ ≡ j + 1 → Sifting s es n count w′ j′ k′
     sifting-kept {w′ = w′} j′ k′ e y p f q =
         let N = S .marked .headed .automaton .branched .numbered in
         let z : members w′ n ≡ M = members-kept n (omega (arith, N .few-members)) (kept-put p) in

@@ -1,12 +1,12 @@
 -- MARK: the nodes that are some node's failure link.
 --   Marking .. w v   == the links of the nodes below v are marked, and no other node is
 --   marking-..       == none, one more, all
-use mathlib.Core.Path.{_≡_, refl, sym, ap, _∙_}
+use mathlib.Core.Path.{_≡_, sym, ap, _∙_}
 use mathlib.Core.List.{List}
 use Prim.Native.Nat.{ℕ, _+_, _≤_, _<_}
 use native.Mathlib.Decide.{ℕ-discrete}
 use native.Mathlib.Omega.{arith}
-use lib.ListN.{length, getD, replicate}
+use lib.ListN.{length, replicate}
 use Rattle.tables.specs.Tables.{Got, Put, Room, Filled}
 use Rattle.tables.proofs.Tables.{put-here, put-other, filled-at, replicate-at}
 use Rattle.matching.specs.Nodes.{nodes, Num}
@@ -14,7 +14,7 @@ use Rattle.layout.specs.Layout.{FAIL, MARK}
 use Rattle.layout.specs.Tables.{cell}
 use Rattle.layout.specs.Numbered.{patternsIn, Numbered, Kept, Headed}
 use Rattle.layout.proofs.Frames.{patterns-kept}
-use Rattle.owners.specs.Owners.{MarkIs, MarksFilled}
+use Rattle.owners.specs.Owners.{MarksFilled}
 use Rattle.owners.proofs.Keeping.{kept-trans, kept-filled, kept-put}
 use Rattle.owners.proofs.MemberNodes.{node-most, num-most}
 use Rattle.layout.proofs.Heads.{headed-kept}
@@ -75,7 +75,8 @@ module _ {s es : List ℕ} {n count : ℕ} {w : List ℕ} where
                 rw f (λ x m l.
                 rw (same x m) (elim (ℕ-discrete (cell w FAIL x) u) [
                   | yes q ↦ rw q (put-here p (marking-can .within))
-                  | no q ↦ put-other p (cell w FAIL x) q ∙ M .into x m (elim (ℕ-discrete x v) [ yes z ↦ absurd (q (ap (cell w FAIL) z ∙ sym (g .is))) | no z ↦ omega arith ])
+                  | no q ↦ put-other p (cell w FAIL x) q
+                      ∙ M .into x m (elim (ℕ-discrete x v) [ yes z ↦ absurd (q (ap (cell w FAIL) z ∙ sym (g .is))) | no z ↦ omega arith ])
                 ]));
             back =
                 rw f (λ y l q. elim (ℕ-discrete y u) [
@@ -84,7 +85,8 @@ module _ {s es : List ℕ} {n count : ℕ} {w : List ℕ} where
                 ]);
           }
 
-  pub marking-all : {a w′ : List ℕ} {v : ℕ} → Filled MARK (count + 1) (replicate (count + 1) 0) w a → Kept MARK a w′ → Marking s es n count w′ v → count < v → MarksFilled s es n count w w′
+  pub marking-all : {a w′ : List ℕ} {v : ℕ} → Filled MARK (count + 1) (replicate (count + 1) 0) w a → Kept MARK a w′ → Marking s es n count w′ v →
+      count < v → MarksFilled s es n count w w′
   marking-all f k M l =
       let N = M .headed .automaton .branched .numbered in
       record {

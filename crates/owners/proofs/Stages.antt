@@ -1,16 +1,16 @@
 -- The tables one after another: what each leaves of those before.
-use mathlib.Core.Path.{_≡_, sym, ap, _∙_}
+use mathlib.Core.Path.{ap, _∙_}
 use mathlib.Core.List.{List}
-use Prim.Native.Nat.{ℕ, suc, _+_, _≤_, _<_}
+use Prim.Native.Nat.{ℕ, _+_}
 use native.Mathlib.Omega.{arith}
-use lib.ListN.{length, getD}
+use lib.ListN.{length}
 use Rattle.words.specs.Words.{begins}
 use Rattle.words.proofs.Strings.{begins-length}
 use Rattle.words.proofs.Members.{in-those}
 use Rattle.trays.specs.Slips.{slipsOf, slip, startOf}
 use Rattle.trays.specs.Aside.{kept}
 use Rattle.matching.specs.Nodes.{string}
-use Rattle.layout.specs.Layout.{HEAD, MARK, STARTS, STARTS-NEXT, ENDS}
+use Rattle.layout.specs.Layout.{HEAD, STARTS, STARTS-NEXT, ENDS}
 use Rattle.layout.specs.Tables.{cell, members, starters, StartsIs}
 use Rattle.layout.specs.Numbered.{patternsIn, Kept}
 use Rattle.layout.specs.Staging.{keptIn}
@@ -22,7 +22,9 @@ use Rattle.owners.proofs.MemberNodes.{num-most}
 use Rattle.owners.proofs.KeptMembers.{kept-member, kept-same}
 
 -- what is written behind STARTS-NEXT leaves its lists as they are
-pub starts-kept : {s es : List ℕ} {n k count : ℕ} {w w′ : List ℕ} → Staged s es n k count w → Kept ENDS w w′ → StartsIs (slipsOf s es) es (members w n) (keptIn w k) (cell w STARTS) (cell w STARTS-NEXT) → StartsIs (slipsOf s es) es (members w′ n) (keptIn w′ k) (cell w′ STARTS) (cell w′ STARTS-NEXT)
+pub starts-kept : {s es : List ℕ} {n k count : ℕ} {w w′ : List ℕ} → Staged s es n k count w → Kept ENDS w w′ →
+    StartsIs (slipsOf s es) es (members w n) (keptIn w k) (cell w STARTS) (cell w STARTS-NEXT) →
+    StartsIs (slipsOf s es) es (members w′ n) (keptIn w′ k) (cell w′ STARTS) (cell w′ STARTS-NEXT)
 starts-kept {s} {es} {n} {k} {count} {w} {w′} S b I =
     let N = S .automaton .branched .numbered in
     let ps = patternsIn s es n w in
@@ -30,14 +32,16 @@ starts-kept {s} {es} {n} {k} {count} {w} {w′} S b I =
     (λ v d m e.
     let x = string ps v in
     rw (b .cells (STARTS + v) (omega (arith, num-most N v m, N .few-nodes)))
-    (linked-same (λ r. cell w STARTS-NEXT (startOf es r + d)) (λ r. cell w′ STARTS-NEXT (startOf es r + d)) (cell w STARTS v) (starters (slipsOf s es) (keptIn w k) x)
+    (linked-same (λ r. cell w STARTS-NEXT (startOf es r + d)) (λ r. cell w′ STARTS-NEXT (startOf es r + d)) (cell w STARTS v)
+    (starters (slipsOf s es) (keptIn w k) x)
     (λ r q.
     let (i, t) = in-those (λ r. begins x (slip (slipsOf s es) r)) (keptIn w k) q in
     let o = kept-member S r i in
     b .cells (STARTS-NEXT + (startOf es r + d)) (omega (arith, begins-length x (slip (slipsOf s es) r) t, o .size, o .fits)))
     (I v d m e)))
 
-pub listed : {s es : List ℕ} {n k count : ℕ} {w w₁ w₂ w₃ w₄ w₅ : List ℕ} → HeadsFilled s es n count w w₁ → MarksFilled s es n count w₁ w₂ → KeptFilled s es n count w₂ k w₃ → StartsFilled s es n k count w₃ w₄ → EndsFilled s es n k count w₄ w₅ → Listed s es n count w k w₅
+pub listed : {s es : List ℕ} {n k count : ℕ} {w w₁ w₂ w₃ w₄ w₅ : List ℕ} → HeadsFilled s es n count w w₁ → MarksFilled s es n count w₁ w₂ →
+    KeptFilled s es n count w₂ k w₃ → StartsFilled s es n k count w₃ w₄ → EndsFilled s es n k count w₄ w₅ → Listed s es n count w k w₅
 listed {s} {es} {n} H M K S E =
     let N = M .marked .headed .automaton .branched .numbered in
     let two = kept-trans (H .below) (kept-lower HEAD (omega arith) (M .below)) in

@@ -8,13 +8,12 @@
 use mathlib.Core.Path.{_≡_, refl, sym, ap, _∙_}
 use mathlib.Core.Bool.{Bool, true, false, _&&_}
 use mathlib.Core.Logic.{inl, inr}
-use mathlib.Core.List.{List, [], _∷_}
+use mathlib.Core.List.{List}
 use Prim.Native.Nat.{ℕ, suc, _+_, _-_, _≤_, _<_}
 use native.Mathlib.Decide.{ℕ-discrete}
-use native.Mathlib.Numerals.{add-one}
 use native.Mathlib.Omega.{arith}
 use lib.Dec.{leb}
-use lib.ListN.{length, getD, take, drop, replicate, drop-of-length-le}
+use lib.ListN.{length, take, drop, replicate, drop-of-length-le}
 use lib.Seq.{length-take-le}
 use borrow.Author.Tests.{leb-true, leb-false, le-leb, lt-leb}
 use Rattle.words.specs.Words.{begins}
@@ -32,7 +31,7 @@ use Rattle.layout.specs.Layout.{AT, KEPT, STARTS, STARTS-NEXT}
 use Rattle.layout.specs.Tables.{cell, members, starters}
 use Rattle.layout.specs.Numbered.{patternsIn, Numbered, Kept}
 use Rattle.layout.specs.Staging.{keptIn}
-use Rattle.layout.proofs.Frames.{members-kept, patterns-kept}
+use Rattle.layout.proofs.Frames.{members-kept}
 use Rattle.owners.specs.Owners.{CanPush, Pushed, Lists, startKey, Staged, Starting, Started, StartsFilled}
 use Rattle.owners.proofs.Threading.{front, those-front, in-front, push-lists}
 use Rattle.owners.proofs.Keeping.{kept-refl, kept-trans, kept-filled, kept-pushed}
@@ -47,10 +46,13 @@ pub record Beginning (s es : List ℕ) (n k : ℕ) (w₀ : List ℕ) (j i end : 
   pub from : startOf es i ≤ p
   pub upto : p ≤ endOf es i
   pub below : Kept STARTS w₀ w
-  pub lists : Lists (Num (patternsIn s es n w₀)) (startKey (patternsIn s es n w₀) es) (cell w STARTS) (cell w STARTS-NEXT) (λ v. front (reached (patternsIn s es n w₀) es i (slip (slipsOf s es) i) p v) i (starters (slipsOf s es) (drop (j + 1) (keptIn w₀ k)) (string (patternsIn s es n w₀) v)))
+  pub lists : Lists (Num (patternsIn s es n w₀)) (startKey (patternsIn s es n w₀) es) (cell w STARTS) (cell w STARTS-NEXT)
+      (λ v. front (reached (patternsIn s es n w₀) es i (slip (slipsOf s es) i) p v) i
+      (starters (slipsOf s es) (drop (j + 1) (keptIn w₀ k)) (string (patternsIn s es n w₀) v)))
 
 -- at the length of the beginning that ends at p, only its node begins the slip
-module _ (ps : List (List ℕ)) (es : List ℕ) (i : ℕ) (x : List ℕ) (p u : ℕ) (from : startOf es i ≤ p) (m : IsNode ps u (take (suc (p - startOf es i)) x)) (h : p - startOf es i < length x) where
+module _ (ps : List (List ℕ)) (es : List ℕ) (i : ℕ) (x : List ℕ) (p u : ℕ) (from : startOf es i ≤ p)
+    (m : IsNode ps u (take (suc (p - startOf es i)) x)) (h : p - startOf es i < length x) where
   u-length : length (string ps u) ≡ suc (p - startOf es i)
   u-length = ap length (m .is) ∙ length-take-le (suc (p - startOf es i)) x h
 
@@ -150,8 +152,14 @@ module _ {s es : List ℕ} {n k count : ℕ} {w₀ : List ℕ} {j i : ℕ} (S : 
       unused v r q m e =
           let l = u-length ps es i (slip ss i) p u (B .from) node (omega (arith, within, here .size, B .from)) in
           in-front (reached ps es i (slip ss i) p v) i (rest v) m
-          (λ t z. omega (arith, ap (startOf es) z, leb-true (length (string ps v)) c (both (leb (length (string ps v)) c) (begins (string ps v) (slip ss i)) t .0), node-some ps v q .0))
-          (λ o. let b = kept-apart (S .staged) g (omega (arith, S .upto)) (in-those (λ r. begins (string ps v) (slip ss r)) (drop (j + 1) (keptIn w₀ k)) o .0) in omega (arith, within, B .from))
+          (λ t z. omega (
+            arith,
+            ap (startOf es) z,
+            leb-true (length (string ps v)) c (both (leb (length (string ps v)) c) (begins (string ps v) (slip ss i)) t .0),
+            node-some ps v q .0,
+          ))
+          (λ o. let b = kept-apart (S .staged) g (omega (arith, S .upto))
+          (in-those (λ r. begins (string ps v) (slip ss r)) (drop (j + 1) (keptIn w₀ k)) o .0) in omega (arith, within, B .from))
 
       pub beginning-more : {w′ : List ℕ} → Pushed w STARTS u STARTS-NEXT p i w′ → (p′ : ℕ) → p′ ≡ p + 1 → Beginning s es n k w₀ j i end w′ p′
       beginning-more {w′} x p′ e =
@@ -189,7 +197,11 @@ module _ {s es : List ℕ} {n k count : ℕ} {w₀ : List ℕ} {j i : ℕ} (S : 
               staged = staged-kept (B .below) (S .staged);
               upto = omega (arith, S .upto);
               lists =
-                  rw (members-kept n (omega (arith, N .few-members)) (B .below), kept-same (S .staged .few-kept) (B .below), drop-got (S .staged) g (omega (arith, S .upto)))
+                  rw (
+                    members-kept n (omega (arith, N .few-members)) (B .below),
+                    kept-same (S .staged .few-kept) (B .below),
+                    drop-got (S .staged) g (omega (arith, S .upto)),
+                  )
                   (λ v m. rw (those-front (λ r. begins (string ps v) (slip ss r)) i (drop (j + 1) (keptIn w₀ k)), ← whole v) (B .lists v m));
             };
         below = B .below;
@@ -216,7 +228,8 @@ module _ {s es : List ℕ} {n k count : ℕ} {w : List ℕ} where
   pub kept-started : {a w′ : List ℕ} {j : ℕ} → Kept STARTS a w → Started s es n k count w j w′ → Kept STARTS a w′
   kept-started b S = kept-trans b (S .below)
 
-  pub starting-all : {a w′ : List ℕ} {j : ℕ} → Filled STARTS (count + 1) (replicate (count + 1) 0) w a → Kept STARTS a w′ → Starting s es n k count w′ j → j ≤ 0 → StartsFilled s es n k count w w′
+  pub starting-all : {a w′ : List ℕ} {j : ℕ} → Filled STARTS (count + 1) (replicate (count + 1) 0) w a → Kept STARTS a w′ →
+      Starting s es n k count w′ j → j ≤ 0 → StartsFilled s es n k count w w′
   starting-all {w′ = w′} {j = j} f b S l =
       let e : j ≡ 0 = omega arith in
       let ps = patternsIn s es n w′ in

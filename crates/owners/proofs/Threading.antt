@@ -5,17 +5,17 @@
 --   pushed            == what `push` leaves, from its two stores
 --   push-lists        == the lists after a push
 -- A push changes the head of one list, and a cell that belongs to the number pushed. No list has used that cell, so the others are as they were.
-use mathlib.Core.Path.{_≡_, refl, sym, ap, _∙_}
+use mathlib.Core.Path.{_≡_, refl, _∙_}
 use mathlib.Core.Bool.{Bool, true, false, cond}
 use mathlib.Core.Logic.{inl, inr}
-use mathlib.Core.List.{List, [], _∷_, List·Memᴰ·head, List·Memᴰ·tail}
-use Prim.Native.Nat.{ℕ, zero, suc, _+_, _-_, _≤_, _<_}
+use mathlib.Core.List.{List, [], _∷_, List·Memᴰ·tail}
+use Prim.Native.Nat.{ℕ, zero, suc, _+_, _-_, _<_}
 use native.Mathlib.Decide.{ℕ-discrete}
 use native.Mathlib.Numerals.{add-one}
 use native.Mathlib.Omega.{arith}
 use lib.ListN.{length, getD, drop}
 use lib.Seq.{drop-cons}
-use Rattle.words.specs.Lists.{those, headOr}
+use Rattle.words.specs.Lists.{those}
 use Rattle.words.proofs.Tests.{tell}
 use Rattle.words.proofs.Members.{In, by-in, Asc, those-yes, those-no}
 use Rattle.tables.specs.Tables.{Got, Put}
@@ -52,7 +52,8 @@ pub in-front : {P : Type 0} {r : ℕ} (t : Bool) (i : ℕ) (xs : List ℕ) → I
 in-front true i xs m f g = by-in m (f refl) g
 in-front false i xs m f g = g m
 
-pub pushed : {w a w′ : List ℕ} {heads u nexts p i f : ℕ} → CanPush w heads u nexts p i → Got w heads u f → Put w nexts p f a → Put a heads u i w′ → Pushed w heads u nexts p i w′
+pub pushed : {w a w′ : List ℕ} {heads u nexts p i f : ℕ} → CanPush w heads u nexts p i → Got w heads u f → Put w nexts p f a → Put a heads u i w′ →
+    Pushed w heads u nexts p i w′
 pushed {w} {a} {w′} {heads} {u} {nexts} {p} {i} {f} c g x y =
     record {
       same = y .same ∙ x .same;

@@ -19,7 +19,7 @@ use Rattle.trays.specs.Limits.{maxSlips}
 use Rattle.trays.specs.Slips.{slipsOf, startOf, endOf}
 use Rattle.trays.specs.Aside.{kept}
 use Rattle.matching.specs.Nodes.{nodes, string, Num}
-use Rattle.layout.specs.Layout.{AT, FAIL, HEAD, MARK, KEPT, STARTS, STARTS-NEXT, ENDS, ENDS-NEXT}
+use Rattle.layout.specs.Layout.{FAIL, HEAD, MARK, KEPT, STARTS, STARTS-NEXT, ENDS, ENDS-NEXT}
 use Rattle.layout.specs.Tables.{cell, members, Linked, starters, enders, StartsIs, EndsIs}
 use Rattle.layout.specs.Numbered.{patternsIn, Automaton, Kept, Headed}
 use Rattle.layout.specs.Staging.{keptIn}
@@ -89,7 +89,8 @@ pub record KeptFilled (s es : List ℕ) (n count : ℕ) (w : List ℕ) (k : ℕ)
 pub record Starting (s es : List ℕ) (n k count : ℕ) (w : List ℕ) (j : ℕ) : Type 0 where
   pub staged : Staged s es n k count w
   pub upto : j ≤ k
-  pub lists : Lists (Num (patternsIn s es n w)) (startKey (patternsIn s es n w) es) (cell w STARTS) (cell w STARTS-NEXT) (λ v. starters (slipsOf s es) (drop j (keptIn w k)) (string (patternsIn s es n w) v))
+  pub lists : Lists (Num (patternsIn s es n w)) (startKey (patternsIn s es n w) es) (cell w STARTS) (cell w STARTS-NEXT)
+      (λ v. starters (slipsOf s es) (drop j (keptIn w k)) (string (patternsIn s es n w) v))
 
 pub record Started (s es : List ℕ) (n k count : ℕ) (w : List ℕ) (j : ℕ) (w′ : List ℕ) : Type 0 where
   pub starting : Starting s es n k count w′ j
@@ -104,7 +105,8 @@ pub record StartsFilled (s es : List ℕ) (n k count : ℕ) (w w′ : List ℕ) 
 pub record Ending (s es : List ℕ) (n k count : ℕ) (w : List ℕ) (j : ℕ) : Type 0 where
   pub staged : Staged s es n k count w
   pub upto : j ≤ k
-  pub lists : Lists (Num (patternsIn s es n w)) (endKey (patternsIn s es n w) es) (cell w ENDS) (cell w ENDS-NEXT) (λ v. enders (slipsOf s es) (drop j (keptIn w k)) (string (patternsIn s es n w) v))
+  pub lists : Lists (Num (patternsIn s es n w)) (endKey (patternsIn s es n w) es) (cell w ENDS) (cell w ENDS-NEXT)
+      (λ v. enders (slipsOf s es) (drop j (keptIn w k)) (string (patternsIn s es n w) v))
 
 pub record Ended (s es : List ℕ) (n k count : ℕ) (w : List ℕ) (j : ℕ) (w′ : List ℕ) : Type 0 where
   pub ending : Ending s es n k count w′ j

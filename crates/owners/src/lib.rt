@@ -22,7 +22,8 @@ fn push(work: &mut [u16], heads: usize, u: usize, nexts: usize, p: usize, i: usi
 // The node of all letters of member `i`: that of its last letter.
 fn node_of(letters: &[u8], ends: &[u16], work: &[u16], n: usize, count: usize, i: usize) -> usize
     requires { ⌜ O.Among (now letters) (now ends) n count (now work) i ⌝ }
-    ensures { λ r. ⌜ IsNode (patternsIn (now (letters .entry)) (now (ends .entry)) n (now (work .entry))) r (slip (slipsOf (now (letters .entry)) (now (ends .entry))) i) ⌝ }
+    ensures { λ r. ⌜ IsNode (patternsIn (now (letters .entry)) (now (ends .entry)) n (now (work .entry))) r
+        (slip (slipsOf (now (letters .entry)) (now (ends .entry))) i) ⌝ }
 {
     let span = trays::slip_span(ends, i);
     let end = span.end;

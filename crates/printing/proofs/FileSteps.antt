@@ -115,13 +115,15 @@ module _ (s : List ℕ) where
     pub compose-can : (r .number ≡ 0 → ⊥) → (r .detail < 10 ^ detailWidth) × (refusedSize ≤ length o)
     compose-can z = refused-can s a b (room .file) a′ b′ r t z o (omega (arith, room .tray .sheet))
 
-    pub compose-refused : (r .number ≡ 0 → ⊥) → (o′ : List ℕ) (k : ℕ) → Printed (refusedLine (refusal (r .number) (r .detail))) o o′ k → Printed (composeSheet s) o o′ k
+    pub compose-refused : (r .number ≡ 0 → ⊥) → (o′ : List ℕ) (k : ℕ) → Printed (refusedLine (refusal (r .number) (r .detail))) o o′ k →
+        Printed (composeSheet s) o o′ k
     compose-refused z o′ k p =
         let (n, h) = refused-number s a b (room .file) a′ b′ r t z in
         printed-is (refusedLine (refusal (r .number) (r .detail))) (composeSheet s) o o′ k
         (ap refusedLine (refused-as s a b (room .file) a′ b′ r t z) ∙ sym (compose-speaks n h)) p
 
-    pub compose-printed : r .number ≡ 0 → (o′ : List ℕ) (k : ℕ) → Printed (traySheet (take (r .letters) a′) (take (r .slips) b′)) o o′ k → Printed (composeSheet s) o o′ k
+    pub compose-printed : r .number ≡ 0 → (o′ : List ℕ) (k : ℕ) → Printed (traySheet (take (r .letters) a′) (take (r .slips) b′)) o o′ k →
+        Printed (composeSheet s) o o′ k
     compose-printed z o′ k p =
         printed-is (traySheet (take (r .letters) a′) (take (r .slips) b′)) (composeSheet s) o o′ k
         (rw (letters-first s a a′ b b′ r t z, ends-first s a a′ b b′ r t z) (sym (compose-silent (silent s a b (room .file) a′ b′ r t z)))) p
@@ -146,13 +148,15 @@ module _ (s x : List ℕ) where
       ∙ ap {B = List ℕ} (λ (m : ℕ). elim m [ zero ↦ findSheetOf (slipsOf (lettersIn s) (endsIn s)) (textOf x) | suc k ↦ refusedLine (own s) ]) h
 
   module _ (a b w f o : List ℕ) (room : FindRoom a b w f o) (a′ b′ : List ℕ) (r : Read) (t : Reading s a a′ b b′ r) where
-    pub find-refused : (r .number ≡ 0 → ⊥) → (o′ : List ℕ) (k : ℕ) → Printed (refusedLine (refusal (r .number) (r .detail))) o o′ k → Printed (findSheet s x) o o′ k
+    pub find-refused : (r .number ≡ 0 → ⊥) → (o′ : List ℕ) (k : ℕ) → Printed (refusedLine (refusal (r .number) (r .detail))) o o′ k →
+        Printed (findSheet s x) o o′ k
     find-refused z o′ k p =
         let (n, h) = refused-number s a b (room .file) a′ b′ r t z in
         printed-is (refusedLine (refusal (r .number) (r .detail))) (findSheet s x) o o′ k
         (ap refusedLine (refused-as s a b (room .file) a′ b′ r t z) ∙ sym (find-speaks n h)) p
 
-    pub find-printed : r .number ≡ 0 → (m : ℕ) → Trimmed x m → (o′ : List ℕ) (k : ℕ) → Printed (textSheet (take (r .letters) a′) (take (r .slips) b′) (take m x)) o o′ k → Printed (findSheet s x) o o′ k
+    pub find-printed : r .number ≡ 0 → (m : ℕ) → Trimmed x m → (o′ : List ℕ) (k : ℕ) →
+        Printed (textSheet (take (r .letters) a′) (take (r .slips) b′) (take m x)) o o′ k → Printed (findSheet s x) o o′ k
     find-printed z m q o′ k p =
         printed-is (textSheet (take (r .letters) a′) (take (r .slips) b′) (take m x)) (findSheet s x) o o′ k
         (rw (letters-first s a a′ b b′ r t z, ends-first s a a′ b b′ r t z, q .is) (sym (find-silent (silent s a b (room .file) a′ b′ r t z)))) p

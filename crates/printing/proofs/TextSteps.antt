@@ -47,7 +47,8 @@ module _ (s es t w f o : List ℕ) (room : TextRoom w f o) where
   unfolding F.findFault textFault
   own-fault =
       let k : length f / 2 ≡ maxFound = omega (arith, room .found) in
-      ap (λ (b : Bool). firstRow ((trayRows s es ++ (textRows t ++ (row 7 b 0 ∷ []))) ++ (listRow ss t (length f / 2) ∷ []))) (le-ltb (length w) workNeed (room .work))
+      ap (λ (b : Bool). firstRow ((trayRows s es ++ (textRows t ++ (row 7 b 0 ∷ []))) ++ (listRow ss t (length f / 2) ∷ [])))
+      (le-ltb (length w) workNeed (room .work))
       ∙ drop-silent (trayRows s es ++ textRows t) (listRow ss t (length f / 2) ∷ [])
       ∙ ap (λ (m : ℕ). firstRow (trayRows s es ++ (textRows t ++ (listRow ss t m ∷ [])))) k
 
@@ -102,7 +103,8 @@ module _ (s es t w f o : List ℕ) (room : TextRoom w f o) where
       stored : f′ ≡ over (flatFound (occurrences ss t)) f
       stored =
           a .found-are
-          ∙ ap {B = List ℕ} (λ (m : ℕ). elim m [ zero ↦ over (flatFound (occurrences ss t)) f | suc n ↦ f ]) (ap (λ (g : Refusal). g .number) own-fault ∙ silent)
+          ∙ ap {B = List ℕ} (λ (m : ℕ). elim m [ zero ↦ over (flatFound (occurrences ss t)) f | suc n ↦ f ])
+          (ap (λ (g : Refusal). g .number) own-fault ∙ silent)
 
       count-is : r .count ≡ length (occurrences ss t)
       count-is = ap (λ (c : Search). c .count) answer
@@ -127,7 +129,8 @@ module _ (s es t w f o : List ℕ) (room : TextRoom w f o) where
           find-ready s es (tells .tray) t (length t) (r .moves) (r .count) (take (2 * r .count) f′)
           refl (ap (λ (c : Search). c .moves) answer) count-is found-here (tells .short) (rw count-is (tells .few)) (length o) (room .sheet)
 
-      pub text-printed : (o′ : List ℕ) (k : ℕ) → Printed (findLines (length t) (r .moves) (r .count) (take (2 * r .count) f′)) o o′ k → Printed (textSheet s es t) o o′ k
+      pub text-printed : (o′ : List ℕ) (k : ℕ) → Printed (findLines (length t) (r .moves) (r .count) (take (2 * r .count) f′)) o o′ k →
+          Printed (textSheet s es t) o o′ k
       text-printed o′ k p =
           printed-is (findSheetOf ss t) (textSheet s es t) o o′ k (sym (ap (numbered s es t) silent))
           (find-printed s es (tells .tray) t (length t) (r .moves) (r .count) (take (2 * r .count) f′)

@@ -6,7 +6,7 @@
 -- taken.
 use mathlib.Core.Path.{_≡_, refl, sym, _∙_, ap}
 use mathlib.Core.Bool.{_||_}
-use mathlib.Core.List.{List, [], _∷_, _++_}
+use mathlib.Core.List.{List, [], _∷_}
 use Prim.Native.Nat.{ℕ, zero, suc, _+_, _-_, _*_, _^_, _≤_, _<_}
 use borrow.Author.Tests.{le-ltb}
 use native.Mathlib.Omega.{arith}
@@ -17,7 +17,7 @@ use Rattle.words.specs.Lists.{over}
 use Rattle.words.proofs.Buffers.{length-over}
 use Rattle.tables.specs.Tables.{table}
 use Rattle.trays.specs.declared.Refusal.{Refusal}
-use Rattle.trays.specs.Limits.{maxSlips, maxLetters, workNeed}
+use Rattle.trays.specs.Limits.{maxSlips, workNeed}
 use Rattle.trays.specs.Slips.{slipsOf}
 use Rattle.trays.specs.Faults.{refusal, accepted, row, firstRow, written, trayRows, trayFault}
 use Rattle.trays.proofs.Rows.{or-zero, or-some, rows-append}
@@ -85,7 +85,8 @@ module _ (s es w l o : List ℕ) (room : TrayRoom w l o) where
   speaks p = rows-append (trayRows s es) lastRows ∙ or-some (firstRow (trayRows s es)) (firstRow lastRows) p
 
   module _ (w′ l′ : List ℕ) (r : Composed) (st : Staged s es w w′ l l′ maxSlips maxSlips r) where
-    pub tray-cases : {P : Type 0} → (trayFault s es .number ≡ 0 → r ≡ outcomeOf ss → l′ ≡ over (legendOf ss) l → P) → ((n : ℕ) → trayFault s es .number ≡ suc n → r ≡ refusedBy (trayFault s es) → P) → P
+    pub tray-cases : {P : Type 0} → (trayFault s es .number ≡ 0 → r ≡ outcomeOf ss → l′ ≡ over (legendOf ss) l → P) →
+        ((n : ℕ) → trayFault s es .number ≡ suc n → r ≡ refusedBy (trayFault s es) → P) → P
     unfolding composedOf
     tray-cases {P} good bad = go (trayFault s es .number) refl
       where
@@ -166,8 +167,14 @@ module _ (s es w l o : List ℕ) (room : TrayRoom w l o) where
       pub legend-count : r .legend ≡ length (take (r .legend) l′)
       legend-count = rw legend-here (ap (λ (c : Composed). c .legend) answer)
 
-      pub lines-can : ComposeAsks r es (take (JOINS + 3 * r .joins - JOINS) (drop JOINS w′)) (take (PLACES + 2 * r .slips - PLACES) (drop PLACES w′)) (take (r .legend) l′) (length o)
+      pub lines-can : ComposeAsks r es (take (JOINS + 3 * r .joins - JOINS) (drop JOINS w′))
+          (take (PLACES + 2 * r .slips - PLACES) (drop PLACES w′)) (take (r .legend) l′) (length o)
       lines-can = rw (joins-here, places-here, legend-here, answer) (compose-asks s es tray (length o) (room .sheet))
 
-      pub tray-printed : (o′ : List ℕ) (k : ℕ) → Printed (composeLines r es (take (JOINS + 3 * r .joins - JOINS) (drop JOINS w′)) (take (PLACES + 2 * r .slips - PLACES) (drop PLACES w′)) (take (r .legend) l′)) o o′ k → Printed (traySheet s es) o o′ k
-      tray-printed o′ k p = printed-is (composeLines r es (take (JOINS + 3 * r .joins - JOINS) (drop JOINS w′)) (take (PLACES + 2 * r .slips - PLACES) (drop PLACES w′)) (take (r .legend) l′)) (traySheet s es) o o′ k (rw (joins-here, places-here, legend-here, answer) (compose-lines-are s es tray) ∙ sym (sheet-silent s es tray)) p
+      pub tray-printed : (o′ : List ℕ) (k : ℕ) →
+          Printed (composeLines r es (take (JOINS + 3 * r .joins - JOINS) (drop JOINS w′)) (take (PLACES + 2 * r .slips - PLACES) (drop PLACES w′))
+          (take (r .legend) l′)) o o′ k → Printed (traySheet s es) o o′ k
+      tray-printed o′ k p =
+          printed-is (composeLines r es (take (JOINS + 3 * r .joins - JOINS) (drop JOINS w′))
+          (take (PLACES + 2 * r .slips - PLACES) (drop PLACES w′)) (take (r .legend) l′)) (traySheet s es) o o′ k
+          (rw (joins-here, places-here, legend-here, answer) (compose-lines-are s es tray) ∙ sym (sheet-silent s es tray)) p

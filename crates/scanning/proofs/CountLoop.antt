@@ -2,13 +2,12 @@
 --   Counting .. state moves found read   == so many of each in the letters read so far, after which the automaton is in that state
 --   counting-..                          == the turns of the loop
 use mathlib.Core.Path.{_≡_, refl, sym, ap, ap₂, _∙_}
-use mathlib.Core.List.{List, [], _∷_, _++_, map}
+use mathlib.Core.List.{List, [], map}
 use Prim.Native.Nat.{ℕ, suc, _+_, _-_, _*_, _≤_, _<_}
-use native.Mathlib.Numerals.{add-one}
 use native.Mathlib.Omega.{arith}
 use lib.ListN.{length, getD, take, drop, length-append, length-map, drop-of-length-le}
 use Rattle.trays.specs.Limits.{maxText}
-use Rattle.trays.specs.Slips.{slipsOf, slip, numbers}
+use Rattle.trays.specs.Slips.{slipsOf, slip}
 use Rattle.tables.specs.Tables.{Got}
 use Rattle.matching.specs.Moves as Moves
 use Rattle.matching.specs.Nodes.{nodes, string, IsNode}
@@ -16,9 +15,7 @@ use Rattle.matching.specs.Occurrences as Occurrences
 use Rattle.matching.specs.Occurrences.{endingAt, occurrences}
 use Rattle.matching.proofs.States.{few-from}
 use Rattle.matching.proofs.NodeLaws.{node-root}
-use Rattle.matching.proofs.Finds.{endingOf}
 use Rattle.layout.specs.Layout.{TALLY}
-use Rattle.layout.specs.Tables.{members}
 use Rattle.layout.specs.Numbered.{patternsIn}
 use Rattle.links.specs.Links.{StepIs, CanStep}
 use Rattle.links.proofs.Steps.{node-within, state-none, state-next, moves-next, moves-least}

@@ -5,7 +5,7 @@
 --   occurs-none        == behind the whole text there are none
 --   ending-most        == at most as many slips end at one place as there are
 --   occurs-few         == so that the occurrences are at most 200 for each letter
-use mathlib.Core.Path.{_≡_, refl, sym, ap, _∙_}
+use mathlib.Core.Path.{_≡_, refl, ap}
 use mathlib.Core.List.{List, [], _∷_, _++_, map}
 use Prim.Native.Nat.{ℕ, zero, suc, _+_, _-_, _*_, _≤_, _<_}
 use native.Mathlib.Omega.{arith}
@@ -15,7 +15,7 @@ use Rattle.words.proofs.Runs.{length-upFrom}
 use Rattle.words.specs.Lists.{each, upFrom}
 use Rattle.trays.specs.Limits.{maxSlips}
 use Rattle.trays.specs.Slips.{slip, numbers}
-use Rattle.matching.specs.Occurrences.{Found, found, endingAt, occurrences}
+use Rattle.matching.specs.Occurrences.{found, endingAt, occurrences}
 use Rattle.outputs.proofs.Outs.{ending-most}
 use Rattle.scanning.specs.Scanning.{occursFrom}
 

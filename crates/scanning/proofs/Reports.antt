@@ -6,7 +6,7 @@
 -- What ends a node's string is the members of its letters, ascending, then what ends its output link; and an output link that is not 0 has members.
 use mathlib.Core.Path.{_≡_, refl, sym, ap, subst, _∙_}
 use mathlib.Core.List.{List, [], _∷_, _++_, List·Memᴰ·head, List·Memᴰ·tail}
-use Prim.Native.Nat.{ℕ, suc, _+_, _≤_, _<_}
+use Prim.Native.Nat.{ℕ, _+_, _≤_, _<_}
 use native.Mathlib.Omega.{arith}
 use lib.ListN.{length}
 use Rattle.words.specs.Lists.{tailOf}
@@ -14,7 +14,7 @@ use Rattle.words.specs.Words.{same}
 use Rattle.words.proofs.Members.{In, in-those}
 use Rattle.trays.specs.Slips.{slipsOf, slip}
 use Rattle.tables.specs.Tables.{Got}
-use Rattle.matching.specs.Nodes.{string, IsNode, Num}
+use Rattle.matching.specs.Nodes.{string, Num}
 use Rattle.matching.proofs.Finds.{endingOf}
 use Rattle.matching.proofs.NodeLaws.{node-some}
 use Rattle.layout.specs.Layout.{HEAD, TWIN, OUT}
@@ -50,7 +50,12 @@ module _ {s es : List ℕ} {n count : ℕ} {w : List ℕ} (T : Told s es n count
 
   pub nothing : (v : ℕ) → v ≡ 0 → Pending ss M w 0 0 (endingOf ss M (string ps v))
   nothing v z =
-      record { small = omega arith; none = λ e. ap (λ u. endingOf ss M (string ps u)) z ∙ ending-root ss M (numbered .ascending) (member-letters numbered); some = λ h. absurd (h refl) }
+      record {
+        small = omega arith;
+        none = λ e. ap (λ u. endingOf ss M (string ps u)) z
+            ∙ ending-root ss M (numbered .ascending) (member-letters numbered);
+        some = λ h. absurd (h refl);
+      }
 
   -- the members of a node's letters: the first of them is i
   module _ {v h : ℕ} (m : Num ps v) (g : Got w HEAD v h) (i : ℕ) (is : List ℕ) (e : owners ss M (string ps v) ≡ i ∷ is) where
@@ -107,7 +112,8 @@ module _ {s es : List ℕ} {n count : ℕ} {w : List ℕ} (T : Told s es n count
         (λ e. absurd (z (g .is ∙ subst (Linked (cell w TWIN) (cell w HEAD v)) e (T .headed .heads v m))))
         (λ i is e. from-head m g i is e)
 
-    pub here-behind : {node i : ℕ} → h ≡ 0 → Pending ss M w node i (endingOf ss M (string ps (cell w OUT v))) → Pending ss M w node i (endingOf ss M (string ps v))
+    pub here-behind : {node i : ℕ} → h ≡ 0 → Pending ss M w node i (endingOf ss M (string ps (cell w OUT v))) →
+        Pending ss M w node i (endingOf ss M (string ps v))
     here-behind z p =
         by-list (owners ss M (string ps v))
         (λ e. rw (ending-out ss M (numbered .ascending) v m (T .outs v m), e) p)

@@ -7,7 +7,7 @@
 --   reportable-..     == the occurrence that is reported, and the scan behind it
 -- The occurrences that are left are those still to be reported at this place, then those that end at later letters. Where none is left here the next
 -- letter gives its own; where one is, it is the first of all that are left.
-use mathlib.Core.Path.{_≡_, refl, sym, ap, ap₂, subst, _∙_}
+use mathlib.Core.Path.{_≡_, refl, sym, ap, ap₂, _∙_}
 use mathlib.Core.List.{List, [], _∷_, _++_, map}
 use Prim.Native.Nat.{ℕ, zero, suc, _+_, _-_, _*_, _≤_, _<_}
 use native.Mathlib.Decide.{decLt}
@@ -17,12 +17,12 @@ use lib.ListN.{length, getD, take, drop, length-drop}
 use Rattle.words.specs.Lists.{tailOf, headOr}
 use Rattle.words.proofs.Strings.{begins-refl}
 use Rattle.trays.specs.Limits.{maxSlips, maxText}
-use Rattle.trays.specs.Slips.{slipsOf, slip, numbers}
+use Rattle.trays.specs.Slips.{slipsOf, slip}
 use Rattle.trays.proofs.Accepted.{accepted-tells, slips-count}
 use Rattle.tables.specs.Tables.{Got}
 use Rattle.matching.specs.Moves.{longestEnding}
 use Rattle.matching.specs.Nodes.{string, IsNode, Num}
-use Rattle.matching.specs.Occurrences.{Found, found, endingAt, occurrences}
+use Rattle.matching.specs.Occurrences.{found, endingAt, occurrences}
 use Rattle.matching.proofs.Endings.{slip-some}
 use Rattle.matching.proofs.Finds.{endingOf, ending-longest}
 use Rattle.layout.specs.Layout.{TWIN, OUT}
@@ -84,7 +84,8 @@ module _ {s es t : List ℕ} {n count : ℕ} {w : List ℕ} {x : Scan} (U : Unre
     pub unread-node : AtNode s es n count w u
     unread-node = able-node (U .standing .able) (i .state)
 
-    pub unread-read : {node slip : ℕ} → Pending (slipsOf s es) (members w n) w node slip (endingOf (slipsOf s es) (members w n) (string (patternsIn s es n w) u))
+    pub unread-read : {node slip : ℕ} →
+        Pending (slipsOf s es) (members w n) w node slip (endingOf (slipsOf s es) (members w n) (string (patternsIn s es n w) u))
         → Read s es t n count w x (record { done = x .done; read = x .read + 1; state = u; node = node; slip = slip })
     unread-read p =
         let S = U .standing in
@@ -102,7 +103,8 @@ module _ {s es t : List ℕ} {n count : ℕ} {w : List ℕ} {x : Scan} (U : Unre
             left =
                 S .left
                 ∙ ap (λ l. map (found (x .read)) l ++ occursFrom ss t (x .read)) none
-                ∙ rw add-one (next ∙ ap (λ l. map (found (suc (x .read))) l ++ occursFrom ss t (suc (x .read))) (able-endings (S .able) (take (suc (x .read)) t) (rw add-one at m)));
+                ∙ rw add-one (next ∙ ap (λ l. map (found (suc (x .read))) l ++ occursFrom ss t (suc (x .read)))
+                (able-endings (S .able) (take (suc (x .read)) t) (rw add-one at m)));
           };
           done = refl;
           read = refl;
@@ -148,7 +150,8 @@ module _ {s es t : List ℕ} {n count : ℕ} {w : List ℕ} {x : Scan} (P : Repo
   here : Reporting (slipsOf s es) (members w n) w (x .node) (x .slip) (P .standing .rest)
   here = P .standing .pending .some (P .some)
 
-  left-here : drop (x .done) (occurrences (slipsOf s es) t) ≡ found (x .read) (x .slip) ∷ (map (found (x .read)) (tailOf (P .standing .rest)) ++ occursFrom (slipsOf s es) t (x .read))
+  left-here : drop (x .done) (occurrences (slipsOf s es) t) ≡ found (x .read) (x .slip)
+      ∷ (map (found (x .read)) (tailOf (P .standing .rest)) ++ occursFrom (slipsOf s es) t (x .read))
   left-here = P .standing .left ∙ map-first (found (x .read)) (P .standing .rest) (x .slip) _ _ (here .list-is)
 
   pub reportable-found : getD (occurrences (slipsOf s es) t) (x .done) (found 0 0) ≡ found (x .read) (x .slip)
@@ -186,7 +189,8 @@ module _ {s es t : List ℕ} {n count : ℕ} {w : List ℕ} {x : Scan} (P : Repo
           done = refl;
         }
 
-    pub reportable-twin : (twin ≡ 0 → ⊥) → Passed s es t n count w x (record { done = x .done + 1; read = x .read; state = x .state; node = x .node; slip = twin })
+    pub reportable-twin : (twin ≡ 0 → ⊥) →
+        Passed s es t n count w x (record { done = x .done + 1; read = x .read; state = x .state; node = x .node; slip = twin })
     reportable-twin z = passed (twin-next (P .standing .able .told) here g z)
 
     pub reportable-behind : {node i : ℕ} → twin ≡ 0

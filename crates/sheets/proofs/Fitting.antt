@@ -62,8 +62,11 @@ module _ (s es : List ℕ) (acc : trayFault s es .number ≡ 0) where
   join-fits : (j : Join) → Arc (weight counted ss) K j → JoinFits j
   join-fits j (_, _, l, r, o) =
       let (_, a) = kept-real s es acc (j .left) (held-in (j .left) K l) in
-      let (p, b) = kept-real s es acc (j .right) (held-in (j .right) K r) in
-      (omega (arith, few), omega (arith, few), omega (arith, o, overlapFor-fits counted (slip ss (j .left)) (slip ss (j .right)), accepted-spanned s es acc .short (j .right) p b))
+      let (p, b) = kept-real s es acc (j .right) (held-in (j .right) K r) in (
+        omega (arith, few),
+        omega (arith, few),
+        omega (arith, o, overlapFor-fits counted (slip ss (j .left)) (slip ss (j .right)), accepted-spanned s es acc .short (j .right) p b),
+      )
 
   joins-fewer : length (plainJoins ss) ≤ maxSlips - 1
   joins-fewer =

@@ -23,7 +23,8 @@ use Rattle.matching.specs.Moves.{moves}
 use Rattle.matching.specs.Occurrences.{Found, found, occurrences}
 use Rattle.composing.specs.Answers.{outcomeOf, flatJoins, flatPlaces}
 use Rattle.finding.specs.Answers.{flatFound}
-use Rattle.sheets.specs.Sheets.{asideSign, keptSign, signOf, joinLine, slipLineOf, slipLineAt, joinLineAt, foundLine, foundLineAt, lines, composeLines, composeSheetOf, findLines, findSheetOf}
+use Rattle.sheets.specs.Sheets.{asideSign, keptSign, signOf, joinLine, slipLineOf, slipLineAt, joinLineAt}
+use Rattle.sheets.specs.Sheets.{foundLine, foundLineAt, lines, composeLines, composeSheetOf, findLines, findSheetOf}
 
 -- two or three numbers for each element
 module _ {A : Type 0} (d : A) (a b : A → ℕ) where
@@ -51,7 +52,8 @@ module _ {A : Type 0} (d : A) (a b : A → ℕ) where
     three-length [] = refl
     three-length (x ∷ xs) = omega (arith, three-length xs)
 
-    pub three-at : (xs : List A) (i : ℕ) → i < length xs → (getD (threes xs) (3 * i) 0 ≡ a (getD xs i d)) × (getD (threes xs) (3 * i + 1) 0 ≡ b (getD xs i d)) × (getD (threes xs) (3 * i + 2) 0 ≡ c (getD xs i d))
+    pub three-at : (xs : List A) (i : ℕ) → i < length xs →
+        (getD (threes xs) (3 * i) 0 ≡ a (getD xs i d)) × (getD (threes xs) (3 * i + 1) 0 ≡ b (getD xs i d)) × (getD (threes xs) (3 * i + 2) 0 ≡ c (getD xs i d))
     three-at [] i h = absurd (omega arith)
     three-at (x ∷ xs) zero h = (refl, refl, refl)
     three-at (x ∷ xs) (suc i) h =
@@ -62,13 +64,15 @@ module _ {A : Type 0} (d : A) (a b : A → ℕ) where
         (rw e (r .0), rw f (r .1), rw g (r .2))
 
 -- lines by index
-each-from : {A : Type 0} (d : A) (f : ℕ → List ℕ) (g : A → List ℕ) (k : ℕ) (xs : List A) → ((i : ℕ) → i < length xs → f (k + i) ≡ g (getD xs i d)) → each f (upFrom k (length xs)) ≡ each g xs
+each-from : {A : Type 0} (d : A) (f : ℕ → List ℕ) (g : A → List ℕ) (k : ℕ) (xs : List A) → ((i : ℕ) → i < length xs → f (k + i) ≡ g (getD xs i d)) →
+    each f (upFrom k (length xs)) ≡ each g xs
 each-from d f g k [] h = refl
 each-from d f g k (x ∷ xs) h =
     ap₂ _++_ (ap f (sym (add-zero k)) ∙ h zero (omega arith))
     (each-from d f g (suc k) xs (λ i l. let e : suc k + i ≡ k + suc i = omega arith in rw e (h (suc i) (omega arith))))
 
-pub lines-each : {A : Type 0} (d : A) (f : ℕ → List ℕ) (g : A → List ℕ) (xs : List A) → ((i : ℕ) → i < length xs → f i ≡ g (getD xs i d)) → lines f (length xs) ≡ each g xs
+pub lines-each : {A : Type 0} (d : A) (f : ℕ → List ℕ) (g : A → List ℕ) (xs : List A) → ((i : ℕ) → i < length xs → f i ≡ g (getD xs i d)) →
+    lines f (length xs) ≡ each g xs
 lines-each d f g xs h = each-from d f g 0 xs (λ i l. let e : 0 + i ≡ i = omega arith in rw e (h i l))
 
 -- slip numbers
@@ -96,7 +100,8 @@ sign-flat : (b : Bool) → signOf (cond b 0 1) ≡ cond b asideSign keptSign
 sign-flat true = refl
 sign-flat false = refl
 
-pub place-at : (ss : List (List ℕ)) (i : ℕ) → i < length ss → (getD (flatPlaces ss) (2 * i) 0 ≡ placeOf ss (suc i)) × (getD (flatPlaces ss) (2 * i + 1) 0 ≡ cond (isAside ss (numbers ss) (suc i)) 0 1)
+pub place-at : (ss : List (List ℕ)) (i : ℕ) → i < length ss →
+    (getD (flatPlaces ss) (2 * i) 0 ≡ placeOf ss (suc i)) × (getD (flatPlaces ss) (2 * i + 1) 0 ≡ cond (isAside ss (numbers ss) (suc i)) 0 1)
 place-at ss i h =
     let e : getD (numbers ss) i 0 ≡ suc i = upFrom-at 1 (length ss) i h ∙ omega arith in
     rw e at (two-at 0 (placeOf ss) (λ k. cond (isAside ss (numbers ss) k) 0 1) (numbers ss) i (rw (length-upFrom 1 (length ss)) h))
@@ -126,6 +131,7 @@ module _ (s es : List ℕ) (acc : trayFault s es .number ≡ 0) where
   compose-lines-are = rw (slips-flat, joins-flat (plainJoins ss))
 
 -- what find_lines writes, over the numbers of the occurrences
-pub find-lines-are : (ss : List (List ℕ)) (t : List ℕ) → findLines (length t) (moves ss t) (length (occurrences ss t)) (flatFound (occurrences ss t)) ≡ findSheetOf ss t
+pub find-lines-are : (ss : List (List ℕ)) (t : List ℕ) →
+    findLines (length t) (moves ss t) (length (occurrences ss t)) (flatFound (occurrences ss t)) ≡ findSheetOf ss t
 unfolding findSheetOf
 find-lines-are ss t = rw (found-flat (occurrences ss t))

@@ -39,7 +39,8 @@ compose-long : (s : List ℕ) → maxFile < length s → composeSheet s ≡ refu
 unfolding composeSheet fileFault
 compose-long s h =
     ap {B = List ℕ}
-    (λ (f : Refusal). let g = orElse f (trayFault (lettersIn s) (endsIn s)) in elim (g .number) [ zero ↦ composeSheetOf (slipsOf (lettersIn s) (endsIn s)) | suc n ↦ refusedLine g ])
+    (λ (f : Refusal). let g = orElse f (trayFault (lettersIn s) (endsIn s)) in
+    elim (g .number) [ zero ↦ composeSheetOf (slipsOf (lettersIn s) (endsIn s)) | suc n ↦ refusedLine g ])
     (file-long s h)
 
 pub compose-cut : (s : List ℕ) → composeSheet (take (maxFile + 1) s) ≡ composeSheet s

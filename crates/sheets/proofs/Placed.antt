@@ -90,21 +90,27 @@ module _ (s es : List ℕ) (acc : trayFault s es .number ≡ 0) where
   aside-held zero i p l h = absurd (omega arith)
   aside-held (suc f) i p l h =
       elim (tell (isAside ss (numbers ss) i)) [
-        | inr e ↦
-            (i, kept-in ss (numbers ss) (upFrom-in 1 (length ss) i p (omega (arith, slips-count s es))) e, begins-stands (slip ss i) (slip ss i) (begins-refl (slip ss i)))
+        | inr e ↦ (
+          i,
+          kept-in ss (numbers ss) (upFrom-in 1 (length ss) i p (omega (arith, slips-count s es))) e,
+          begins-stands (slip ss i) (slip ss i) (begins-refl (slip ss i)),
+        )
         | inl e ↦
             let (k, n) = aside-next i e in
             let (g, m, t) = aside-held f k (n .real .0) (n .real .1) (omega (arith, n .falls)) in
             (g, m, stands-trans (slip ss i) (slip ss k) (slip ss g) (n .holds) t)
       ]
 
-  laid : (i : ℕ) → In i K → (1 ≤ placeIn ss i 1 (piecesFor counted ss (numbers ss))) × (begins (slip ss i) (drop (placeIn ss i 1 (piecesFor counted ss (numbers ss)) - 1) (legendOf ss)) ≡ true)
+  laid : (i : ℕ) → In i K →
+      (1 ≤ placeIn ss i 1 (piecesFor counted ss (numbers ss))) ×
+      (begins (slip ss i) (drop (placeIn ss i 1 (piecesFor counted ss (numbers ss)) - 1) (legendOf ss)) ≡ true)
   laid i m = laid-at counted ss (joins-rep .1) i (in-held i K m)
 
   pub legend-every : (i : ℕ) → 1 ≤ i → i ≤ length es → standsIn (slip ss i) (legendOf ss) ≡ true
   legend-every i p l =
       let (k, m, t) = aside-held (left i) i p l (omega arith) in
-      stands-trans (slip ss i) (slip ss k) (legendOf ss) t (stands-drop (placeIn ss k 1 (piecesFor counted ss (numbers ss)) - 1) (slip ss k) (legendOf ss) (laid k m .1))
+      stands-trans (slip ss i) (slip ss k) (legendOf ss) t
+      (stands-drop (placeIn ss k 1 (piecesFor counted ss (numbers ss)) - 1) (slip ss k) (legendOf ss) (laid k m .1))
 
   pub place-most : (i : ℕ) → 1 ≤ i → i ≤ length es → placeOf ss i ≤ length (legendOf ss)
   place-most i p l =

@@ -33,7 +33,8 @@ module _ (s es : List ℕ) (acc : trayFault s es .number ≡ 0) where
       pub compose-printed : (old new : List ℕ) (r : ℕ) → Printed (composeLines c es js ps t) old new r → Printed (composeSheetOf ss) old new r
       compose-printed old new r p = rw (ec, ej, ep, et, compose-lines-are s es acc) at p
 
-  module _ (t : List ℕ) (n m k : ℕ) (ns : List ℕ) (en : n ≡ length t) (em : m ≡ moves ss t) (ek : k ≡ length (occurrences ss t)) (es′ : ns ≡ flatFound (occurrences ss t)) where
+  module _ (t : List ℕ) (n m k : ℕ) (ns : List ℕ) (en : n ≡ length t) (em : m ≡ moves ss t) (ek : k ≡ length (occurrences ss t))
+      (es′ : ns ≡ flatFound (occurrences ss t)) where
     pub find-ready : length t ≤ maxText → k ≤ maxFound → (room : ℕ) → findRoom ≤ room → FindAsks n m k ns room
     find-ready small few room h = rw (en, em, ek, es′) (find-asks s es acc t small (rw ek at few) room h)
 

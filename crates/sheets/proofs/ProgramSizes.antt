@@ -26,7 +26,8 @@ use Rattle.sheets.proofs.Sizes.{refused-size, compose-most}
 pub file-refusal-fits : (s : List ℕ) → RefusalFits (fileFault s)
 unfolding fileFault
 file-refusal-fits s =
-    or-fits (readFault s maxFile endsNeed) (trayFault (lettersIn s) (endsIn s)) (read-refusal-fits s maxFile endsNeed) (λ z. tray-refusal-fits (lettersIn s) (endsIn s))
+    or-fits (readFault s maxFile endsNeed) (trayFault (lettersIn s) (endsIn s)) (read-refusal-fits s maxFile endsNeed)
+    (λ z. tray-refusal-fits (lettersIn s) (endsIn s))
 
 -- a file that is not turned back holds an accepted tray
 pub file-tray : (s : List ℕ) → fileFault s .number ≡ 0 → trayFault (lettersIn s) (endsIn s) .number ≡ 0

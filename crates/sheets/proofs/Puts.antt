@@ -38,7 +38,13 @@ put-more {at} {m} {n} {r} {q} {xs} {ys} {a} {b} {c} p o =
     record {
       is =
           o .is
-          ∙ rw (e, take-at (take at a ++ xs) (drop (length xs) (drop at a)) r l, drop-at (take at a ++ xs) (drop (length xs) (drop at a)) r l, length-append, drop-drop (length ys) (length xs) (drop at a))
+          ∙ rw (
+            e,
+            take-at (take at a ++ xs) (drop (length xs) (drop at a)) r l,
+            drop-at (take at a ++ xs) (drop (length xs) (drop at a)) r l,
+            length-append,
+            drop-drop (length ys) (length xs) (drop at a),
+          )
           (simp append-assoc);
       many = rw length-append (omega arith);
       room = omega arith;

@@ -4,7 +4,7 @@
 --   column-read      == what columns hold is the number
 -- By the digits of the tenth of a number: one digit more makes ten times as much and that digit.
 use mathlib.Core.Path.{_≡_, refl, _∙_, ap}
-use mathlib.Core.Bool.{true, false}
+use mathlib.Core.Bool.{true}
 use mathlib.Core.List.{List, [], _∷_, _++_}
 use Prim.Native.Nat.{ℕ, zero, suc, _+_, _-_, _*_, _/_, _%_, _≤_, _<_}
 use borrow.Author.Tests.{le-leb, ne-eqb}

@@ -87,7 +87,11 @@ tray-refusal-fits s es =
           row-fits 4 (ltb maxLetters (length s)) 0 (omega arith) (omega arith),
           (
             row-fits 5 (not (eqb (lastOr 0 es) (length s))) 0 (omega arith) (omega arith),
-            (row-fits 6 (leb 1 (badSlip 1 (slipsOf s es))) (badSlip 1 (slipsOf s es)) (omega arith) (omega (arith, badSlip-most 0 (slipsOf s es), slips-count s es)), tt),
+            (
+              row-fits 6 (leb 1 (badSlip 1 (slipsOf s es))) (badSlip 1 (slipsOf s es)) (omega arith)
+                  (omega (arith, badSlip-most 0 (slipsOf s es), slips-count s es)),
+              tt,
+            ),
           ),
         ),
       ),

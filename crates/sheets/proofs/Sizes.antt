@@ -28,7 +28,9 @@ use Rattle.matching.specs.Occurrences.{found, occurrences}
 use Rattle.composing.specs.declared.Composed.{Composed}
 use Rattle.composing.specs.Answers.{outcomeOf, flatJoins, flatPlaces}
 use Rattle.finding.specs.Answers.{flatFound}
-use Rattle.sheets.specs.Sheets.{threeLine, trayLine, slipLine, findLine, foundLine, refusedLine, lines, slipLineAt, joinLineAt, foundLineAt, composeLines, composeSheetOf, findLines, findSheetOf, composeRoom, maxFound, findRoom, placeWidth, countWidth, detailWidth, traySize, slipSize, joinSize, findSize, foundSize, refusedSize}
+use Rattle.sheets.specs.Sheets.{threeLine, trayLine, slipLine, findLine, foundLine, refusedLine, lines, slipLineAt, joinLineAt}
+use Rattle.sheets.specs.Sheets.{foundLineAt, composeLines, composeSheetOf, findLines, findSheetOf, composeRoom, maxFound, findRoom}
+use Rattle.sheets.specs.Sheets.{placeWidth, countWidth, detailWidth, traySize, slipSize, joinSize, findSize, foundSize, refusedSize}
 use Rattle.sheets.specs.Fits.{JoinFits, OccurrenceFits, RefusalFits}
 use Rattle.sheets.specs.Printing.{HeaderFits, SlipsFit, JoinsFit, ComposeAsks, FoundFit, FindAsks}
 use Rattle.sheets.proofs.Columns.{column-length}
@@ -58,7 +60,12 @@ slip-size i n p k a b c =
 
 find-line-size : (n m k : ℕ) → n < 10 ^ placeWidth → m < 10 ^ placeWidth → k < 10 ^ countWidth → length (findLine n m k) ≡ findSize
 find-line-size n m k a b c =
-    simp length-append (omega (arith, column-length placeWidth n (omega arith) a, column-length placeWidth m (omega arith) b, column-length countWidth k (omega arith) c))
+    simp length-append (omega (
+      arith,
+      column-length placeWidth n (omega arith) a,
+      column-length placeWidth m (omega arith) b,
+      column-length countWidth k (omega arith) c,
+    ))
 
 found-size : (e i : ℕ) → e < 10 ^ placeWidth → i < 10 ^ 4 → length (foundLine e i) ≡ foundSize
 found-size e i a b = simp length-append (omega (arith, column-length placeWidth e (omega arith) a, column-length 4 i (omega arith) b))
@@ -66,7 +73,11 @@ found-size e i a b = simp length-append (omega (arith, column-length placeWidth 
 pub refused-size : (f : Refusal) → RefusalFits f → length (refusedLine f) ≡ refusedSize
 refused-size f F =
     simp length-append
-    (omega (arith, column-length 4 (f .number) (omega arith) (omega (arith, F .number-fits)), column-length detailWidth (f .detail) (omega arith) (F .detail-fits)))
+    (omega (
+      arith,
+      column-length 4 (f .number) (omega arith) (omega (arith, F .number-fits)),
+      column-length detailWidth (f .detail) (omega arith) (F .detail-fits),
+    ))
 
 each-size : (f : ℕ → List ℕ) (w k n : ℕ) → ((i : ℕ) → k ≤ i → i < k + n → length (f i) ≡ w) → length (each f (upFrom k n)) ≡ w * n
 each-size f w k zero h = sym (mul-zero w)
@@ -77,14 +88,16 @@ each-size f w k (suc n) h =
 lines-size : (f : ℕ → List ℕ) (w n : ℕ) → ((i : ℕ) → i < n → length (f i) ≡ w) → length (lines f n) ≡ w * n
 lines-size f w n h = each-size f w 0 n (λ i a b. h i (omega arith))
 
-pub compose-size : (c : Composed) (es js ps t : List ℕ) (room : ℕ) → ComposeAsks c es js ps t room → length (composeLines c es js ps t) ≡ traySize + (slipSize * length es + (joinSize * c .joins + (length t + 1)))
+pub compose-size : (c : Composed) (es js ps t : List ℕ) (room : ℕ) → ComposeAsks c es js ps t room →
+    length (composeLines c es js ps t) ≡ traySize + (slipSize * length es + (joinSize * c .joins + (length t + 1)))
 compose-size c es js ps t room A =
     let slips : length (lines (slipLineAt es ps) (length es)) ≡ slipSize * length es =
     lines-size (slipLineAt es ps) slipSize (length es)
     (λ i h. slip-size (i + 1) _ _ _ (omega (arith, A .slips .few)) (omega (arith, A .slips .small i h)) (A .slips .placed i h)) in
     let joins : length (lines (joinLineAt js) (c .joins)) ≡ joinSize * c .joins =
     lines-size (joinLineAt js) joinSize (c .joins)
-    (λ i h. three-size 4 _ _ _ (omega arith) (A .joins .small (3 * i) (omega arith)) (A .joins .small (3 * i + 1) (omega arith)) (A .joins .small (3 * i + 2) (omega arith))) in
+    (λ i h. three-size 4 _ _ _ (omega arith) (A .joins .small (3 * i) (omega arith)) (A .joins .small (3 * i + 1) (omega arith))
+    (A .joins .small (3 * i + 2) (omega arith))) in
     simp length-append (omega (arith, simp length-append at (tray-size c (A .header))))
 
 pub find-size : (n m k : ℕ) (ns : List ℕ) (room : ℕ) → FindAsks n m k ns room → length (findLines n m k ns) ≡ findSize + foundSize * k
@@ -118,14 +131,22 @@ module _ (s es : List ℕ) (acc : trayFault s es .number ≡ 0) where
       let js = plainJoins ss in
       let n : length (flatJoins js) ≡ 3 * length js = three-length (join 0 0 0) (λ j. j .left) (λ j. j .right) (λ j. j .overlap) js in
       let a : All (λ x. x < 10 ^ 4) (flatJoins js) =
-      all-each JoinFits (λ x. x < 10 ^ 4) (λ j. j .left ∷ (j .right ∷ (j .overlap ∷ []))) (λ j f. (omega (arith, f .0), (omega (arith, f .1), (omega (arith, f .2), tt)))) js (compose-fits s es acc .joins) in
+      all-each JoinFits (λ x. x < 10 ^ 4) (λ j. j .left ∷ (j .right ∷ (j .overlap ∷ [])))
+      (λ j f. (omega (arith, f .0), (omega (arith, f .1), (omega (arith, f .2), tt)))) js (compose-fits s es acc .joins) in
       record { small = λ i h. all-getD (λ x. x < 10 ^ 4) (flatJoins js) a i (omega arith); numbers = omega arith }
 
   pub compose-asks : (room : ℕ) → composeRoom ≤ room → ComposeAsks (outcomeOf ss) es (flatJoins (plainJoins ss)) (flatPlaces ss) (legendOf ss) room
   compose-asks room h =
       let F = compose-fits s es acc in
       record {
-        header = record { slips = omega (arith, F .slips); kept = omega (arith, F .kept-slips); letters = omega (arith, F .letters); saved = omega (arith, F .saved-letters); legend = omega (arith, F .legend) };
+        header = record {
+          slips = omega (arith, F .slips);
+          kept = omega (arith, F .kept-slips);
+          letters = omega (arith, F .letters);
+          saved =
+              omega (arith, F .saved-letters);
+          legend = omega (arith, F .legend);
+        };
         slips = slips-fit;
         joins = joins-fit;
         room-is = omega (arith, F .slips, F .count, F .legend, slips-count s es);
@@ -142,7 +163,8 @@ module _ (s es : List ℕ) (acc : trayFault s es .number ≡ 0) where
         let fs = occurrences ss t in
         let n : length (flatFound fs) ≡ 2 * length fs = two-length (found 0 0) (λ f. f .end) (λ f. f .which) fs in
         let a : All (λ x. x < 10 ^ 4) (flatFound fs) =
-        all-each OccurrenceFits (λ x. x < 10 ^ 4) (λ f. f .end ∷ (f .which ∷ [])) (λ f h. (omega (arith, h .0), (omega (arith, h .1), tt))) fs (find-fits s es t acc small .found) in
+        all-each OccurrenceFits (λ x. x < 10 ^ 4) (λ f. f .end ∷ (f .which ∷ [])) (λ f h. (omega (arith, h .0), (omega (arith, h .1), tt))) fs
+        (find-fits s es t acc small .found) in
         record {
           places = λ i h. all-getD (λ x. x < 10 ^ 4) (flatFound fs) a (2 * i) (omega arith);
           slips = λ i h. all-getD (λ x. x < 10 ^ 4) (flatFound fs) a (2 * i + 1) (omega arith);

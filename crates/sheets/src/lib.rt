@@ -161,7 +161,9 @@ fn slip_line(
 // A line for each slip, from the ends and two numbers a slip: its place, and whether it is kept.
 fn slip_lines(out: &mut [u8], at: usize, ends: &[u16], places: &[u16]) -> usize
     requires { ⌜ P.SlipsFit (now ends) (now places) × (at + S.slipSize * length (now ends) ≤ length (now out)) ⌝ }
-    ensures { λ r. ⌜ P.Put at (S.slipSize * length (now (ends .entry))) (S.lines (S.slipLineAt (now (ends .entry)) (now (places .entry))) (length (now (ends .entry)))) (now (out .entry)) (now (out .exit)) r ⌝ }
+    ensures { λ r. ⌜ P.Put at (S.slipSize * length (now (ends .entry)))
+        (S.lines (S.slipLineAt (now (ends .entry)) (now (places .entry))) (length (now (ends .entry))))
+        (now (out .entry)) (now (out .exit)) r ⌝ }
 {
     let mut next = at;
     let mut here: usize = 0;
@@ -206,7 +208,8 @@ pub fn compose_lines(
     out: &mut [u8],
 ) -> usize
     requires { ⌜ P.ComposeAsks c (now ends) (now joins) (now places) (now legend) (length (now out)) ⌝ }
-    ensures { λ r. ⌜ P.Printed (S.composeLines c (now (ends .entry)) (now (joins .entry)) (now (places .entry)) (now (legend .entry))) (now (out .entry)) (now (out .exit)) r ⌝ }
+    ensures { λ r. ⌜ P.Printed (S.composeLines c (now (ends .entry)) (now (joins .entry)) (now (places .entry)) (now (legend .entry)))
+        (now (out .entry)) (now (out .exit)) r ⌝ }
 {
     let slips = tray_line(out, 0, c);
     let pairs = slip_lines(out, slips, ends, places);

@@ -2,7 +2,7 @@
 --   firsts-suc, firsts-getD == one more of the first elements; the element at i
 --   firsts-are              == the first elements are a list ys, where they agree with it place by place
 --   stored-set              == storing f i at place i goes from i elements stored to i + 1
-use mathlib.Core.Path.{_≡_, refl, sym, ap, _∙_}
+use mathlib.Core.Path.{_≡_, sym, ap, _∙_}
 use mathlib.Core.List.{List, [], _∷_, _++_, map, map-append}
 use Prim.Native.Nat.{ℕ, zero, suc, _+_, _≤_, _<_}
 use native.Mathlib.Nat.{zero-add}
@@ -31,7 +31,8 @@ module _ {A : Type 0} (f : ℕ → A) where
   firsts-suc n = ap (map f) (upFrom-more 0 n) ∙ map-append f (upFrom 0 n) ((0 + n) ∷ []) ∙ ap (λ (k : ℕ). firsts f n ++ (f k ∷ [])) (zero-add n)
 
   pub firsts-are : (d : A) (ys : List A) → ((i : ℕ) → i < length ys → f i ≡ getD ys i d) → firsts f (length ys) ≡ ys
-  firsts-are d ys h = ext-getD d (firsts f (length ys)) ys (length-firsts (length ys)) (λ i l. let m : i < length ys = (rw length-firsts at l) in firsts-getD d (length ys) i m ∙ h i m)
+  firsts-are d ys h = ext-getD d (firsts f (length ys)) ys (length-firsts (length ys)) (λ i l. let m : i < length ys = (rw length-firsts at l) in
+      firsts-getD d (length ys) i m ∙ h i m)
 
   module _ (xs : List A) where
     pub length-stored : (n : ℕ) → n ≤ length xs → length (over (firsts f n) xs) ≡ length xs

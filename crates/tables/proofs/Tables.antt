@@ -16,7 +16,8 @@ use native.Mathlib.Decide.{decLt}
 use native.Mathlib.Numerals.{add-one}
 use native.Mathlib.Omega.{arith}
 use lib.ListN.{length, getD, set, take, drop, length-take, length-drop, length-set, replicate, getD-replicate}
-use lib.Seq.{getD-take, getD-drop, getD-set-same, getD-set-other, take-set-lt, drop-set-add, take-suc, take-suc-set, ext-getD, take-all, length-take-le, take-at, drop-at, take-take}
+use lib.Seq.{getD-take, getD-drop, getD-set-same, getD-set-other, take-set-lt, drop-set-add}
+use lib.Seq.{take-suc, take-suc-set, ext-getD, take-all, length-take-le, take-at, drop-at, take-take}
 use borrow.Rule.Slice.PartMut.{midOf, mid-len, same-len-mid, take-put, drop-put}
 use Rattle.tables.specs.Tables.{Got, Put, table, Cells, Only, Filled}
 
@@ -48,7 +49,8 @@ unfolding table
 table-size w base n = simp (length-take, length-drop)
 
 -- equal cells make equal tables
-pub table-same : (w w′ : List ℕ) (base n : ℕ) → length w′ ≡ length w → ((i : ℕ) → i < n → getD w′ (base + i) 0 ≡ getD w (base + i) 0) → table w′ base n ≡ table w base n
+pub table-same : (w w′ : List ℕ) (base n : ℕ) → length w′ ≡ length w → ((i : ℕ) → i < n → getD w′ (base + i) 0 ≡ getD w (base + i) 0) →
+    table w′ base n ≡ table w base n
 table-same w w′ base n l e =
     let s = table-size w base n in
     let s′ = table-size w′ base n in
@@ -96,7 +98,8 @@ pub only-put : {P : ℕ → Type 0} {u w w′ : List ℕ} {base i x : ℕ} → O
 only-put {P = P} f p h = only-trans f (only-wider (put-only p) (λ k e. rw e h))
 
 -- a frame that is one table
-pub cells-outside : {w w′ : List ℕ} {base n : ℕ} → length w′ ≡ length w → take base w′ ≡ take base w → drop (base + n) w′ ≡ drop (base + n) w → Only (Cells base n) w w′
+pub cells-outside : {w w′ : List ℕ} {base n : ℕ} → length w′ ≡ length w → take base w′ ≡ take base w → drop (base + n) w′ ≡ drop (base + n) w →
+    Only (Cells base n) w w′
 cells-outside {w} {w′} {base} {n} l f b =
     record {
       same = l;
@@ -106,7 +109,8 @@ cells-outside {w} {w′} {base} {n} l f b =
           | yes k ↦ absurd (out (omega arith))
           | no k ↦
               let e : base + n + (p - (base + n)) ≡ p = omega arith in
-              rw e at (sym (getD-drop (base + n) w′ (p - (base + n)) 0) ∙ ap (λ (v : List ℕ). getD v (p - (base + n)) 0) b ∙ getD-drop (base + n) w (p - (base + n)) 0)
+              rw e at (sym (getD-drop (base + n) w′ (p - (base + n)) 0) ∙ ap (λ (v : List ℕ). getD v (p - (base + n)) 0) b
+              ∙ getD-drop (base + n) w (p - (base + n)) 0)
         ]
       ];
     }
@@ -129,7 +133,8 @@ pub filling-none : (base n : ℕ) (xs w : List ℕ) → Filling base n xs 0 w w
 unfolding table
 filling-none base n xs w = record { cells = refl; only = only-refl }
 
-pub filling-more : {base n i x : ℕ} {xs u w w′ : List ℕ} (k : ℕ) → base + n ≤ length u → length xs ≡ n → i < n → Filling base n xs i u w → Put w base i x w′ → x ≡ getD xs i 0 → k ≡ i + 1 → Filling base n xs k u w′
+pub filling-more : {base n i x : ℕ} {xs u w w′ : List ℕ} (k : ℕ) → base + n ≤ length u → length xs ≡ n → i < n → Filling base n xs i u w →
+    Put w base i x w′ → x ≡ getD xs i 0 → k ≡ i + 1 → Filling base n xs k u w′
 filling-more {base} {n} {i} {x} {xs} {u} {w} {w′} k room l h f p e s =
     let r : base + i < length w = omega (arith, f .only .same) in
     record { cells = put-more p k r s ∙ rw (f .cells, e, s, add-one, take-suc xs i 0 (omega arith)); only = cells-put (f .only) p h }
@@ -151,7 +156,8 @@ pub part-table : (w : List ℕ) (base n e : ℕ) → e ≡ base + n → take (e 
 unfolding table
 part-table w base n e h = let k : e - base ≡ n = omega arith in rw k
 
-pub part-filled : (w : List ℕ) (base n e : ℕ) (ys : List ℕ) → e ≡ base + n → base + n ≤ length w → length ys ≡ n → Filled base n ys w (take base w ++ (ys ++ drop (e - base) (drop base w)))
+pub part-filled : (w : List ℕ) (base n e : ℕ) (ys : List ℕ) → e ≡ base + n → base + n ≤ length w → length ys ≡ n →
+    Filled base n ys w (take base w ++ (ys ++ drop (e - base) (drop base w)))
 unfolding table
 part-filled w base n e ys h room l =
     let b : length (take base w) ≡ base = length-take-le base w (omega arith) in

@@ -74,7 +74,8 @@ rise-last i here (e ∷ es) p h zero l =
     omega (arith, r .0, rise-last (suc i) e es (omega arith) (r .1) zero (omega arith))
 rise-last i here (e ∷ es) p h (suc k) l = rise-last (suc i) e es (omega arith) (above-rest i here e es h p .1) k (omega arith)
 
-slips-at : (i here : ℕ) (s es : List ℕ) → 1 ≤ i → notAbove i here es ≡ 0 → (k : ℕ) → k < length es → getD (slipsFrom here s es) k [] ≡ take (getD es k 0 - getD (here ∷ es) k 0) (drop (getD (here ∷ es) k 0 - here) s)
+slips-at : (i here : ℕ) (s es : List ℕ) → 1 ≤ i → notAbove i here es ≡ 0 → (k : ℕ) → k < length es →
+    getD (slipsFrom here s es) k [] ≡ take (getD es k 0 - getD (here ∷ es) k 0) (drop (getD (here ∷ es) k 0 - here) s)
 slips-at i here s [] p h k l = absurd (omega arith)
 slips-at i here s (e ∷ es) p h zero l =
     let z : here - here ≡ 0 = omega arith in

@@ -71,7 +71,8 @@ last-above i here (e ∷ es) p h =
     let r = above-rest i here e es h p in
     omega (arith, r .0, last-above (suc i) e es (omega arith) (r .1))
 
-bad-from : (i here : ℕ) (s es : List ℕ) → 1 ≤ i → notAbove i here es ≡ 0 → lastOr here es ≡ here + length s → badSlip i (slipsFrom here s es) ≡ cond (any bad s) (slipHolding i (here + suc (goodTo s)) es) 0
+bad-from : (i here : ℕ) (s es : List ℕ) → 1 ≤ i → notAbove i here es ≡ 0 → lastOr here es ≡ here + length s →
+    badSlip i (slipsFrom here s es) ≡ cond (any bad s) (slipHolding i (here + suc (goodTo s)) es) 0
 bad-from i here [] [] p h l = refl
 bad-from i here (b ∷ bs) [] p h l = absurd (omega arith)
 bad-from i here s (e ∷ es) p h l =

@@ -35,7 +35,8 @@ module _ (s : List ℕ) (i : ℕ) (r : Bool) (h : i < length s) (e : r ≡ isLet
   bad-here f = rw (k, drop-cons s i 0, sym e ∙ f, badPlace)
 
   pub bad-next : r ≡ true → badPlace 1 s ≡ badPlace (i + 1 + 1) (drop (i + 1) s)
-  bad-next f = let g : badPlace (i + 1) (drop i s) ≡ badPlace (suc (i + 1)) (drop (suc i) s) = rw (drop-cons s i 0, sym e ∙ f, badPlace) in rw (add-one (i + 1)) (k ∙ g ∙ ap (λ (n : ℕ). badPlace (suc (i + 1)) (drop n s)) (sym (add-one i)))
+  bad-next f = let g : badPlace (i + 1) (drop i s) ≡ badPlace (suc (i + 1)) (drop (suc i) s) =
+      rw (drop-cons s i 0, sym e ∙ f, badPlace) in rw (add-one (i + 1)) (k ∙ g ∙ ap (λ (n : ℕ). badPlace (suc (i + 1)) (drop n s)) (sym (add-one i)))
 
 pub bad-none : (s : List ℕ) (i : ℕ) → length s ≤ i → badPlace 1 s ≡ badPlace (i + 1) (drop i s) → 0 ≡ badPlace 1 s
 bad-none s i h k = rw (k, drop-of-length-le s h)
@@ -75,13 +76,15 @@ first-assoc : (a b c : ℕ) → firstOf a (firstOf b c) ≡ firstOf (firstOf a b
 first-assoc zero b c = refl
 first-assoc (suc a) b c = refl
 
-pub ends-long : (es : List ℕ) (i k here e long long′ : ℕ) → i < length es → k ≡ i + 1 → e ≡ getD es i 0 → long′ ≡ noteLong long k here e → tooLong 1 0 es ≡ firstOf long (tooLong k here (drop i es)) → tooLong 1 0 es ≡ firstOf long′ (tooLong (k + 1) e (drop (i + 1) es))
+pub ends-long : (es : List ℕ) (i k here e long long′ : ℕ) → i < length es → k ≡ i + 1 → e ≡ getD es i 0 → long′ ≡ noteLong long k here e →
+    tooLong 1 0 es ≡ firstOf long (tooLong k here (drop i es)) → tooLong 1 0 es ≡ firstOf long′ (tooLong (k + 1) e (drop (i + 1) es))
 ends-long es i k here e long long′ h p v w l =
     let g : tooLong k here (drop i es) ≡ firstOf (cond (ltb (here + maxSlip) e) k 0) (tooLong (suc k) e (drop (suc i) es)) =
     rw (drop-cons es i 0, ← v) (by-test (ltb (here + maxSlip) e) (λ t. rw (t, tooLong) (sym (first-some k (omega arith) _))) (λ t. rw (t, tooLong))) in
     rw (add-one k, add-one i, w, ← first-assoc, ← g) l
 
-module _ (es : List ℕ) (i k here long : ℕ) (h : length es ≤ i) (n : notAbove 1 0 es ≡ notAbove k here (drop i es)) (l : tooLong 1 0 es ≡ firstOf long (tooLong k here (drop i es))) where
+module _ (es : List ℕ) (i k here long : ℕ) (h : length es ≤ i) (n : notAbove 1 0 es ≡ notAbove k here (drop i es))
+    (l : tooLong 1 0 es ≡ firstOf long (tooLong k here (drop i es))) where
   no-fall : notAbove 1 0 es ≡ 0
   no-fall = n ∙ rw (drop-of-length-le es h)
 

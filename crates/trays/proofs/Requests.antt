@@ -106,7 +106,8 @@ module _ (s es : List ℕ) (i j : ℕ) where
 pub span-first : (es : List ℕ) (i e : ℕ) → i ≡ 1 → e ≡ getD es (i - 1) 0 → _≡_ {A = Span} (record { start = 0; end = e }) (spanOf es i)
 span-first es i e o h = rw (h, o)
 
-pub span-later : (es : List ℕ) (i b e : ℕ) → 1 ≤ i → (i ≡ 1 → ⊥) → b ≡ getD es (i - 2) 0 → e ≡ getD es (i - 1) 0 → _≡_ {A = Span} (record { start = b; end = e }) (spanOf es i)
+pub span-later : (es : List ℕ) (i b e : ℕ) → 1 ≤ i → (i ≡ 1 → ⊥) → b ≡ getD es (i - 2) 0 → e ≡ getD es (i - 1) 0 →
+    _≡_ {A = Span} (record { start = b; end = e }) (spanOf es i)
 span-later es zero b e o n g h = absurd (omega arith)
 span-later es (suc zero) b e o n g h = absurd (n refl)
 span-later es (suc (suc k)) b e o n g h =

@@ -80,7 +80,8 @@ module _ (s es : List ℕ) where
   -- rows 4 to 6
   abbrev rest : Refusal
   rest =
-      orElse (row 4 (ltb maxLetters (length s)) 0) (orElse (row 5 (not (eqb (lastOr 0 es) (length s))) 0) (orElse (slipAt 6 (badSlip 1 (slipsOf s es))) accepted))
+      orElse (row 4 (ltb maxLetters (length s)) 0)
+      (orElse (row 5 (not (eqb (lastOr 0 es) (length s))) 0) (orElse (slipAt 6 (badSlip 1 (slipsOf s es))) accepted))
 
   pub check-many : maxSlips < length es → refusal 1 0 ≡ trayFault s es
   unfolding trayFault

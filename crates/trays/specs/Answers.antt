@@ -3,7 +3,6 @@ use mathlib.Core.Path.{_≡_}
 use mathlib.Core.List.{List, []}
 use Prim.Native.Nat.{ℕ, zero, suc}
 use Rattle.words.specs.Words.{overlapFor}
-use Rattle.trays.specs.declared.Refusal.{Refusal}
 use Rattle.trays.specs.declared.Pair.{Pair}
 use Rattle.trays.specs.Slips.{slipsOf, slip}
 use Rattle.trays.specs.Aside.{counted}

@@ -10,7 +10,7 @@ use Rattle.words.specs.Lists.{headOr}
 use Rattle.trays.specs.Limits.{maxSlips}
 use Rattle.layout.specs.Tables.{Linked}
 use Rattle.walking.specs.Runs.{nextEnder, endersFrom, mark, waitingIn, Real, Listed}
-use Rattle.walking.specs.Walking.{Sized, Searches, Found, Chooses, partnerIn}
+use Rattle.walking.specs.Walking.{Searches, Found, Chooses, partnerIn}
 use Rattle.walking.proofs.RunLaws.{listed-none, listed-first, listed-next, listed-real, along-none}
 use Rattle.walking.proofs.ScanLaws.{waiting-stop, waiting-pass, partner-lowest, partner-second}
 

@@ -9,14 +9,12 @@ use mathlib.Core.List.{List, [], _∷_, _++_, map, map-append}
 use Prim.Native.Nat.{ℕ, zero, suc, _+_, _-_, _*_, _≤_, _<_}
 use native.Mathlib.Numerals.{add-one}
 use native.Mathlib.Omega.{arith}
-use lib.ListN.{length, getD, set, length-set}
+use lib.ListN.{length, set, length-set}
 use Rattle.words.proofs.Runs.{upFrom-more}
 use Rattle.words.specs.Lists.{upFrom}
-use Rattle.trays.specs.Limits.{maxSlips}
-use Rattle.tables.specs.Tables.{Cells, Only, Put}
+use Rattle.tables.specs.Tables.{Put}
 use Rattle.tables.proofs.Tables.{only-refl, cells-put, put-here, put-other}
 use Rattle.greedy.specs.Joins.{Join, join}
-use Rattle.greedy.proofs.Threads.{putAt}
 use Rattle.layout.specs.Layout.{JOINS}
 use Rattle.layout.specs.Tables.{cell}
 use Rattle.layout.specs.Staging.{joinIn, joinsIn}

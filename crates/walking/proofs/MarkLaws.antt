@@ -8,7 +8,6 @@
 --   marks-join   == the five lists when r is joined behind l
 -- The first slip of the chain that l ends and the last of the chain that r begins are slips of the lists: beyond the lists each slip is its own.
 use mathlib.Core.Path.{_≡_, refl, sym, ap, fun-ext, _∙_}
-use mathlib.Core.Bool.{Bool, true, false}
 use mathlib.Core.List.{List, [], _∷_, _++_, List·Memᴰ·head, List·Memᴰ·tail}
 use mathlib.Core.Logic.{inl, inr}
 use Prim.Native.Nat.{ℕ, zero, suc, _+_, _-_, _≤_, _<_}
@@ -18,7 +17,7 @@ use native.Mathlib.Omega.{arith}
 use lib.Dec.{eqb}
 use lib.ListN.{length, getD, set, take, replicate, length-set, length-replicate, getD-replicate, length-append, List·getD-eq-default}
 use lib.Seq.{getD-set-same, getD-set-other, take-suc-set, take-all}
-use borrow.Author.Tests.{eqb-true, eqb-false, eq-eqb, ne-eqb}
+use borrow.Author.Tests.{eq-eqb, ne-eqb}
 use Rattle.words.proofs.Runs.{length-upFrom, upFrom-more}
 use Rattle.words.specs.Lists.{those, upFrom}
 use Rattle.words.proofs.Tests.{tell}
@@ -27,7 +26,7 @@ use Rattle.trays.specs.Limits.{maxSlips}
 use Rattle.greedy.specs.Joins.{Join, join, rightOf, leftOf, lastOf}
 use Rattle.greedy.specs.Legends.{overlapAfter}
 use Rattle.greedy.proofs.Linked as L
-use Rattle.greedy.proofs.Threads.{Threads, threads-none, putAt, threads-join}
+use Rattle.greedy.proofs.Threads.{threads-none, putAt, threads-join}
 use Rattle.layout.specs.Staging.{Neighbours}
 use Rattle.walking.specs.Runs.{mark}
 use Rattle.walking.specs.Marks.{endsIn, zeros, Marks}

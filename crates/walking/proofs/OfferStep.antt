@@ -7,12 +7,12 @@ use lib.ListN.{length, set}
 use Rattle.words.proofs.Members.{In}
 use Rattle.trays.specs.Limits.{maxSlips}
 use Rattle.tables.proofs.Tables.{only-refl}
-use Rattle.greedy.specs.Joins.{Join, join, rightOf, leftOf, lastOf}
+use Rattle.greedy.specs.Joins.{Join, join, lastOf}
 use Rattle.greedy.proofs.Scans as S
 use Rattle.layout.specs.Staging.{joinsIn}
-use Rattle.walking.specs.Runs.{endersFrom, mark, Real, Listed}
+use Rattle.walking.specs.Runs.{endersFrom, mark}
 use Rattle.walking.specs.Marks.{Marks}
-use Rattle.walking.specs.Walking.{Sized, Searches, Chooses, partnerIn, Made, JoinFits, JoinPut, EndsFit, EndsJoined, Joinable, Offers}
+use Rattle.walking.specs.Walking.{Chooses, partnerIn, Made, JoinFits, JoinPut, EndsFit, EndsJoined, Joinable, Offers}
 use Rattle.walking.proofs.ScanLaws.{MarksOf, partner-among, partner-marks, offer-taken, offer-none, offer-made}
 use Rattle.walking.proofs.MarkLaws.{left-mark, right-mark, last-mark, last-some, marks-room, ends-fit, marks-join}
 use Rattle.walking.proofs.JoinCells.{joins-length}
@@ -33,7 +33,8 @@ module _ {w : List ℕ} {count l r d : ℕ} {left right overs first last : List 
   join-ends-fit = ends-fit (J .marks) l r d (J .left-real) (J .right-real) (J .left-free) (J .right-free) (J .no-cycle)
 
   pub join-made : {w′ left′ right′ overs′ first′ last′ : List ℕ} {made : ℕ}
-      → JoinPut w count l r d w′ made → left′ ≡ set left (r - 1) l → right′ ≡ set right (l - 1) r → overs′ ≡ set overs (l - 1) d → EndsJoined first last l r first′ last′
+      → JoinPut w count l r d w′ made → left′ ≡ set left (r - 1) l → right′ ≡ set right (l - 1) r → overs′ ≡ set overs (l - 1) d →
+      EndsJoined first last l r first′ last′
       → Made w (joinsIn w count ++ (join l r d ∷ [])) w′ left′ right′ overs′ first′ last′ made
   join-made p a b o e =
       record {

@@ -6,21 +6,21 @@
 use mathlib.Core.Path.{_≡_, refl, sym, ap, _∙_}
 use mathlib.Core.Bool.{true}
 use mathlib.Core.Logic.{inl, inr}
-use mathlib.Core.List.{List, [], _∷_, _++_, map, List·Memᴰ·head, List·Memᴰ·tail, List·Memᴰ·not-nil, List·Memᴰ·append-cases, Memᴰ·append-left, Memᴰ·append-right, Memᴰ·map, Memᴰ·of-map, Memᴰ·cast}
-use Prim.Native.Nat.{ℕ, zero, suc, _+_, _-_, _≤_, _<_}
+use mathlib.Core.List.{List, [], _∷_, map, List·Memᴰ·head, List·Memᴰ·tail, List·Memᴰ·not-nil, List·Memᴰ·append-cases}
+use mathlib.Core.List.{Memᴰ·append-left, Memᴰ·append-right, Memᴰ·map, Memᴰ·of-map, Memᴰ·cast}
+use Prim.Native.Nat.{ℕ, zero, suc, _-_, _≤_, _<_}
 use native.Mathlib.Decide.{decLt, ℕ-discrete}
 use native.Mathlib.Omega.{arith}
 use lib.ListN.{length}
 use borrow.Author.Tests.{ltb-true, lt-ltb}
 use Rattle.words.specs.Lists.{upFrom}
-use Rattle.words.specs.Words.{begins, before}
+use Rattle.words.specs.Words.{before}
 use Rattle.words.proofs.Members.{In, Asc, Less, asc-upFrom, in-upFrom, upFrom-in, asc-append}
 use Rattle.words.proofs.Orders.{up, down, lex-first, lex-then, lex-cases}
 use Rattle.words.proofs.Picks.{asc-getD}
 use Rattle.trays.specs.Slips.{slip}
 use Rattle.greedy.specs.Walk.{sooner}
 use Rattle.greedy.proofs.Nodes.{Nodes}
-use Rattle.matching.specs.Moves.{beginsSome}
 use Rattle.matching.specs.Nodes.{lower, nodes, string, Num}
 use Rattle.matching.proofs.Endings.{slip-some}
 use Rattle.matching.proofs.NodeLaws.{nodes-numbered, node-of}

@@ -8,14 +8,12 @@ use native.Mathlib.Numerals.{add-one}
 use native.Mathlib.Omega.{arith}
 use lib.ListN.{length}
 use Rattle.words.specs.Lists.{those, upFrom}
-use Rattle.words.specs.Words.{nonEmpty}
 use Rattle.words.proofs.Members.{those-yes}
-use Rattle.trays.specs.Limits.{maxSlip, maxLetters}
+use Rattle.trays.specs.Limits.{maxSlip}
 use Rattle.trays.specs.Slips.{slipsOf}
 use Rattle.trays.specs.Aside.{counted}
 use Rattle.tables.specs.Tables.{Cells, Only, Got}
 use Rattle.tables.proofs.Tables.{only-refl, only-trans}
-use Rattle.greedy.specs.Joins.{Join}
 use Rattle.greedy.specs.Walk.{visit, walkFrom}
 use Rattle.greedy.proofs.Scans as S
 use Rattle.matching.specs.Nodes.{string, Num}
@@ -27,9 +25,11 @@ use Rattle.walking.specs.Runs.{startersAt, endersAt}
 use Rattle.walking.specs.Marks.{Marks}
 use Rattle.walking.specs.Walking.{Made, Visits, Walkable, RowAsks, row, rowWalked}
 use Rattle.walking.proofs.RowLaws.{row-num}
-use Rattle.walking.proofs.WalkableLaws.{kept-rises, here-sized, starters-are, enders-are, node-starts, node-ends, patterns-same, kept-same, walkable-kept}
+use Rattle.walking.proofs.WalkableLaws.{kept-rises, here-sized, starters-are, enders-are, node-starts}
+use Rattle.walking.proofs.WalkableLaws.{node-ends, patterns-same, kept-same, walkable-kept}
 
-pub record RowWalking (s es : List ℕ) (n k count : ℕ) (w₀ : List ℕ) (d made₀ : ℕ) (w : List ℕ) (made v end : ℕ) (left right overs first last : List ℕ) : Type 0 where
+pub record RowWalking (s es : List ℕ) (n k count : ℕ) (w₀ : List ℕ) (d made₀ : ℕ) (w : List ℕ) (made v end : ℕ)
+    (left right overs first last : List ℕ) : Type 0 where
   pub walkable : Walkable s es n k count w₀
   pub some : 1 ≤ d
   pub most : d ≤ maxSlip

@@ -11,14 +11,14 @@ use mathlib.Core.Logic.{inl, inr}
 use Prim.Native.Nat.{ℕ, _-_, _≤_, _<_}
 use native.Mathlib.Omega.{arith}
 use lib.Dec.{eqb, leb}
-use lib.ListN.{length, getD}
+use lib.ListN.{length}
 use borrow.Author.Tests.{eqb-true, eqb-false, eq-eqb, ne-eqb, le-leb}
 use Rattle.words.specs.Lists.{those, headOr}
-use Rattle.words.proofs.Tests.{tell, and-intro, both}
+use Rattle.words.proofs.Tests.{tell, both}
 use Rattle.words.proofs.Members.{In, Asc, those-yes, those-no, in-those}
 use Rattle.words.proofs.Picks.{those-same}
 use Rattle.greedy.specs.Joins.{Join, join, rightOf, leftOf, lastOf}
-use Rattle.greedy.proofs.Takes.{rightOf-append, some-eqb}
+use Rattle.greedy.proofs.Takes.{rightOf-append}
 use Rattle.greedy.proofs.Scans as S
 use Rattle.walking.specs.Runs.{mark, waitingIn}
 use Rattle.walking.specs.Walking.{partnerIn, Waits}
@@ -148,7 +148,8 @@ scan-pass l ls d (r ∷ rs) js h =
     only-one k (List·Memᴰ·head e) = rw e h
     only-one k (List·Memᴰ·tail i) = absurd (List·Memᴰ·not-nil i)
 
-pub scan-waiting : (right : List ℕ) (js : List Join) (ls : List ℕ) (d : ℕ) (rs : List ℕ) → MarksOf right js ls → S.scan ls d rs js ≡ S.scan (waitingIn right ls) d rs js
+pub scan-waiting : (right : List ℕ) (js : List Join) (ls : List ℕ) (d : ℕ) (rs : List ℕ) → MarksOf right js ls →
+    S.scan ls d rs js ≡ S.scan (waitingIn right ls) d rs js
 scan-waiting right js [] d rs h = refl
 scan-waiting right js (l ∷ ls) d rs h =
     elim (tell (eqb (mark right l) 0)) [

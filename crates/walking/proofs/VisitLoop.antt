@@ -1,19 +1,18 @@
 -- A visit, slip by slip.
 --   Visiting .. w made l r ..  == what is left of the visit from the slips l and r on makes of the joins in w what the whole visit makes
 use mathlib.Core.Path.{_≡_, refl, sym, ap, _∙_}
-use mathlib.Core.List.{List, [], _∷_, _++_}
-use Prim.Native.Nat.{ℕ, _+_, _-_, _≤_, _<_}
+use mathlib.Core.List.{List, _∷_}
+use Prim.Native.Nat.{ℕ, _-_, _<_}
 use native.Mathlib.Omega.{arith}
 use lib.ListN.{length}
 use Rattle.words.proofs.Members.{In}
-use Rattle.trays.specs.Limits.{maxSlips}
 use Rattle.tables.specs.Tables.{Cells, Only, Got}
 use Rattle.tables.proofs.Tables.{only-refl, only-trans}
 use Rattle.greedy.specs.Joins.{Join}
 use Rattle.greedy.proofs.Scans as S
 use Rattle.layout.specs.Layout.{STARTS, ENDS, JOINS}
 use Rattle.layout.specs.Staging.{joinsIn}
-use Rattle.walking.specs.Runs.{nextStarter, nextEnder, startersFrom, startersAt, endersFrom, endersAt, waitingIn, Real, Listed}
+use Rattle.walking.specs.Runs.{nextStarter, nextEnder, startersFrom, startersAt, endersFrom, endersAt, Real, Listed}
 use Rattle.walking.specs.Marks.{Marks}
 use Rattle.walking.specs.Walking.{Sized, Searches, Found, Made, Offers, Visits}
 use Rattle.walking.proofs.RunLaws.{listed-first, listed-next, listed-real, sized-kept, ender-kept, starter-kept}

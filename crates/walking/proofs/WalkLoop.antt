@@ -4,20 +4,19 @@
 use mathlib.Core.Path.{_≡_, refl, sym, ap, _∙_}
 use mathlib.Core.Bool.{Bool}
 use mathlib.Core.List.{List, [], _∷_, _++_}
-use Prim.Native.Nat.{ℕ, zero, suc, _+_, _-_, _≤_, _<_}
-use native.Mathlib.Numerals.{add-one}
+use Prim.Native.Nat.{ℕ, suc, _+_, _-_, _≤_, _<_}
 use native.Mathlib.Omega.{arith}
 use lib.ListN.{length, replicate, length-replicate}
 use Rattle.words.specs.Lists.{those, upFrom}
 use Rattle.words.proofs.Members.{In, Asc, those-append}
 use Rattle.words.proofs.Overlaps.{nonEmpty-counts}
-use Rattle.words.proofs.Sums.{sum, All, all-in, asc-once}
+use Rattle.words.proofs.Sums.{sum, all-in, asc-once}
 use Rattle.trays.specs.Limits.{maxSlips, maxSlip}
 use Rattle.trays.specs.Slips.{slipsOf}
 use Rattle.trays.specs.Aside.{kept, counted}
 use Rattle.tables.specs.Tables.{Cells, Only}
 use Rattle.tables.proofs.Tables.{only-refl, only-trans}
-use Rattle.greedy.specs.Joins.{Join, rightOf, plainFor}
+use Rattle.greedy.specs.Joins.{plainFor}
 use Rattle.greedy.specs.Walk.{walkFrom, walkFor}
 use Rattle.greedy.proofs.Chains.{Chain, whole}
 use Rattle.greedy.proofs.Represent.{plain-rep}
@@ -92,7 +91,12 @@ module _ {s es : List ℕ} {n k count : ℕ} {w₀ w : List ℕ} {made d : ℕ} 
 
     row-same : rowWalked s es n k w d made ≡ walkFrom ss K (those counted (row ps (cell w₀ LEVEL) d)) (joinsIn w made)
     row-same =
-        rw (kept-same (T .walkable) (T .only), patterns-same (T .walkable) (T .only), level-same d (omega (arith, T .upto)), level-same (suc d) (omega (arith, T .upto)))
+        rw (
+          kept-same (T .walkable) (T .only),
+          patterns-same (T .walkable) (T .only),
+          level-same d (omega (arith, T .upto)),
+          level-same (suc d) (omega (arith, T .upto)),
+        )
 
     pub walk-turn : {w′ left′ right′ overs′ first′ last′ : List ℕ} {made′ : ℕ} (d′ : ℕ)
         → Made w (rowWalked s es n k w d made) w′ left′ right′ overs′ first′ last′ made′ → d′ ≡ d - 1
@@ -118,13 +122,20 @@ module _ {s es : List ℕ} {n k count : ℕ} {w₀ w : List ℕ} {made d : ℕ} 
   walk-end h =
       let z : d ≡ 0 = omega arith in
       let positive : (x : ℕ) → In x (members w₀ n) → 1 ≤ x = λ x m. T .walkable .numbered .real x m .0 in
-      let ready : Ready counted ss K = rw (T .walkable .kept-are) (kept-ready counted ss (members w₀ n) nonEmpty-counts (T .walkable .numbered .ascending) positive) in
+      let ready : Ready counted ss K =
+      rw (T .walkable .kept-are) (kept-ready counted ss (members w₀ n) nonEmpty-counts (T .walkable .numbered .ascending) positive) in
       let walked : joinsIn w made ≡ walkFor counted ss K = (rw z at (T .rest)) in
       let plain : joinsIn w made ≡ plainFor counted ss K = walked ∙ one-list counted ss K ready in
       record {
         joins-are = plain;
         neighbours = T .marks .neighbours;
         small = T .marks .small;
-        few = omega (arith, joins-length w made, ap length plain, few-joins counted ss K (kept-rises (T .walkable)) (λ x m. positive x (kept-member (T .walkable) x m)), kept-count (T .walkable));
+        few = omega (
+          arith,
+          joins-length w made,
+          ap length plain,
+          few-joins counted ss K (kept-rises (T .walkable)) (λ x m. positive x (kept-member (T .walkable) x m)),
+          kept-count (T .walkable),
+        );
         only = T .only;
       }

@@ -3,8 +3,8 @@
 --   node-starts, node-ends == the lists of a node are lists of slips of the tray
 --   starters-are, enders-are == they are the kept members that begin with its string, and those that properly end with it
 --   walkable-kept    == joins leave all this as it is
-use mathlib.Core.Path.{_≡_, refl, sym, ap, ap₂, fun-ext, subst₂, _∙_}
-use mathlib.Core.Bool.{Bool, true, false}
+use mathlib.Core.Path.{_≡_, sym, ap, fun-ext, subst₂, _∙_}
+use mathlib.Core.Bool.{Bool, true}
 use mathlib.Core.Logic.{inl, inr}
 use mathlib.Core.List.{List, [], _∷_}
 use Prim.Native.Nat.{ℕ, zero, suc, _+_, _-_, _≤_, _<_}

@@ -8,7 +8,6 @@
 --   waitingIn right ls       == ls from its first slip without a right neighbour on
 --   Real es d i              == i is a slip of the tray that ends d letters or more behind the tray's start
 --   Listed es d next i       == from i along next run such slips, ascending, then 0
-use mathlib.Core.Path.{_≡_}
 use mathlib.Core.Bool.{true, false}
 use mathlib.Core.List.{List, [], _∷_}
 use Prim.Native.Nat.{ℕ, zero, suc, _+_, _-_, _≤_, _<_}

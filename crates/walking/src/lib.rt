@@ -126,7 +126,8 @@ fn make_join(
     last: &mut [u16],
 ) -> usize
     requires { ⌜ W.Joinable (now work) count l r d (now left) (now right) (now overs) (now first) (now last) ⌝ }
-    ensures { λ made. ⌜ W.Made (now (work .entry)) (joinsIn (now (work .entry)) count ++ (join l r d ∷ [])) (now (work .exit)) (now (left .exit)) (now (right .exit)) (now (overs .exit)) (now (first .exit)) (now (last .exit)) made ⌝ }
+    ensures { λ made. ⌜ W.Made (now (work .entry)) (joinsIn (now (work .entry)) count ++ (join l r d ∷ []))
+        (now (work .exit)) (now (left .exit)) (now (right .exit)) (now (overs .exit)) (now (first .exit)) (now (last .exit)) made ⌝ }
 {
     let made = put_join(work, count, l, r, d);
     set_mark(left, r, l);
@@ -152,7 +153,9 @@ fn offer(
     last: &mut [u16],
 ) -> usize
     requires { ⌜ W.Offers (now ends) (now work) d r l count (now left) (now right) (now overs) (now first) (now last) ⌝ }
-    ensures { λ made. ⌜ W.Made (now (work .entry)) (S.offer (R.endersFrom (now (work .entry)) (now (ends .entry)) d l) d r (joinsIn (now (work .entry)) count)) (now (work .exit)) (now (left .exit)) (now (right .exit)) (now (overs .exit)) (now (first .exit)) (now (last .exit)) made ⌝ }
+    ensures { λ made. ⌜ W.Made (now (work .entry))
+        (S.offer (R.endersFrom (now (work .entry)) (now (ends .entry)) d l) d r (joinsIn (now (work .entry)) count))
+        (now (work .exit)) (now (left .exit)) (now (right .exit)) (now (overs .exit)) (now (first .exit)) (now (last .exit)) made ⌝ }
 {
     let taken = mark_of(left, r);
     if taken != 0 {
@@ -181,7 +184,10 @@ fn visit(
     last: &mut [u16],
 ) -> usize
     requires { ⌜ W.Visits (now ends) (now work) d v count (now left) (now right) (now overs) (now first) (now last) ⌝ }
-    ensures { λ made. ⌜ W.Made (now (work .entry)) (S.scan (R.endersAt (now (work .entry)) (now (ends .entry)) d v) d (R.startersAt (now (work .entry)) (now (ends .entry)) d v) (joinsIn (now (work .entry)) count)) (now (work .exit)) (now (left .exit)) (now (right .exit)) (now (overs .exit)) (now (first .exit)) (now (last .exit)) made ⌝ }
+    ensures { λ made. ⌜ W.Made (now (work .entry))
+        (S.scan (R.endersAt (now (work .entry)) (now (ends .entry)) d v) d (R.startersAt (now (work .entry)) (now (ends .entry)) d v)
+        (joinsIn (now (work .entry)) count))
+        (now (work .exit)) (now (left .exit)) (now (right .exit)) (now (overs .exit)) (now (first .exit)) (now (last .exit)) made ⌝ }
 {
     let mut made = count;
     let mut l = tables::at(work, layout::ENDS, v);
@@ -239,7 +245,8 @@ pub fn walk(
 ) -> usize
     requires { ⌜ W.Walkable (now letters) (now ends) n k nodes (now work) ⌝ }
     requires { ⌜ W.Fresh (now left) (now right) (now overs) (now first) (now last) ⌝ }
-    ensures { λ made. ⌜ W.Walked (now (letters .entry)) (now (ends .entry)) k (now (work .entry)) (now (work .exit)) (now (left .exit)) (now (right .exit)) (now (overs .exit)) made ⌝ }
+    ensures { λ made. ⌜ W.Walked (now (letters .entry)) (now (ends .entry)) k
+        (now (work .entry)) (now (work .exit)) (now (left .exit)) (now (right .exit)) (now (overs .exit)) made ⌝ }
 {
     own_marks(first);
     own_marks(last);

@@ -1,6 +1,5 @@
 -- One turn of the loop that counts common letters.
-use mathlib.Core.Path.{_≡_, refl, sym, _∙_, ap}
-use mathlib.Core.Bool.{true, false}
+use mathlib.Core.Path.{_≡_, refl, sym}
 use mathlib.Core.List.{List, [], _∷_}
 use Prim.Native.Nat.{ℕ, suc, _+_, _≤_, _<_}
 use borrow.Author.Tests.{eq-eqb, ne-eqb}
@@ -17,14 +16,16 @@ common-nil [] = refl
 common-nil (x ∷ xs) = refl
 
 -- the letters at n agree
-pub common-more : (a b : List ℕ) (n : ℕ) → n < length a → n < length b → getD a n 0 ≡ getD b n 0 → common a b ≡ n + common (drop n a) (drop n b) → common a b ≡ (n + 1) + common (drop (n + 1) a) (drop (n + 1) b)
+pub common-more : (a b : List ℕ) (n : ℕ) → n < length a → n < length b → getD a n 0 ≡ getD b n 0 → common a b ≡ n + common (drop n a) (drop n b) →
+    common a b ≡ (n + 1) + common (drop (n + 1) a) (drop (n + 1) b)
 common-more a b n ha hb e h =
     let g : common (drop n a) (drop n b) ≡ suc (common (drop (suc n) a) (drop (suc n) b)) =
     rw (drop-cons a n 0, drop-cons b n 0, common, eq-eqb _ _ e) in
     rw add-one (omega arith)
 
 -- the letters at n differ
-pub common-differs : (a b : List ℕ) (n : ℕ) → n < length a → n < length b → (getD a n 0 ≡ getD b n 0 → ⊥) → common a b ≡ n + common (drop n a) (drop n b) → n ≡ common a b
+pub common-differs : (a b : List ℕ) (n : ℕ) → n < length a → n < length b → (getD a n 0 ≡ getD b n 0 → ⊥) →
+    common a b ≡ n + common (drop n a) (drop n b) → n ≡ common a b
 common-differs a b n ha hb e h =
     let g : common (drop n a) (drop n b) ≡ 0 = rw (drop-cons a n 0, drop-cons b n 0, common, ne-eqb _ _ e) in
     omega arith

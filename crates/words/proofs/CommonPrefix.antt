@@ -4,7 +4,7 @@
 -- by `common x y`, the two lengths and the two letters at `common x y`.
 use mathlib.Core.Path.{_≡_, refl, sym}
 use mathlib.Core.Bool.{true, false, _&&_, _||_}
-use mathlib.Core.Logic.{_⊎_, inl, inr}
+use mathlib.Core.Logic.{inl, inr}
 use mathlib.Core.List.{List, [], _∷_}
 use Prim.Native.Nat.{ℕ, zero, suc, _≤_, _<_}
 use native.Mathlib.Omega.{arith}
@@ -83,7 +83,8 @@ same-common (x ∷ xs) (y ∷ ys) =
       | inr e ↦ rw (common-other x y xs ys e, e, eqb·zero-suc (length xs))
     ]
 
-pub before-common : (x y : List ℕ) → before x y ≡ ltb (common x y) (length y) && (eqb (common x y) (length x) || ltb (getD x (common x y) 0) (getD y (common x y) 0))
+pub before-common : (x y : List ℕ) →
+    before x y ≡ ltb (common x y) (length y) && (eqb (common x y) (length x) || ltb (getD x (common x y) 0) (getD y (common x y) 0))
 before-common [] [] = refl
 before-common [] (y ∷ ys) = rw (lt-ltb 0 (suc (length ys)) (omega arith))
 before-common (x ∷ xs) [] = refl

@@ -6,8 +6,9 @@
 -- Each law is one induction over the list; a test is decided by `tell`, and the two clauses `those-yes`, `those-no` open `those` at its head.
 use mathlib.Core.Path.{_≡_, refl, sym, ap₂, _∙_}
 use mathlib.Core.Bool.{Bool, true, false}
-use mathlib.Core.Logic.{_⊎_, inl, inr}
-use mathlib.Core.List.{List, [], _∷_, _++_, append-assoc, List·Memᴰ, List·Memᴰ·head, List·Memᴰ·tail, List·Memᴰ·not-nil, Memᴰ·append-left, Memᴰ·append-right, List·Memᴰ·append-cases}
+use mathlib.Core.Logic.{inl, inr}
+use mathlib.Core.List.{List, [], _∷_, _++_, append-assoc, List·Memᴰ, List·Memᴰ·head, List·Memᴰ·tail}
+use mathlib.Core.List.{List·Memᴰ·not-nil, Memᴰ·append-left, Memᴰ·append-right, List·Memᴰ·append-cases}
 use Prim.Native.Nat.{ℕ, zero, suc, _+_, _≤_, _<_}
 use native.Mathlib.Decide.{ℕ-discrete}
 use native.Mathlib.Omega.{arith}
@@ -121,7 +122,8 @@ asc-append R (x ∷ xs) ys p q f = (
   asc-append R xs ys (p .1) q (λ a b i j. f a b (List·Memᴰ·tail i) j),
 )
 
-pub asc-each : {A B : Type 0} (R : A → A → Type 0) (S : B → B → Type 0) (f : A → List B) (xs : List A) → Asc R xs → ((a : A) → Asc S (f a)) → ((a c : A) (b d : B) → R a c → In b (f a) → In d (f c) → S b d) → Asc S (each f xs)
+pub asc-each : {A B : Type 0} (R : A → A → Type 0) (S : B → B → Type 0) (f : A → List B) (xs : List A) → Asc R xs → ((a : A) → Asc S (f a)) →
+    ((a c : A) (b d : B) → R a c → In b (f a) → In d (f c) → S b d) → Asc S (each f xs)
 asc-each R S f [] p q h = tt
 asc-each R S f (x ∷ xs) p q h =
     asc-append S (f x) (each f xs) (q x) (asc-each R S f xs (p .1) q h)
@@ -157,7 +159,8 @@ module _ {A : Type 0} (R : A → A → Type 0) (irr : (a : A) → R a a → ⊥)
 abbrev pub Less : {A : Type 0} → (A → A → Bool) → A → A → Type 0
 Less lt a b = lt a b ≡ true
 
-module _ {A : Type 0} (lt : A → A → Bool) (tr : (a b c : A) → Less lt a b → Less lt b c → Less lt a c) (con : (a b : A) → lt a b ≡ false → lt b a ≡ false → a ≡ b) where
+module _ {A : Type 0} (lt : A → A → Bool) (tr : (a b c : A) → Less lt a b → Less lt b c → Less lt a c)
+    (con : (a b : A) → lt a b ≡ false → lt b a ≡ false → a ≡ b) where
   pub insert-sorts : (x : A) (ys : List A) → Asc (Less lt) ys → Sorts (Less lt) (x ∷ ys) (insert lt x ys)
   insert-sorts x [] p = record { asc = ((λ y m. absurd (List·Memᴰ·not-nil m)), tt); into = λ c m. m; back = λ c m. m }
   insert-sorts x (y ∷ ys) p =
@@ -165,7 +168,8 @@ module _ {A : Type 0} (lt : A → A → Bool) (tr : (a b c : A) → Less lt a b 
         | inl e ↦ rw (e, insert) (record { asc = ((λ z m. by-in m (λ h. rw h e) (λ h. tr x y z e (p .0 z h))), p); into = λ c m. m; back = λ c m. m })
         | inr e ↦ elim (tell (lt y x)) [
           | inl h ↦ rw (e, h, insert) (behind h (insert-sorts x ys (p .1)))
-          | inr h ↦ rw (e, h, insert) (record { asc = p; into = λ c m. by-in m (λ i. List·Memᴰ·head (i ∙ con x y e h)) (λ i. i); back = λ c m. List·Memᴰ·tail m })
+          | inr h ↦ rw (e, h, insert)
+              (record { asc = p; into = λ c m. by-in m (λ i. List·Memᴰ·head (i ∙ con x y e h)) (λ i. i); back = λ c m. List·Memᴰ·tail m })
         ]
       ]
     where
@@ -173,7 +177,8 @@ module _ {A : Type 0} (lt : A → A → Bool) (tr : (a b c : A) → Less lt a b 
       behind h s =
           record {
             asc = ((λ z m. by-in (s .back z m) (λ i. rw i h) (λ i. p .0 z i)), s .asc);
-            into = λ c m. by-in m (λ i. List·Memᴰ·tail (s .into c (List·Memᴰ·head i))) (λ j. by-in j List·Memᴰ·head (λ i. List·Memᴰ·tail (s .into c (List·Memᴰ·tail i))));
+            into = λ c m. by-in m (λ i. List·Memᴰ·tail (s .into c (List·Memᴰ·head i)))
+                (λ j. by-in j List·Memᴰ·head (λ i. List·Memᴰ·tail (s .into c (List·Memᴰ·tail i))));
             back = λ c m. by-in m (λ i. List·Memᴰ·tail (List·Memᴰ·head i)) (λ j. by-in (s .back c j) List·Memᴰ·head (λ i. List·Memᴰ·tail (List·Memᴰ·tail i)));
           }
 

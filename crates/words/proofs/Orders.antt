@@ -36,14 +36,16 @@ module _ {A : Type 0} {lt eq : A → A → Bool} (O : Order lt eq) where
   lex-cases u v s e =
       elim (either (lt u v) (eq u v && s) e) [ inl h ↦ inl h | inr h ↦ let r = both (eq u v) s h in inr (O .is u v (r .0), r .1) ]
 
-  pub lex-tr : (u v w : A) (s t r : Bool) → (s ≡ true → t ≡ true → r ≡ true) → lt u v || (eq u v && s) ≡ true → lt v w || (eq v w && t) ≡ true → lt u w || (eq u w && r) ≡ true
+  pub lex-tr : (u v w : A) (s t r : Bool) → (s ≡ true → t ≡ true → r ≡ true) → lt u v || (eq u v && s) ≡ true → lt v w || (eq v w && t) ≡ true →
+      lt u w || (eq u w && r) ≡ true
   lex-tr u v w s t r next e f =
       elim (lex-cases u v s e) [
         | inl h ↦ elim (lex-cases v w t f) [ inl k ↦ lex-first u w r (O .tr u v w h k) | inr k ↦ lex-first u w r (rw (k .0) at h) ]
         | inr h ↦ elim (lex-cases v w t f) [ inl k ↦ lex-first u w r (rw (h .0) k) | inr k ↦ lex-then u w r (h .0 ∙ k .0) (next (h .1) (k .1)) ]
       ]
 
-  pub lex-con : {E : Type 0} (u v : A) (s t : Bool) → (s ≡ false → t ≡ false → E) → lt u v || (eq u v && s) ≡ false → lt v u || (eq v u && t) ≡ false → (u ≡ v) × E
+  pub lex-con : {E : Type 0} (u v : A) (s t : Bool) → (s ≡ false → t ≡ false → E) → lt u v || (eq u v && s) ≡ false →
+      lt v u || (eq v u && t) ≡ false → (u ≡ v) × E
   lex-con u v s t next e f =
       let p = neither (lt u v) (eq u v && s) e in
       let q = neither (lt v u) (eq v u && t) f in

@@ -5,7 +5,7 @@ use mathlib.Core.List.{List, [], _∷_}
 use Prim.Native.Nat.{ℕ, suc, _+_, _-_, _≤_, _<_}
 use native.Mathlib.Numerals.{add-one}
 use native.Mathlib.Omega.{arith}
-use lib.ListN.{length, getD, take, drop, length-drop, drop-of-length-le}
+use lib.ListN.{length, take, drop, length-drop, drop-of-length-le}
 use lib.Seq.{drop-cons, take-all}
 use Rattle.words.specs.Words.{begins, overlap}
 
@@ -17,14 +17,16 @@ begins-nonempty : (x b : List ℕ) → 1 ≤ length x → begins x b ≡ true �
 begins-nonempty [] b h e = refl
 begins-nonempty (y ∷ x) b h e = rw (overlap, e)
 
-pub overlap-hit : (a b : List ℕ) (i : ℕ) (r : Bool) → i < length a → r ≡ begins (take (length a - i) (drop i a)) b → r ≡ true → overlap a b ≡ overlap (drop i a) b → length a - i ≡ overlap a b
+pub overlap-hit : (a b : List ℕ) (i : ℕ) (r : Bool) → i < length a → r ≡ begins (take (length a - i) (drop i a)) b → r ≡ true →
+    overlap a b ≡ overlap (drop i a) b → length a - i ≡ overlap a b
 overlap-hit a b i r h e t o =
     let s : begins (drop i a) b ≡ true = rw suffix at (sym e ∙ t) in
     let n : length (drop i a) ≡ length a - i = length-drop i a in
     let g : overlap (drop i a) b ≡ length (drop i a) = begins-nonempty (drop i a) b (omega arith) s in
     omega arith
 
-pub overlap-miss : (a b : List ℕ) (i : ℕ) (r : Bool) → i < length a → r ≡ begins (take (length a - i) (drop i a)) b → r ≡ false → overlap a b ≡ overlap (drop i a) b → overlap a b ≡ overlap (drop (i + 1) a) b
+pub overlap-miss : (a b : List ℕ) (i : ℕ) (r : Bool) → i < length a → r ≡ begins (take (length a - i) (drop i a)) b → r ≡ false →
+    overlap a b ≡ overlap (drop i a) b → overlap a b ≡ overlap (drop (i + 1) a) b
 overlap-miss a b i r h e t o =
     let s : begins (drop i a) b ≡ false = rw suffix at (sym e ∙ t) in
     let g : overlap (drop i a) b ≡ overlap (drop (suc i) a) b = rw (drop-cons a i 0, overlap, rw (drop-cons a i 0) at s) in

@@ -7,7 +7,7 @@
 -- suffix of c that begins d.
 use mathlib.Core.Path.{_≡_, refl, sym, ap, _∙_}
 use mathlib.Core.Bool.{Bool, true, false, true≢false, false≢true}
-use mathlib.Core.Logic.{_⊎_, inl, inr}
+use mathlib.Core.Logic.{inl, inr}
 use mathlib.Core.List.{List, [], _∷_, _++_, append-assoc}
 use Prim.Native.Nat.{ℕ, zero, suc, _+_, _-_, _≤_, _<_}
 use native.Mathlib.Omega.{arith}
@@ -15,7 +15,8 @@ use lib.ListN.{length, take, drop, length-drop, take-append-drop}
 use lib.Seq.{length-take-le, drop-drop}
 use Rattle.words.specs.Words.{begins, ends, endsProperly, overlap, overlapFor, nonEmpty}
 use Rattle.words.proofs.Tests.{tell, not-both}
-use Rattle.words.proofs.Strings.{begins-take, begins-prefix, begins-length, begins-trans, begins-drop, begins-both, ends-length, ends-drop, drop-ends, endsProperly-ends, ends-endsProperly}
+use Rattle.words.proofs.Strings.{begins-take, begins-prefix, begins-length, begins-trans, begins-drop, begins-both}
+use Rattle.words.proofs.Strings.{ends-length, ends-drop, drop-ends, endsProperly-ends, ends-endsProperly}
 
 -- the two clauses of `overlap`
 overlap-whole : (x : ℕ) (xs b : List ℕ) → begins (x ∷ xs) b ≡ true → overlap (x ∷ xs) b ≡ suc (length xs)

@@ -7,13 +7,13 @@
 -- For each of the four tests: a split law that names the other parts of y, a law that builds the test from the parts, and what it tells of lengths,
 -- of `take` and of `drop`. Prefixes are compared letter by letter; the rest follows from the splits.
 use mathlib.Core.Path.{_≡_, refl, sym, ap, _∙_}
-use mathlib.Core.Bool.{Bool, true, false, false≢true, _&&_, _||_}
-use mathlib.Core.Logic.{_⊎_, inl, inr}
+use mathlib.Core.Bool.{Bool, true, false, false≢true}
+use mathlib.Core.Logic.{inl, inr}
 use mathlib.Core.List.{List, [], _∷_, _++_, append-assoc}
 use Prim.Native.Nat.{ℕ, zero, suc, _+_, _-_, _≤_, _<_}
 use native.Mathlib.Omega.{arith}
 use lib.Dec.{eqb, leb, ltb}
-use lib.ListN.{length, take, drop, length-append, length-drop, take-append-drop}
+use lib.ListN.{length, take, drop, length-append, take-append-drop}
 use lib.Seq.{drop-at, drop-drop}
 use borrow.Author.Tests.{eqb-true, eq-eqb, leb-true, le-leb, ltb-true, lt-ltb}
 use Rattle.words.specs.Words.{same, begins, ends, endsProperly, standsIn}
@@ -166,4 +166,5 @@ pub stands-trans : (x y z : List ℕ) → standsIn x y ≡ true → standsIn y z
 stands-trans x y z e f =
     let p = stands-at x y e in
     let q = stands-at y z f in
-    stands-drop (q .0 + p .0) x z (rw drop-drop at (begins-trans x (drop (p .0) y) (drop (p .0) (drop (q .0) z)) (p .2) (begins-drop (p .0) y (drop (q .0) z) (q .2))))
+    stands-drop (q .0 + p .0) x z
+    (rw drop-drop at (begins-trans x (drop (p .0) y) (drop (p .0) (drop (q .0) z)) (p .2) (begins-drop (p .0) y (drop (q .0) z) (q .2))))

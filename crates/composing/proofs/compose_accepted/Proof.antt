@@ -3,92 +3,45 @@ use native.Mathlib.Omega.{arith}
 use borrow.Author.Needs.{needs}
 use Rattle.composing.proofs.compose_accepted.Statement.{statement}
 use Rattle.composing.proofs.compose_accepted.Tie as tie
-use Rattle.composing.proofs.compose_accepted.Reads as reads
-use Rattle.composing.proofs.compose_accepted.Lts as lts
-use Rattle.automaton.proofs.build.Reads as build-reads
-use Rattle.composing.proofs.finish.Reads as finish-reads
-use Rattle.owners.proofs.fill_lists.Reads as fill-lists-reads
-use Rattle.walking.proofs.walk.Reads as walk-reads
 
--- src/lib.rt:212:9
-build-requires : tie.Need-build-requires
-build-requires c κs = search needs
+-- what is behind the moment at which the walk is done
+abbrev listed : tie.After-walk → tie.After-fill-lists
+listed walked = walked .before .before .before .before .before .before .before .before .before
 
--- src/lib.rt:213:9
-fill-lists-requires : tie.Need-fill-lists-requires
-fill-lists-requires c κs = search needs
+abbrev built : tie.After-walk → tie.After-build
+built walked = listed walked .before .before .before .before
 
--- src/lib.rt:219:65
-slice-aggregate-walk : tie.Need-slice-aggregate-walk
-slice-aggregate-walk c = search needs
+abbrev start : tie.After-walk → tie.Start
+start walked = built walked .before .before .before .before .before .before
 
--- src/lib.rt:219:76
-slice-aggregate-walk-2 : tie.Need-slice-aggregate-walk-2
-slice-aggregate-walk-2 c = search needs
-
--- src/lib.rt:219:88
-slice-aggregate-walk-3 : tie.Need-slice-aggregate-walk-3
-slice-aggregate-walk-3 c = search needs
-
--- src/lib.rt:219:100
-slice-aggregate-walk-4 : tie.Need-slice-aggregate-walk-4
-slice-aggregate-walk-4 c = search needs
-
--- src/lib.rt:219:112
-slice-aggregate-walk-5 : tie.Need-slice-aggregate-walk-5
-slice-aggregate-walk-5 c = search needs
-
--- src/lib.rt:219:9
 walk-requires : tie.Need-walk-requires
 walk-requires c κs = (search walk-can, search needs)
 
--- src/lib.rt:220:41
-slice-aggregate-finish : tie.Need-slice-aggregate-finish
-slice-aggregate-finish c = search needs
-
--- src/lib.rt:220:48
-slice-aggregate-finish-2 : tie.Need-slice-aggregate-finish-2
-slice-aggregate-finish-2 c = search needs
-
--- src/lib.rt:220:56
-slice-aggregate-finish-3 : tie.Need-slice-aggregate-finish-3
-slice-aggregate-finish-3 c = search needs
-
--- src/lib.rt:220:5
 finish-requires : tie.Need-finish-requires
 finish-requires c κs =
-    finish-can _ _ _ (c .before .before .before .before .before .before .before .before .before .before .before .before .before .before .before .before .before .before .before .before .before .before .before .before .before .before .before .before .before .before .before .pre) _ _ (c .before .before .before .before .before .before .before .before .before .before .before .before .before .before .before .before .before .before .before .before .before .before .before .before .before .build .ensures) _ _ (c .before .before .before .before .before .before .before .before .before .before .before .before .before .before .before .before .before .before .before .before .before .fill-lists .ensures) _ _ _ _ _ (c .before .before .before .before .before .before .before .before .before .before .before .before .walk .ensures)
+    let walked = c .before .before .before .before .before .before .before .before .before .before .before .before in
+    finish-can _ _ _ (start walked .pre) _ _ (built walked .build .ensures) _ _ (listed walked .fill-lists .ensures) _ _ _ _ _ (walked .walk .ensures)
 
--- src/lib.rt:207:1
 same-length : tie.Need-same-length
 same-length c =
-    omega (arith, c .before .before .before .before .before .before .before .before .before .before .before .before .before .before .before .before .before .before .before .before .before .before .before .before .before .before .before .before .before .before .build .ensures .same, c .before .before .before .before .before .before .before .before .before .before .before .before .before .before .before .before .before .before .before .before .before .before .before .before .before .before .fill-lists .ensures .below .same, c .before .before .before .before .before .before .before .before .before .before .before .before .before .before .before .before .before .walk .ensures .only .same, c .before .before .before .before .finish .ensures .same)
+    let finished = c .before .before .before .before in
+    let walked = finished .before .before .before .before .before .before .before .before .before .before .before .before .before in
+    omega (
+      arith,
+      built walked .build .ensures .same,
+      listed walked .fill-lists .ensures .below .same,
+      walked .walk .ensures .only .same,
+      finished .finish .ensures .same,
+    )
 
--- src/lib.rt:207:1
-same-length-2 : tie.Need-same-length-2
-same-length-2 c = search needs
-
--- src/lib.rt:207:1
 returns : tie.Need-returns
 returns c =
-    finished-all _ _ _ (c .before .before .before .before .before .before .before .before .before .before .before .before .before .before .before .before .before .before .before .before .before .before .before .before .before .before .before .before .before .before .before .before .before .before .before .before .pre) _ _ (c .before .before .before .before .before .before .before .before .before .before .before .before .before .before .before .before .before .before .before .before .before .before .before .before .before .before .before .before .before .before .build .ensures) _ _ (c .before .before .before .before .before .before .before .before .before .before .before .before .before .before .before .before .before .before .before .before .before .before .before .before .before .before .fill-lists .ensures) _ _ _ _ _ (c .before .before .before .before .before .before .before .before .before .before .before .before .before .before .before .before .before .walk .ensures) _ _ _ _ _ _ (c .before .before .before .before .finish .ensures)
+    let finished = c .before .before .before .before in
+    let walked = finished .before .before .before .before .before .before .before .before .before .before .before .before .before in
+    finished-all _ _ _ (start walked .pre) _ _ (built walked .build .ensures) _ _ (listed walked .fill-lists .ensures) _ _ _ _ _
+    (walked .walk .ensures) _ _ _ _ _ _ (finished .finish .ensures)
 
 pub compose-accepted-spec : {M : Type 1} → statement M
-compose-accepted-spec =
-    tie.close
-    (tie.spec
-    build-requires
-    fill-lists-requires
-    slice-aggregate-walk
-    slice-aggregate-walk-2
-    slice-aggregate-walk-3
-    slice-aggregate-walk-4
-    slice-aggregate-walk-5
-    walk-requires
-    slice-aggregate-finish
-    slice-aggregate-finish-2
-    slice-aggregate-finish-3
-    finish-requires
-    same-length
-    same-length-2
-    returns)
+compose-accepted-spec = tie.close (tie.spec (λ c κs. search needs) (λ c κs. search needs) (λ c. search needs) (λ c. search needs)
+    (λ c. search needs) (λ c. search needs) (λ c. search needs) walk-requires (λ c. search needs) (λ c. search needs) (λ c. search needs)
+    finish-requires same-length (λ c. search needs) returns)

@@ -12,11 +12,8 @@ returns-2 c = search place-ends
 returns-3 : tie.Need-returns-3
 returns-3 c = search place-long
 
-check-lines-requires : tie.Need-check-lines-requires
-check-lines-requires c κs = search needs
-
 returns-4 : tie.Need-returns-4
 returns-4 c = search place-lines
 
 pub check-file-spec : {M : Type 1} → statement M
-check-file-spec = tie.close (tie.spec returns returns-2 returns-3 check-lines-requires returns-4)
+check-file-spec = tie.close (tie.spec returns returns-2 returns-3 (λ c κs. search needs) returns-4)

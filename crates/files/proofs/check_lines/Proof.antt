@@ -1,3 +1,5 @@
+-- Invariant: the k - 1 lines before place `at` have no fault, so the file's first fault is that of the lines from there on, counted from k; k - 1 is
+-- at most `at`.
 use mathlib.Core.Path.{_≡_}
 use Prim.Native.Nat.{_+_, _-_, _≤_}
 use lib.ListN.{length, drop}
@@ -14,20 +16,8 @@ Inv-loop file at₀ k₀ at k = (k ≤ at + 1) × (at ≤ length file) × (lines
 abbrev μ-loop : tie.MeasureT-loop
 μ-loop file at₀ k₀ at k = length file - at
 
-loop-holds : tie.Need-loop-holds Inv-loop μ-loop
-loop-holds c = search needs
-
-next-line-requires : tie.Need-next-line-requires Inv-loop μ-loop
-next-line-requires c κs = search needs
-
-cast-t7 : tie.Need-cast-t7 Inv-loop μ-loop
-cast-t7 c = search needs
-
 returns : tie.Need-returns Inv-loop μ-loop
 returns c = search check-bad
-
-add-k : tie.Need-add-k Inv-loop μ-loop
-add-k c = search needs
 
 loop-less : tie.Need-loop-less Inv-loop μ-loop
 loop-less c = search next-less
@@ -39,16 +29,5 @@ returns-2 : tie.Need-returns-2 Inv-loop μ-loop
 returns-2 c = search check-done
 
 pub check-lines-spec : {M : Type 1} → statement M
-check-lines-spec =
-    tie.close
-    (tie.spec
-    Inv-loop
-    μ-loop
-    loop-holds
-    next-line-requires
-    cast-t7
-    returns
-    add-k
-    loop-less
-    loop-again
-    returns-2)
+check-lines-spec = tie.close (tie.spec Inv-loop μ-loop (λ c. search needs) (λ c κs. search needs) (λ c. search needs) returns
+    (λ c. search needs) loop-less loop-again returns-2)

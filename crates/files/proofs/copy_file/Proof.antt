@@ -1,3 +1,5 @@
+-- Invariant: the first `slips` lines, which end at place `at`, are copied: their `count` letters and their ends stand at the starts of the two
+-- buffers, the rest of these is as it was, and the lines that are left have no fault.
 use Prim.Native.Nat.{_-_}
 use lib.ListN.{length, length-take, length-drop}
 use Rattle.files.proofs.CopyTurns.{Passed, Turn, turn, letters-long, ends-long, passed-none, passed-more, passed-all}
@@ -12,18 +14,27 @@ Inv-loop file letters₀ ends₀ at₀ count₀ slips₀ letters ends at count s
 abbrev μ-loop : tie.MeasureT-loop
 μ-loop file letters₀ ends₀ at₀ count₀ slips₀ letters ends at count slips = length file - at
 
+-- the head of the loop, from behind the line that a turn reads, and where the function starts
+abbrev head : tie.After-next-line Inv-loop μ-loop → tie.At-loop Inv-loop μ-loop
+head lined = lined .before .before
+
+abbrev start : tie.After-next-line Inv-loop μ-loop → tie.Start Inv-loop μ-loop
+start lined = head lined .before .before .before .before
+
 -- what is known once the line is read
-turned : (c : tie.After-next-line Inv-loop μ-loop) → Turn (c .before .before .before .before .before .before .args .file .now) (c .before .before .loop .letters) (c .before .before .loop .ends) (c .before .before .loop .at) (c .before .before .loop .count) (c .before .before .loop .slips) (c .next-line .result)
-turned c = turn _ _ _ _ _ _ _ _ (c .before .before .before .before .before .before .pre) (c .before .before .loop .inv) (c .next-line .result) (c .before .loop-test .taken) (c .next-line .ensures)
+turned : (c : tie.After-next-line Inv-loop μ-loop) →
+    let l = head c .loop in
+    Turn (start c .args .file .now) (l .letters) (l .ends) (l .at) (l .count) (l .slips) (c .next-line .result)
+turned c = turn _ _ _ _ _ _ _ _ (start c .pre) (head c .loop .inv) (c .next-line .result) (c .before .loop-test .taken) (c .next-line .ensures)
+
+-- the line that a turn reads, from behind its letters
+abbrev lined : tie.After-file-letters Inv-loop μ-loop → tie.After-next-line Inv-loop μ-loop
+lined copied = copied .before .before .before
 
 loop-holds : tie.Need-loop-holds Inv-loop μ-loop
-loop-holds c = passed-none _ _ _ (c .before .before .before .pre)
-
-add-next-line : tie.Need-add-next-line Inv-loop μ-loop
-add-next-line c = search needs
-
-next-line-requires : tie.Need-next-line-requires Inv-loop μ-loop
-next-line-requires c κs = search needs
+loop-holds c =
+    let start = c .before .before .before in
+    passed-none _ _ _ (start .pre)
 
 sub-file-letters : tie.Need-sub-file-letters Inv-loop μ-loop
 sub-file-letters c = omega (arith, turned c)
@@ -40,41 +51,30 @@ sub-file-letters-2 c = omega (arith, turned (c .before))
 part-file-letters-start-2 : tie.Need-part-file-letters-start-2 Inv-loop μ-loop
 part-file-letters-start-2 c = omega (arith, turned (c .before))
 
-part-file-letters-end-2 : tie.Need-part-file-letters-end-2 Inv-loop μ-loop
-part-file-letters-end-2 c = search needs
-
 file-letters-requires : tie.Need-file-letters-requires Inv-loop μ-loop
 file-letters-requires c κs = simp (length-take, length-drop) (omega (arith, turned (c .before .before)))
 
 sub-count : tie.Need-sub-count Inv-loop μ-loop
-sub-count c = omega (arith, turned (c .before .before .before .before .before))
+sub-count c = omega (arith, turned (lined (c .before .before)))
 
 add-count : tie.Need-add-count Inv-loop μ-loop
-add-count c = omega (arith, turned (c .before .before .before .before .before))
+add-count c = omega (arith, turned (lined (c .before .before)))
 
 cast-ends : tie.Need-cast-ends Inv-loop μ-loop
-cast-ends c = omega (arith, turned (c .before .before .before .before .before))
-
-mul-ends : tie.Need-mul-ends Inv-loop μ-loop
-mul-ends c = search needs
+cast-ends c = omega (arith, turned (lined (c .before .before)))
 
 slice-write-ends : tie.Need-slice-write-ends Inv-loop μ-loop
-slice-write-ends c = omega (arith, turned (c .before .before .before .before .before))
-
-add-slips : tie.Need-add-slips Inv-loop μ-loop
-add-slips c = search needs
+slice-write-ends c = omega (arith, turned (lined (c .before .before)))
 
 loop-less : tie.Need-loop-less Inv-loop μ-loop
-loop-less c = omega (arith, turned (c .before .before .before .before .before))
+loop-less c = omega (arith, turned (lined (c .before .before)))
 
 loop-again : tie.Need-loop-again Inv-loop μ-loop
-loop-again c = let n = c .before .before .before .before .before in passed-more _ _ _ _ _ _ _ _ (n .before .before .before .before .before .before .pre) (n .before .before .loop .inv) (n .next-line .result) (n .before .loop-test .taken) (n .next-line .ensures) _ (c .before .before .file-letters .ensures)
-
-cast-t22 : tie.Need-cast-t22 Inv-loop μ-loop
-cast-t22 c = search needs
-
-cast-t23 : tie.Need-cast-t23 Inv-loop μ-loop
-cast-t23 c = search needs
+loop-again c =
+    let copied = c .before .before in
+    let n = lined copied in
+    passed-more _ _ _ _ _ _ _ _ (start n .pre) (head n .loop .inv) (n .next-line .result) (n .before .loop-test .taken) (n .next-line .ensures) _
+    (copied .file-letters .ensures)
 
 same-length : tie.Need-same-length Inv-loop μ-loop
 same-length c = search letters-long
@@ -86,31 +86,7 @@ returns : tie.Need-returns Inv-loop μ-loop
 returns c = search passed-all
 
 pub copy-file-spec : {M : Type 1} → statement M
-copy-file-spec =
-    tie.close
-    (tie.spec
-    Inv-loop
-    μ-loop
-    loop-holds
-    add-next-line
-    next-line-requires
-    sub-file-letters
-    part-file-letters-start
-    part-file-letters-end
-    sub-file-letters-2
-    part-file-letters-start-2
-    part-file-letters-end-2
-    file-letters-requires
-    sub-count
-    add-count
-    cast-ends
-    mul-ends
-    slice-write-ends
-    add-slips
-    loop-less
-    loop-again
-    cast-t22
-    cast-t23
-    same-length
-    same-length-2
-    returns)
+copy-file-spec = tie.close (tie.spec Inv-loop μ-loop loop-holds (λ c. search needs) (λ c κs. search needs) sub-file-letters
+    part-file-letters-start part-file-letters-end sub-file-letters-2 part-file-letters-start-2 (λ c. search needs) file-letters-requires
+    sub-count add-count cast-ends (λ c. search needs) slice-write-ends (λ c. search needs) loop-less loop-again (λ c. search needs)
+    (λ c. search needs) same-length same-length-2 returns)

@@ -1,3 +1,4 @@
+-- Invariant: the first i letters of `from` stand, filed, at the start of `to`, and the rest of `to` is as it was.
 use Rattle.files.proofs.LentParts.{filed-more, filed-all}
 use lib.ListN.{length-set}
 use mathlib.Core.Path.{_≡_}
@@ -16,45 +17,12 @@ Inv-loop from to₀ i₀ to i = (i ≤ length from) × (length to ≡ length to�
 abbrev μ-loop : tie.MeasureT-loop
 μ-loop from to₀ i₀ to i = length from - i
 
-loop-holds : tie.Need-loop-holds Inv-loop μ-loop
-loop-holds c = search needs
-
-shared-slice-read-filed : tie.Need-shared-slice-read-filed Inv-loop μ-loop
-shared-slice-read-filed c = search needs
-
-filed-requires : tie.Need-filed-requires Inv-loop μ-loop
-filed-requires c κs = search needs
-
-slice-write-to : tie.Need-slice-write-to Inv-loop μ-loop
-slice-write-to c = search needs
-
-add-i : tie.Need-add-i Inv-loop μ-loop
-add-i c = search needs
-
-loop-less : tie.Need-loop-less Inv-loop μ-loop
-loop-less c = search needs
-
 loop-again : tie.Need-loop-again Inv-loop μ-loop
 loop-again c = (search needs, simp length-set (search needs), search filed-more)
-
-same-length : tie.Need-same-length Inv-loop μ-loop
-same-length c = search needs
 
 returns : tie.Need-returns Inv-loop μ-loop
 returns c = search filed-all
 
 pub file-letters-spec : {M : Type 1} → statement M
-file-letters-spec =
-    tie.close
-    (tie.spec
-    Inv-loop
-    μ-loop
-    loop-holds
-    shared-slice-read-filed
-    filed-requires
-    slice-write-to
-    add-i
-    loop-less
-    loop-again
-    same-length
-    returns)
+file-letters-spec = tie.close (tie.spec Inv-loop μ-loop (λ c. search needs) (λ c. search needs) (λ c κs. search needs) (λ c. search needs)
+    (λ c. search needs) (λ c. search needs) loop-again (λ c. search needs) returns)

@@ -1,3 +1,4 @@
+-- Invariant: v is the number that the first i digits write; it is below 10 ^ i, and the digits from i on continue it to the number of them all.
 use mathlib.Core.Path.{_≡_}
 use Prim.Native.Nat.{_-_, _^_, _≤_, _<_}
 use lib.ListN.{length, drop}
@@ -13,12 +14,6 @@ Inv-loop digits v₀ i₀ v i = (i ≤ length digits) × (v < 10 ^ i) × (number
 abbrev μ-loop : tie.MeasureT-loop
 μ-loop digits v₀ i₀ v i = length digits - i
 
-loop-holds : tie.Need-loop-holds Inv-loop μ-loop
-loop-holds c = search needs
-
-shared-slice-read-d : tie.Need-shared-slice-read-d Inv-loop μ-loop
-shared-slice-read-d c = search needs
-
 returns : tie.Need-returns Inv-loop μ-loop
 returns c = search number-low
 
@@ -28,17 +23,8 @@ returns-2 c = search number-high
 mul-v : tie.Need-mul-v Inv-loop μ-loop
 mul-v c = search number-times
 
-wide-requires : tie.Need-wide-requires Inv-loop μ-loop
-wide-requires c κs = search needs
-
 add-v : tie.Need-add-v Inv-loop μ-loop
 add-v c = search number-plus
-
-add-i : tie.Need-add-i Inv-loop μ-loop
-add-i c = search needs
-
-loop-less : tie.Need-loop-less Inv-loop μ-loop
-loop-less c = search needs
 
 loop-again : tie.Need-loop-again Inv-loop μ-loop
 loop-again c = (search needs, search number-grows, search number-more)
@@ -50,20 +36,5 @@ returns-3 : tie.Need-returns-3 Inv-loop μ-loop
 returns-3 c = search number-all
 
 pub number-spec : {M : Type 1} → statement M
-number-spec =
-    tie.close
-    (tie.spec
-    Inv-loop
-    μ-loop
-    loop-holds
-    shared-slice-read-d
-    returns
-    returns-2
-    mul-v
-    wide-requires
-    add-v
-    add-i
-    loop-less
-    loop-again
-    add-result
-    returns-3)
+number-spec = tie.close (tie.spec Inv-loop μ-loop (λ c. search needs) (λ c. search needs) returns returns-2 mul-v (λ c κs. search needs)
+    add-v (λ c. search needs) (λ c. search needs) loop-again add-result returns-3)

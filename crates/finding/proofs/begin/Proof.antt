@@ -13,12 +13,6 @@ count-text-requires c κs = search begin-able
 cast-refused : tie.Need-cast-refused
 cast-refused c = record { fits = search count-fits }
 
-refused-requires : tie.Need-refused-requires
-refused-requires c κs = search needs
-
-same-length : tie.Need-same-length
-same-length c = search needs
-
 returns : tie.Need-returns
 returns c = search begin-refused
 
@@ -31,24 +25,9 @@ cast-t20 c = record { fits = search moves-fit }
 cast-t21 : tie.Need-cast-t21
 cast-t21 c = record { fits = search count-fits }
 
-same-length-2 : tie.Need-same-length-2
-same-length-2 c = search needs
-
 returns-2 : tie.Need-returns-2
 returns-2 c = search begin-started
 
 pub begin-spec : {M : Type 1} → statement M
-begin-spec =
-    tie.close
-    (tie.spec
-    prepare-requires
-    count-text-requires
-    cast-refused
-    refused-requires
-    same-length
-    returns
-    start-requires
-    cast-t20
-    cast-t21
-    same-length-2
-    returns-2)
+begin-spec = tie.close (tie.spec prepare-requires count-text-requires cast-refused (λ c κs. search needs) (λ c. search needs) returns
+    start-requires cast-t20 cast-t21 (λ c. search needs) returns-2)

@@ -3,17 +3,11 @@ use borrow.Author.Needs.{needs}
 use Rattle.finding.proofs.check_find.Statement.{statement}
 use Rattle.finding.proofs.check_find.Tie as tie
 
-check-tray-requires : tie.Need-check-tray-requires
-check-tray-requires c κs = search needs
-
 returns : tie.Need-returns
 returns c = search before-tray
 
 returns-2 : tie.Need-returns-2
 returns-2 c = search before-long
-
-first-bad-requires : tie.Need-first-bad-requires
-first-bad-requires c κs = search needs
 
 cast-t9 : tie.Need-cast-t9
 cast-t9 c = record { fits = search place-fits }
@@ -28,14 +22,4 @@ returns-5 : tie.Need-returns-5
 returns-5 c = search before-none
 
 pub check-find-spec : {M : Type 1} → statement M
-check-find-spec =
-    tie.close
-    (tie.spec
-    check-tray-requires
-    returns
-    returns-2
-    first-bad-requires
-    cast-t9
-    returns-3
-    returns-4
-    returns-5)
+check-find-spec = tie.close (tie.spec (λ c κs. search needs) returns returns-2 (λ c κs. search needs) cast-t9 returns-3 returns-4 returns-5)

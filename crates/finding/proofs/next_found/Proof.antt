@@ -19,33 +19,26 @@ keep-requires : tie.Need-keep-requires
 keep-requires c κs = passed-keeps (c .before .pass .ensures)
 
 cast-t22 : tie.Need-cast-t22
-cast-t22 c = record { fits = reached-end (c .before .before .before .before .before .before .before .advance .ensures) }
+cast-t22 c =
+    let advanced = c .before .before .before .before .before .before .before in
+    record { fits = reached-end (advanced .advance .ensures) }
 
 cast-t23 : tie.Need-cast-t23
-cast-t23 c = record { fits = reached-slip (c .before .before .before .before .before .before .before .before .advance .ensures) }
-
-same-length : tie.Need-same-length
-same-length c = search needs
+cast-t23 c =
+    let advanced = c .before .before .before .before .before .before .before .before in
+    record { fits = reached-slip (advanced .advance .ensures) }
 
 returns : tie.Need-returns
 returns c =
-    let k = c .before .before .before .before in
-    let p = k .before .before in
-    let a = p .before .before in
-    let l = a .before .before in
-    let n = l .before .before in
-    ready-told (n .before .before .before .before .before .before .pre) (n .at .ensures) (l .load .ensures) (a .advance .ensures) (p .pass .ensures) (k .keep .ensures)
+    let scan-kept = c .before .before .before .before in
+    let passed = scan-kept .before .before in
+    let advanced = passed .before .before in
+    let loaded = advanced .before .before in
+    let counted = loaded .before .before in
+    let start = counted .before .before .before .before .before .before in
+    ready-told (start .pre) (counted .at .ensures) (loaded .load .ensures) (advanced .advance .ensures) (passed .pass .ensures)
+    (scan-kept .keep .ensures)
 
 pub next-found-spec : {M : Type 1} → statement M
-next-found-spec =
-    tie.close
-    (tie.spec
-    at-requires
-    load-requires
-    advance-requires
-    pass-requires
-    keep-requires
-    cast-t22
-    cast-t23
-    same-length
-    returns)
+next-found-spec = tie.close (tie.spec at-requires load-requires advance-requires pass-requires keep-requires cast-t22 cast-t23
+    (λ c. search needs) returns)

@@ -3,25 +3,12 @@ use borrow.Author.Needs.{needs}
 use Rattle.finding.proofs.prepare.Statement.{statement}
 use Rattle.finding.proofs.prepare.Tie as tie
 
-build-requires : tie.Need-build-requires
-build-requires c κs = search needs
-
-fill-heads-requires : tie.Need-fill-heads-requires
-fill-heads-requires c κs = search needs
-
-fill-outputs-requires : tie.Need-fill-outputs-requires
-fill-outputs-requires c κs = search needs
-
-same-length : tie.Need-same-length
-same-length c = search needs
-
 returns : tie.Need-returns
 returns c =
-    let o = c .before .before in
-    let h = o .before .before .before .before in
-    prepared (h .before .before .before .before .build .ensures) (h .fill-heads .ensures) (o .fill-outputs .ensures)
+    let outputs-filled = c .before .before in
+    let heads-filled = outputs-filled .before .before .before .before in
+    let built = heads-filled .before .before .before .before in
+    prepared (built .build .ensures) (heads-filled .fill-heads .ensures) (outputs-filled .fill-outputs .ensures)
 
 pub prepare-spec : {M : Type 1} → statement M
-prepare-spec =
-    tie.close
-    (tie.spec build-requires fill-heads-requires fill-outputs-requires same-length returns)
+prepare-spec = tie.close (tie.spec (λ c κs. search needs) (λ c κs. search needs) (λ c κs. search needs) (λ c. search needs) returns)

@@ -1,3 +1,5 @@
+-- Invariant: the end place and slip of each of the first i occurrences stand at the start of `found`, the rest of `found` is as it was, and the scan
+-- in the work area has reported these i.
 use borrow.Author.Needs.{needs}
 use Prim.Native.Nat.{_-_}
 use native.Mathlib.Omega.{arith}
@@ -18,64 +20,31 @@ next-found-requires : tie.Need-next-found-requires Inv-loop μ-loop
 next-found-requires c κs = search flat-ready
 
 mul-at : tie.Need-mul-at Inv-loop μ-loop
-mul-at c = record { fits = flat-fits (c .before .before .before .before .before .loop .inv) (c .before .before .before .before .loop-test .taken) }
-
-mul-found : tie.Need-mul-found Inv-loop μ-loop
-mul-found c = search needs
+mul-at c =
+    let turn = c .before .before .before .before in
+    record { fits = flat-fits (turn .before .loop .inv) (turn .loop-test .taken) }
 
 slice-write-found : tie.Need-slice-write-found Inv-loop μ-loop
 slice-write-found c = search flat-room
 
-wide-requires : tie.Need-wide-requires Inv-loop μ-loop
-wide-requires c κs = search needs
-
-add-found : tie.Need-add-found Inv-loop μ-loop
-add-found c = search needs
-
-mul-found-2 : tie.Need-mul-found-2 Inv-loop μ-loop
-mul-found-2 c = search needs
-
 slice-write-found-2 : tie.Need-slice-write-found-2 Inv-loop μ-loop
-slice-write-found-2 c = flat-next (c .before .before .before .before .before .before .loop .inv) (c .before .before .before .before .before .loop-test .taken) _
-
-add-i : tie.Need-add-i Inv-loop μ-loop
-add-i c = search needs
+slice-write-found-2 c =
+    let turn = c .before .before .before .before .before in
+    flat-next (turn .before .loop .inv) (turn .loop-test .taken) _
 
 loop-less : tie.Need-loop-less Inv-loop μ-loop
 loop-less c = omega arith
 
 loop-again : tie.Need-loop-again Inv-loop μ-loop
 loop-again c =
-    let n = c .before .before .before in
-    flat-more (n .before .before .before .loop .inv) (n .before .before .loop-test .taken) (n .next-found .ensures) (c .wide .ensures)
-
-same-length : tie.Need-same-length Inv-loop μ-loop
-same-length c = search needs
-
-same-length-2 : tie.Need-same-length-2 Inv-loop μ-loop
-same-length-2 c = search needs
+    let found-next = c .before .before .before in
+    let turn = found-next .before .before in
+    flat-more (turn .before .loop .inv) (turn .loop-test .taken) (found-next .next-found .ensures) (c .wide .ensures)
 
 returns : tie.Need-returns Inv-loop μ-loop
 returns c = search flat-all
 
 pub scan-flat-spec : {M : Type 1} → statement M
-scan-flat-spec =
-    tie.close
-    (tie.spec
-    Inv-loop
-    μ-loop
-    loop-holds
-    next-found-requires
-    mul-at
-    mul-found
-    slice-write-found
-    wide-requires
-    add-found
-    mul-found-2
-    slice-write-found-2
-    add-i
-    loop-less
-    loop-again
-    same-length
-    same-length-2
-    returns)
+scan-flat-spec = tie.close (tie.spec Inv-loop μ-loop loop-holds next-found-requires mul-at (λ c. search needs) slice-write-found
+    (λ c κs. search needs) (λ c. search needs) (λ c. search needs) slice-write-found-2 (λ c. search needs) loop-less loop-again
+    (λ c. search needs) (λ c. search needs) returns)

@@ -20,7 +20,6 @@ lay-at t = and 4 lay-kinds.ps (is 4 lay-kinds.ps μ-lay t) lay.Pre
 abbrev lay-below : ℕ → In 4 lay-kinds.ps
 lay-below t = and 4 lay-kinds.ps (falls 4 lay-kinds.ps _<_ μ-lay t) lay.Pre
 
--- src/lib.rt:49:9
 lay-returns : (t : ℕ) → lay-lts.Need-returns (
   lay-piece-reads.Asked,
   lay-piece-reads.Learnt,
@@ -29,7 +28,6 @@ lay-returns : (t : ℕ) → lay-lts.Need-returns (
 ) (lay-at t) lay.Post
 lay-returns t c = search lay-none
 
--- src/lib.rt:51:9
 lay-lay-piece-requires : (t : ℕ) → lay-lts.Need-lay-piece-requires (
   lay-piece-reads.Asked,
   lay-piece-reads.Learnt,
@@ -38,7 +36,6 @@ lay-lay-piece-requires : (t : ℕ) → lay-lts.Need-lay-piece-requires (
 ) (lay-at t) lay.Post
 lay-lay-piece-requires t c κs = search lay-one
 
--- src/lib.rt:52:32
 lay-add-lay : (t : ℕ) → lay-lts.Need-add-lay (
   lay-piece-reads.Asked,
   lay-piece-reads.Learnt,
@@ -47,7 +44,6 @@ lay-add-lay : (t : ℕ) → lay-lts.Need-add-lay (
 ) (lay-at t) lay.Post
 lay-add-lay t c = search needs
 
--- src/lib.rt:52:39
 lay-sub-lay : (t : ℕ) → lay-lts.Need-sub-lay (
   lay-piece-reads.Asked,
   lay-piece-reads.Learnt,
@@ -56,7 +52,6 @@ lay-sub-lay : (t : ℕ) → lay-lts.Need-sub-lay (
 ) (lay-at t) lay.Post
 lay-sub-lay t c = search needs
 
--- src/lib.rt:52:46
 lay-sub-lay-2 : (t : ℕ) → lay-lts.Need-sub-lay-2 (
   lay-piece-reads.Asked,
   lay-piece-reads.Learnt,
@@ -65,7 +60,6 @@ lay-sub-lay-2 : (t : ℕ) → lay-lts.Need-sub-lay-2 (
 ) (lay-at t) lay.Post
 lay-sub-lay-2 t c = search lay-fits
 
--- src/lib.rt:52:46
 lay-part-lay-start : (t : ℕ) → lay-lts.Need-part-lay-start (
   lay-piece-reads.Asked,
   lay-piece-reads.Learnt,
@@ -74,7 +68,6 @@ lay-part-lay-start : (t : ℕ) → lay-lts.Need-part-lay-start (
 ) (lay-at t) lay.Post
 lay-part-lay-start t c = search lay-fits
 
--- src/lib.rt:52:46
 lay-part-lay-end : (t : ℕ) → lay-lts.Need-part-lay-end (
   lay-piece-reads.Asked,
   lay-piece-reads.Learnt,
@@ -83,7 +76,6 @@ lay-part-lay-end : (t : ℕ) → lay-lts.Need-part-lay-end (
 ) (lay-at t) lay.Post
 lay-part-lay-end t c = search needs
 
--- src/lib.rt:52:5
 lay-lay-requires : (t : ℕ) → lay-lts.Need-lay-requires (
   lay-piece-reads.Asked,
   lay-piece-reads.Learnt,
@@ -92,7 +84,6 @@ lay-lay-requires : (t : ℕ) → lay-lts.Need-lay-requires (
 ) (lay-at t) lay.Post
 lay-lay-requires t c κs = (omega arith, search lay-rest)
 
--- src/lib.rt:44:1
 lay-same-length : (t : ℕ) → lay-lts.Need-same-length (
   lay-piece-reads.Asked,
   lay-piece-reads.Learnt,
@@ -101,7 +92,6 @@ lay-same-length : (t : ℕ) → lay-lts.Need-same-length (
 ) (lay-at t) lay.Post
 lay-same-length t c = search needs
 
--- src/lib.rt:44:1
 lay-returns-2 : (t : ℕ) → lay-lts.Need-returns-2 (
   lay-piece-reads.Asked,
   lay-piece-reads.Learnt,

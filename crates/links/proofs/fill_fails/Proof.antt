@@ -1,3 +1,4 @@
+-- Invariant: FAIL holds the failure links of the nodes before v, and no cell outside FAIL has changed.
 use Prim.Native.Nat.{_+_, _-_}
 use Rattle.links.proofs.Fails.{FillingFails, fails-start, fails-can, fails-room, fails-put, fails-all}
 use borrow.Author.Needs.{needs}
@@ -19,32 +20,12 @@ failure-requires c κs = search fails-can
 put-requires : tie.Need-put-requires Inv-loop μ-loop
 put-requires c κs = search fails-room
 
-add-v : tie.Need-add-v Inv-loop μ-loop
-add-v c = search needs
-
-loop-less : tie.Need-loop-less Inv-loop μ-loop
-loop-less c = search needs
-
 loop-again : tie.Need-loop-again Inv-loop μ-loop
 loop-again c = search fails-put
-
-same-length : tie.Need-same-length Inv-loop μ-loop
-same-length c = search needs
 
 returns : tie.Need-returns Inv-loop μ-loop
 returns c = search fails-all
 
 pub fill-fails-spec : {M : Type 1} → statement M
-fill-fails-spec =
-    tie.close
-    (tie.spec
-    Inv-loop
-    μ-loop
-    loop-holds
-    failure-requires
-    put-requires
-    add-v
-    loop-less
-    loop-again
-    same-length
-    returns)
+fill-fails-spec = tie.close (tie.spec Inv-loop μ-loop loop-holds failure-requires put-requires (λ c. search needs) (λ c. search needs)
+    loop-again (λ c. search needs) returns)

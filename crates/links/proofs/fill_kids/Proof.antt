@@ -1,3 +1,5 @@
+-- Invariant: for each node before v, KID holds the first node whose parent is not below it; every node before u has a parent before v, and no cell
+-- outside KID has changed.
 use Prim.Native.Nat.{_+_, _-_}
 use Rattle.links.proofs.Kids.{FillingKids, kids-start, kids-placed, kids-pass, kids-put, kids-room, kids-all}
 use borrow.Author.Needs.{needs}
@@ -13,17 +15,8 @@ abbrev μ-loop : tie.MeasureT-loop
 loop-holds : tie.Need-loop-holds Inv-loop μ-loop
 loop-holds c = search kids-start
 
-add-loop : tie.Need-add-loop Inv-loop μ-loop
-add-loop c = search needs
-
 hangs-below-requires : tie.Need-hangs-below-requires Inv-loop μ-loop
 hangs-below-requires c κs = search kids-placed
-
-add-u : tie.Need-add-u Inv-loop μ-loop
-add-u c = search needs
-
-loop-less : tie.Need-loop-less Inv-loop μ-loop
-loop-less c = search needs
 
 loop-again : tie.Need-loop-again Inv-loop μ-loop
 loop-again c = search kids-pass
@@ -31,36 +24,12 @@ loop-again c = search kids-pass
 put-requires : tie.Need-put-requires Inv-loop μ-loop
 put-requires c κs = search kids-room
 
-add-v : tie.Need-add-v Inv-loop μ-loop
-add-v c = search needs
-
-loop-less-2 : tie.Need-loop-less-2 Inv-loop μ-loop
-loop-less-2 c = search needs
-
 loop-again-2 : tie.Need-loop-again-2 Inv-loop μ-loop
 loop-again-2 c = search kids-put
-
-same-length : tie.Need-same-length Inv-loop μ-loop
-same-length c = search needs
 
 returns : tie.Need-returns Inv-loop μ-loop
 returns c = search kids-all
 
 pub fill-kids-spec : {M : Type 1} → statement M
-fill-kids-spec =
-    tie.close
-    (tie.spec
-    Inv-loop
-    μ-loop
-    loop-holds
-    add-loop
-    hangs-below-requires
-    add-u
-    loop-less
-    loop-again
-    put-requires
-    add-v
-    loop-less-2
-    loop-again-2
-    same-length
-    returns)
+fill-kids-spec = tie.close (tie.spec Inv-loop μ-loop loop-holds (λ c. search needs) hangs-below-requires (λ c. search needs)
+    (λ c. search needs) loop-again put-requires (λ c. search needs) (λ c. search needs) loop-again-2 (λ c. search needs) returns)

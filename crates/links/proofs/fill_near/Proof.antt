@@ -1,3 +1,4 @@
+-- Invariant: the rows of NEAR of the nodes before v hold their children by each letter, and no cell outside NEAR has changed.
 use Prim.Native.Nat.{_-_}
 use Rattle.layout.specs.Layout.{nearNodes}
 use Rattle.links.proofs.Near.{FillingNear, near-start, near-can, near-more, near-few, near-all}
@@ -14,42 +15,18 @@ abbrev μ-loop : tie.MeasureT-loop
 loop-holds : tie.Need-loop-holds Inv-loop μ-loop
 loop-holds c = search near-start
 
-same-length : tie.Need-same-length Inv-loop μ-loop
-same-length c = search needs
-
 returns : tie.Need-returns Inv-loop μ-loop
 returns c = search near-few
 
 fill-row-requires : tie.Need-fill-row-requires Inv-loop μ-loop
 fill-row-requires c κs = search near-can
 
-add-v : tie.Need-add-v Inv-loop μ-loop
-add-v c = search needs
-
-loop-less : tie.Need-loop-less Inv-loop μ-loop
-loop-less c = search needs
-
 loop-again : tie.Need-loop-again Inv-loop μ-loop
 loop-again c = search near-more
-
-same-length-2 : tie.Need-same-length-2 Inv-loop μ-loop
-same-length-2 c = search needs
 
 returns-2 : tie.Need-returns-2 Inv-loop μ-loop
 returns-2 c = search near-all
 
 pub fill-near-spec : {M : Type 1} → statement M
-fill-near-spec =
-    tie.close
-    (tie.spec
-    Inv-loop
-    μ-loop
-    loop-holds
-    same-length
-    returns
-    fill-row-requires
-    add-v
-    loop-less
-    loop-again
-    same-length-2
-    returns-2)
+fill-near-spec = tie.close (tie.spec Inv-loop μ-loop loop-holds (λ c. search needs) returns fill-row-requires (λ c. search needs)
+    (λ c. search needs) loop-again (λ c. search needs) returns-2)

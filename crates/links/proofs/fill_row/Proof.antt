@@ -1,3 +1,4 @@
+-- Invariant: in the row of NEAR of node v the cells of the letters before c hold its children by them, and no cell outside that row has changed.
 use Prim.Native.Nat.{suc, _-_}
 use Rattle.layout.specs.Layout.{lastSign}
 use Rattle.links.proofs.Near.{FillingRow, row-start, row-branched, row-node, row-close, row-from, row-room, row-put, row-all}
@@ -23,33 +24,12 @@ near-cell-requires c κs = (search row-close, search row-from)
 put-requires : tie.Need-put-requires Inv-loop μ-loop
 put-requires c κs = search row-room
 
-add-c : tie.Need-add-c Inv-loop μ-loop
-add-c c = search needs
-
-loop-less : tie.Need-loop-less Inv-loop μ-loop
-loop-less c = search needs
-
 loop-again : tie.Need-loop-again Inv-loop μ-loop
 loop-again c = search row-put
-
-same-length : tie.Need-same-length Inv-loop μ-loop
-same-length c = search needs
 
 returns : tie.Need-returns Inv-loop μ-loop
 returns c = search row-all
 
 pub fill-row-spec : {M : Type 1} → statement M
-fill-row-spec =
-    tie.close
-    (tie.spec
-    Inv-loop
-    μ-loop
-    loop-holds
-    scan-child-requires
-    near-cell-requires
-    put-requires
-    add-c
-    loop-less
-    loop-again
-    same-length
-    returns)
+fill-row-spec = tie.close (tie.spec Inv-loop μ-loop loop-holds scan-child-requires near-cell-requires put-requires (λ c. search needs)
+    (λ c. search needs) loop-again (λ c. search needs) returns)

@@ -4,23 +4,24 @@ use borrow.Author.Needs.{needs}
 use Rattle.links.proofs.parent.Statement.{statement}
 use Rattle.links.proofs.parent.Tie as tie
 
-at-requires : tie.Need-at-requires
-at-requires c κs = search needs
-
 returns : tie.Need-returns
 returns c = search parent-short
 
-at-requires-2 : tie.Need-at-requires-2
-at-requires-2 c κs = search needs
-
 sub-at : tie.Need-sub-at
-sub-at c = let p = place-before _ _ _ _ (c .before .before .before .before .pre) (c .before .before .at .ensures) (c .before .if1 .left) (c .at2 .ensures) in omega arith
+sub-at c =
+    let longer = c .before .before in
+    let start = longer .before .before in
+    let p = place-before _ _ _ _ (start .pre) (longer .at .ensures) (c .before .if1 .left) (c .at2 .ensures) in
+    omega arith
 
 at-requires-3 : tie.Need-at-requires-3
-at-requires-3 c κs = place-before _ _ _ _ (c .before .before .before .before .pre) (c .before .before .at .ensures) (c .before .if1 .left) (c .at2 .ensures) .1
+at-requires-3 c κs =
+    let longer = c .before .before in
+    let start = longer .before .before in
+    place-before _ _ _ _ (start .pre) (longer .at .ensures) (c .before .if1 .left) (c .at2 .ensures) .1
 
 returns-2 : tie.Need-returns-2
 returns-2 c = search parent-got
 
 pub parent-spec : {M : Type 1} → statement M
-parent-spec = tie.close (tie.spec at-requires returns at-requires-2 sub-at at-requires-3 returns-2)
+parent-spec = tie.close (tie.spec (λ c κs. search needs) returns (λ c κs. search needs) sub-at at-requires-3 returns-2)

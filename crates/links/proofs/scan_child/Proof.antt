@@ -1,3 +1,5 @@
+-- Invariant: no child of node v before u has the letter c, so the child by c, if there is one, is u or a later node; v's children are the nodes from
+-- KID v up to `end`.
 use Prim.Native.Nat.{_-_}
 use Rattle.links.proofs.Children.{Scanning, scan-start, scan-lettered, scan-hit, scan-past, scan-more, scan-none}
 use borrow.Author.Needs.{needs}
@@ -9,15 +11,6 @@ Inv-loop letters ends work n count v c end u₀ u = Scanning letters ends n coun
 
 abbrev μ-loop : tie.MeasureT-loop
 μ-loop letters ends work n count v c end u₀ u = end - u
-
-add-at : tie.Need-add-at Inv-loop μ-loop
-add-at c = search needs
-
-at-requires : tie.Need-at-requires Inv-loop μ-loop
-at-requires c κs = search needs
-
-at-requires-2 : tie.Need-at-requires-2 Inv-loop μ-loop
-at-requires-2 c κs = search needs
 
 loop-holds : tie.Need-loop-holds Inv-loop μ-loop
 loop-holds c = search scan-start
@@ -31,12 +24,6 @@ returns c = search scan-hit
 returns-2 : tie.Need-returns-2 Inv-loop μ-loop
 returns-2 c = search scan-past
 
-add-u : tie.Need-add-u Inv-loop μ-loop
-add-u c = search needs
-
-loop-less : tie.Need-loop-less Inv-loop μ-loop
-loop-less c = search needs
-
 loop-again : tie.Need-loop-again Inv-loop μ-loop
 loop-again c = search scan-more
 
@@ -44,19 +31,5 @@ returns-3 : tie.Need-returns-3 Inv-loop μ-loop
 returns-3 c = search scan-none
 
 pub scan-child-spec : {M : Type 1} → statement M
-scan-child-spec =
-    tie.close
-    (tie.spec
-    Inv-loop
-    μ-loop
-    add-at
-    at-requires
-    at-requires-2
-    loop-holds
-    letter-requires
-    returns
-    returns-2
-    add-u
-    loop-less
-    loop-again
-    returns-3)
+scan-child-spec = tie.close (tie.spec Inv-loop μ-loop (λ c. search needs) (λ c κs. search needs) (λ c κs. search needs) loop-holds
+    letter-requires returns returns-2 (λ c. search needs) (λ c. search needs) loop-again returns-3)

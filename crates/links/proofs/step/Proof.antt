@@ -1,3 +1,5 @@
+-- Invariant: the step from node v by the letter c is the step from `state` with `drops` drops made before it; each drop, along a failure link, led to
+-- a lower node.
 use Rattle.links.proofs.Steps.{Dropping, dropping-start, dropping-looks, dropping-extends, dropping-ends, dropping-falls, dropping-more}
 use borrow.Author.Needs.{needs}
 use Rattle.links.proofs.step.Statement.{statement}
@@ -21,12 +23,6 @@ returns c = search dropping-extends
 returns-2 : tie.Need-returns-2 Inv-loop μ-loop
 returns-2 c = search dropping-ends
 
-at-requires : tie.Need-at-requires Inv-loop μ-loop
-at-requires c κs = search needs
-
-add-drops : tie.Need-add-drops Inv-loop μ-loop
-add-drops c = search needs
-
 loop-less : tie.Need-loop-less Inv-loop μ-loop
 loop-less c = search dropping-falls
 
@@ -34,16 +30,5 @@ loop-again : tie.Need-loop-again Inv-loop μ-loop
 loop-again c = search dropping-more
 
 pub step-spec : {M : Type 1} → statement M
-step-spec =
-    tie.close
-    (tie.spec
-    Inv-loop
-    μ-loop
-    loop-holds
-    child-requires
-    returns
-    returns-2
-    at-requires
-    add-drops
-    loop-less
-    loop-again)
+step-spec = tie.close (tie.spec Inv-loop μ-loop loop-holds child-requires returns returns-2 (λ c κs. search needs) (λ c. search needs)
+    loop-less loop-again)

@@ -1,3 +1,5 @@
+-- Invariant: the nodes of 1 to c letters, and those of c + 1 letters that the first r members in order begin with, have their numbers, k in all:
+-- LEVEL, AT and OWN say which, and no other cell has changed.
 use native.Mathlib.Omega.{arith}
 use borrow.Author.Needs.{needs}
 use Prim.Native.Nat.{_≤_, _-_}
@@ -13,31 +15,19 @@ Inv-loop letters ends work₀ n c count k₀ r₀ work k r = (r ≤ n) × Staged
 abbrev μ-loop : tie.MeasureT-loop
 μ-loop letters ends work₀ n c count k₀ r₀ work k r = n - r
 
-loop-holds : tie.Need-loop-holds Inv-loop μ-loop
-loop-holds c = search needs
-
-at-requires : tie.Need-at-requires Inv-loop μ-loop
-at-requires c κs = search needs
-
 slip-span-requires : tie.Need-slip-span-requires Inv-loop μ-loop
 slip-span-requires c κs =
-    let l = c .before .before in
-    level-slip (l .before .loop .inv .1) (l .loop-test .taken) (c .at .result) (c .at .ensures)
+    let turn = c .before .before in
+    level-slip (turn .before .loop .inv .1) (turn .loop-test .taken) (c .at .result) (c .at .ensures)
 
 add-place : tie.Need-add-place Inv-loop μ-loop
 add-place c =
-    let f = c .before in
-    let l = f .before .before .before .before .loop .inv .1 in
-    omega (arith, level-start l (search needs) (f .before .at .result) (search needs) (f .slip-span .result) (search needs))
+    let spanned = c .before in
+    let head = spanned .before .before .before .before in
+    omega (arith, level-start (head .loop .inv .1) (search needs) (spanned .before .at .result) (search needs) (spanned .slip-span .result) (search needs))
 
 number-letter-requires : tie.Need-number-letter-requires Inv-loop μ-loop
 number-letter-requires c κs = search level-letterable
-
-add-r : tie.Need-add-r Inv-loop μ-loop
-add-r c = search needs
-
-loop-less : tie.Need-loop-less Inv-loop μ-loop
-loop-less c = search needs
 
 loop-again : tie.Need-loop-again Inv-loop μ-loop
 loop-again c = (
@@ -45,37 +35,16 @@ loop-again c = (
   ⊎-elim (λ x. search level-letter) (λ x. search level-short) (c .if1 .came),
 )
 
-add-put : tie.Need-add-put Inv-loop μ-loop
-add-put c = search needs
-
 add-put-2 : tie.Need-add-put-2 Inv-loop μ-loop
 add-put-2 c = omega (arith, level-few (c .before .before .loop .inv .1) (search needs) (search needs))
 
 put-requires : tie.Need-put-requires Inv-loop μ-loop
 put-requires c κs = search level-room
 
-same-length : tie.Need-same-length Inv-loop μ-loop
-same-length c = search needs
-
 returns : tie.Need-returns Inv-loop μ-loop
 returns c = search level-done
 
 pub number-level-spec : {M : Type 1} → statement M
-number-level-spec =
-    tie.close
-    (tie.spec
-    Inv-loop
-    μ-loop
-    loop-holds
-    at-requires
-    slip-span-requires
-    add-place
-    number-letter-requires
-    add-r
-    loop-less
-    loop-again
-    add-put
-    add-put-2
-    put-requires
-    same-length
+number-level-spec = tie.close (tie.spec Inv-loop μ-loop (λ c. search needs) (λ c κs. search needs) slip-span-requires add-place
+    number-letter-requires (λ c. search needs) (λ c. search needs) loop-again (λ c. search needs) add-put-2 put-requires (λ c. search needs)
     returns)

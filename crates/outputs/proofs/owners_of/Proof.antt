@@ -1,3 +1,4 @@
+-- Invariant: k of the members that have all letters of node v are counted, and the others are those that TWIN links from member i on.
 use Prim.Native.Nat.{_-_}
 use Rattle.outputs.proofs.OwnersLoop.{Counting, owners-head, counting-start, counting-room, counting-less, counting-more, counting-all}
 use borrow.Author.Needs.{needs}
@@ -19,9 +20,6 @@ loop-holds c = search counting-start
 at-requires-2 : tie.Need-at-requires-2 Inv-loop μ-loop
 at-requires-2 c κs = search counting-room
 
-add-k : tie.Need-add-k Inv-loop μ-loop
-add-k c = search needs
-
 loop-less : tie.Need-loop-less Inv-loop μ-loop
 loop-less c = search counting-less
 
@@ -32,15 +30,4 @@ returns : tie.Need-returns Inv-loop μ-loop
 returns c = search counting-all
 
 pub owners-of-spec : {M : Type 1} → statement M
-owners-of-spec =
-    tie.close
-    (tie.spec
-    Inv-loop
-    μ-loop
-    at-requires
-    loop-holds
-    at-requires-2
-    add-k
-    loop-less
-    loop-again
-    returns)
+owners-of-spec = tie.close (tie.spec Inv-loop μ-loop at-requires loop-holds at-requires-2 (λ c. search needs) loop-less loop-again returns)

@@ -3,12 +3,6 @@ use borrow.Author.Needs.{needs}
 use Rattle.outputs.proofs.tally.Statement.{statement}
 use Rattle.outputs.proofs.tally.Tie as tie
 
-owners-of-requires : tie.Need-owners-of-requires
-owners-of-requires c κs = search needs
-
-at-requires : tie.Need-at-requires
-at-requires c κs = search needs
-
 at-requires-2 : tie.Need-at-requires-2
 at-requires-2 c κs = search telling-tally
 
@@ -19,4 +13,4 @@ returns : tie.Need-returns
 returns c = search telling-tallied
 
 pub tally-spec : {M : Type 1} → statement M
-tally-spec = tie.close (tie.spec owners-of-requires at-requires at-requires-2 add-result returns)
+tally-spec = tie.close (tie.spec (λ c κs. search needs) (λ c κs. search needs) at-requires-2 add-result returns)

@@ -2,17 +2,9 @@ use Rattle.printing.proofs.Trims.{trim-empty, trim-ended, trim-open}
 use borrow.Author.Needs.{needs}
 use Rattle.printing.proofs.text_length.Statement.{statement}
 use Rattle.printing.proofs.text_length.Tie as tie
-use Rattle.printing.proofs.text_length.Reads as reads
-use Rattle.printing.proofs.text_length.Lts as lts
 
 returns : tie.Need-returns
 returns c = trim-empty _ (c .if1 .taken)
-
-sub-last : tie.Need-sub-last
-sub-last c = search needs
-
-shared-slice-read-if2 : tie.Need-shared-slice-read-if2
-shared-slice-read-if2 c = search needs
 
 returns-2 : tie.Need-returns-2
 returns-2 c = trim-ended _ (c .before .before .if1 .left) (c .if2 .taken)
@@ -21,4 +13,4 @@ returns-3 : tie.Need-returns-3
 returns-3 c = trim-open _ (c .before .before .if1 .left) (c .if2 .left)
 
 pub text-length-spec : {M : Type 1} → statement M
-text-length-spec = tie.close (tie.spec returns sub-last shared-slice-read-if2 returns-2 returns-3)
+text-length-spec = tie.close (tie.spec returns (λ c. search needs) (λ c. search needs) returns-2 returns-3)

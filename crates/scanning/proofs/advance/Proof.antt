@@ -1,7 +1,8 @@
+-- Invariant: the scan y has reported as many occurrences as x, not yet all, and those that are left are what it has to report at its place and what
+-- the rest of the text brings.
 use Prim.Native.Nat.{_-_}
 use lib.ListN.{length}
 use Rattle.scanning.proofs.Scans.{Reaching, reaching-start, reaching-unread, reaching-less, reaching-more, reaching-all}
-use borrow.Author.Needs.{needs}
 use Rattle.scanning.proofs.advance.Statement.{statement}
 use Rattle.scanning.proofs.advance.Tie as tie
 

@@ -1,6 +1,9 @@
+-- Invariant: `state` is the node of the longest suffix of the first `read` letters that is a node; `moves` and `found`, with what the rest of the
+-- text makes from there, are the moves and occurrences of the text.
 use Prim.Native.Nat.{_-_}
 use lib.ListN.{length}
-use Rattle.scanning.proofs.CountLoop.{Counting, counting-start, counting-steps, counting-drop, counting-moves, counting-tally, counting-found, counting-more, counting-all}
+use Rattle.scanning.proofs.CountLoop.{Counting, counting-start, counting-steps, counting-drop, counting-moves}
+use Rattle.scanning.proofs.CountLoop.{counting-tally, counting-found, counting-more, counting-all}
 use borrow.Author.Needs.{needs}
 use Rattle.scanning.proofs.count_text.Statement.{statement}
 use Rattle.scanning.proofs.count_text.Tie as tie
@@ -13,9 +16,6 @@ abbrev μ-loop : tie.MeasureT-loop
 
 loop-holds : tie.Need-loop-holds Inv-loop μ-loop
 loop-holds c = search counting-start
-
-shared-slice-read-step : tie.Need-shared-slice-read-step Inv-loop μ-loop
-shared-slice-read-step c = search needs
 
 step-requires : tie.Need-step-requires Inv-loop μ-loop
 step-requires c κs = search counting-steps
@@ -32,12 +32,6 @@ at-requires c κs = search counting-tally
 add-found : tie.Need-add-found Inv-loop μ-loop
 add-found c = search counting-found
 
-add-read : tie.Need-add-read Inv-loop μ-loop
-add-read c = search needs
-
-loop-less : tie.Need-loop-less Inv-loop μ-loop
-loop-less c = search needs
-
 loop-again : tie.Need-loop-again Inv-loop μ-loop
 loop-again c = search counting-more
 
@@ -45,19 +39,5 @@ returns : tie.Need-returns Inv-loop μ-loop
 returns c = search counting-all
 
 pub count-text-spec : {M : Type 1} → statement M
-count-text-spec =
-    tie.close
-    (tie.spec
-    Inv-loop
-    μ-loop
-    loop-holds
-    shared-slice-read-step
-    step-requires
-    add-moves
-    add-moves-2
-    at-requires
-    add-found
-    add-read
-    loop-less
-    loop-again
-    returns)
+count-text-spec = tie.close (tie.spec Inv-loop μ-loop loop-holds (λ c. search needs) step-requires add-moves add-moves-2 at-requires
+    add-found (λ c. search needs) (λ c. search needs) loop-again returns)

@@ -3,41 +3,17 @@ use borrow.Author.Needs.{needs}
 use Rattle.scanning.proofs.keep.Statement.{statement}
 use Rattle.scanning.proofs.keep.Tie as tie
 
-put-requires : tie.Need-put-requires
-put-requires c κs = search needs
-
-put-requires-2 : tie.Need-put-requires-2
-put-requires-2 c κs = search needs
-
-put-requires-3 : tie.Need-put-requires-3
-put-requires-3 c κs = search needs
-
-put-requires-4 : tie.Need-put-requires-4
-put-requires-4 c κs = search needs
-
-put-requires-5 : tie.Need-put-requires-5
-put-requires-5 c κs = search needs
-
-same-length : tie.Need-same-length
-same-length c = search needs
-
 returns : tie.Need-returns
 returns c =
-    let p₅ = c .before .before in
-    let p₄ = p₅ .before .before .before .before in
-    let p₃ = p₄ .before .before .before .before in
-    let p₂ = p₃ .before .before .before .before in
-    let p₁ = p₂ .before .before .before .before .before in
-    scan-kept (p₁ .before .before .before .before .pre) (p₁ .put .ensures) (p₂ .put2 .ensures) (p₃ .put3 .ensures) (p₄ .put4 .ensures) (p₅ .put5 .ensures)
+    let slip-put = c .before .before in
+    let node-put = slip-put .before .before .before .before in
+    let state-put = node-put .before .before .before .before in
+    let lower-put = state-put .before .before .before .before in
+    let upper-put = lower-put .before .before .before .before .before in
+    let start = upper-put .before .before .before .before in
+    scan-kept (start .pre) (upper-put .put .ensures) (lower-put .put2 .ensures) (state-put .put3 .ensures) (node-put .put4 .ensures)
+    (slip-put .put5 .ensures)
 
 pub keep-spec : {M : Type 1} → statement M
-keep-spec =
-    tie.close
-    (tie.spec
-    put-requires
-    put-requires-2
-    put-requires-3
-    put-requires-4
-    put-requires-5
-    same-length
-    returns)
+keep-spec = tie.close (tie.spec (λ c κs. search needs) (λ c κs. search needs) (λ c κs. search needs) (λ c κs. search needs)
+    (λ c κs. search needs) (λ c. search needs) returns)

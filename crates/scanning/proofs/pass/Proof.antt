@@ -1,5 +1,4 @@
 use Rattle.scanning.proofs.Scans.{reportable-room, reportable-fits, reportable-node, reportable-num, reportable-twin, reportable-behind}
-use borrow.Author.Needs.{needs}
 use Rattle.scanning.proofs.pass.Statement.{statement}
 use Rattle.scanning.proofs.pass.Tie as tie
 

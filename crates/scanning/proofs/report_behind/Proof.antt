@@ -3,9 +3,6 @@ use borrow.Author.Needs.{needs}
 use Rattle.scanning.proofs.report_behind.Statement.{statement}
 use Rattle.scanning.proofs.report_behind.Tie as tie
 
-at-requires : tie.Need-at-requires
-at-requires c κs = search needs
-
 returns : tie.Need-returns
 returns c = search behind-root
 
@@ -16,4 +13,4 @@ returns-2 : tie.Need-returns-2
 returns-2 c = search behind-node
 
 pub report-behind-spec : {M : Type 1} → statement M
-report-behind-spec = tie.close (tie.spec at-requires returns at-requires-2 returns-2)
+report-behind-spec = tie.close (tie.spec (λ c κs. search needs) returns at-requires-2 returns-2)

@@ -1,3 +1,4 @@
+-- Invariant: the lines of the first i occurrences stand in `out` from `at` up to `next`, and the rest of `out` is as it was.
 use Prim.Native.Nat.{_-_, _*_, _≤_}
 use Rattle.sheets.specs.Sheets.{foundSize, lines, foundLineAt}
 use Rattle.sheets.specs.Printing.{Put}
@@ -17,50 +18,15 @@ abbrev μ-loop : tie.MeasureT-loop
 loop-holds : tie.Need-loop-holds Inv-loop μ-loop
 loop-holds c = (search needs, put-none _ _ (omega arith))
 
-mul-k : tie.Need-mul-k Inv-loop μ-loop
-mul-k c = search needs
-
-large-requires : tie.Need-large-requires Inv-loop μ-loop
-large-requires c κs = search needs
-
-add-large : tie.Need-add-large Inv-loop μ-loop
-add-large c = search needs
-
-large-requires-2 : tie.Need-large-requires-2 Inv-loop μ-loop
-large-requires-2 c κs = search needs
-
 found-line-requires : tie.Need-found-line-requires Inv-loop μ-loop
 found-line-requires c κs = (search found-place, search found-slip, search needs)
 
-add-i : tie.Need-add-i Inv-loop μ-loop
-add-i c = search needs
-
-loop-less : tie.Need-loop-less Inv-loop μ-loop
-loop-less c = search needs
-
 loop-again : tie.Need-loop-again Inv-loop μ-loop
 loop-again c = (search needs, search found-turn)
-
-same-length : tie.Need-same-length Inv-loop μ-loop
-same-length c = search needs
 
 returns : tie.Need-returns Inv-loop μ-loop
 returns c = search founds-end
 
 pub found-lines-spec : {M : Type 1} → statement M
-found-lines-spec =
-    tie.close
-    (tie.spec
-    Inv-loop
-    μ-loop
-    loop-holds
-    mul-k
-    large-requires
-    add-large
-    large-requires-2
-    found-line-requires
-    add-i
-    loop-less
-    loop-again
-    same-length
-    returns)
+found-lines-spec = tie.close (tie.spec Inv-loop μ-loop loop-holds (λ c. search needs) (λ c κs. search needs) (λ c. search needs)
+    (λ c κs. search needs) found-line-requires (λ c. search needs) (λ c. search needs) loop-again (λ c. search needs) returns)

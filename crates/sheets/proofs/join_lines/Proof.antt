@@ -1,3 +1,4 @@
+-- Invariant: the lines of the first i joins stand in `out` from `at` up to `next`, and the rest of `out` is as it was.
 use Prim.Native.Nat.{_-_, _*_, _≤_}
 use Rattle.sheets.specs.Sheets.{joinSize, lines, joinLineAt}
 use Rattle.sheets.specs.Printing.{Put}
@@ -17,64 +18,27 @@ abbrev μ-loop : tie.MeasureT-loop
 loop-holds : tie.Need-loop-holds Inv-loop μ-loop
 loop-holds c = (search needs, put-none _ _ (omega arith))
 
-mul-k : tie.Need-mul-k Inv-loop μ-loop
-mul-k c = search needs
-
-small-requires : tie.Need-small-requires Inv-loop μ-loop
-small-requires c κs = search needs
-
-add-small : tie.Need-add-small Inv-loop μ-loop
-add-small c = search needs
-
-small-requires-2 : tie.Need-small-requires-2 Inv-loop μ-loop
-small-requires-2 c κs = search needs
-
-add-small-2 : tie.Need-add-small-2 Inv-loop μ-loop
-add-small-2 c = search needs
-
-small-requires-3 : tie.Need-small-requires-3 Inv-loop μ-loop
-small-requires-3 c κs = search needs
-
 three-line-requires : tie.Need-three-line-requires Inv-loop μ-loop
 three-line-requires c κs = (search needs, search join-left, search join-right, search join-shared, search needs)
 
-add-i : tie.Need-add-i Inv-loop μ-loop
-add-i c = search needs
-
-loop-less : tie.Need-loop-less Inv-loop μ-loop
-loop-less c = search needs
-
 loop-again : tie.Need-loop-again Inv-loop μ-loop
 loop-again c =
-    let t = c .before .before in
-    let s = t .before .before in
-    let b = s .before .before .before .before in
-    let l = b .loop in
-    let a = b .before .before .before .args in
-    (search needs, join-turn (a .joins .now) (l .i) _ _ _ _ _ _ _ _ _ (s .before .before .small .ensures) (s .before .small2 .ensures) (s .small3 .ensures) (l .inv .1) (t .three-line .ensures))
-
-same-length : tie.Need-same-length Inv-loop μ-loop
-same-length c = search needs
+    let printed = c .before .before in
+    let shared-read = printed .before .before in
+    let right-read = shared-read .before in
+    let left-read = right-read .before in
+    let head = left-read .before .before in
+    let l = head .loop in
+    let start = head .before .before .before in (
+      search needs,
+      join-turn (start .args .joins .now) (l .i) _ _ _ _ _ _ _ _ _ (left-read .small .ensures) (right-read .small2 .ensures) (shared-read .small3 .ensures)
+          (l .inv .1) (printed .three-line .ensures),
+    )
 
 returns : tie.Need-returns Inv-loop μ-loop
 returns c = search joins-end
 
 pub join-lines-spec : {M : Type 1} → statement M
-join-lines-spec =
-    tie.close
-    (tie.spec
-    Inv-loop
-    μ-loop
-    loop-holds
-    mul-k
-    small-requires
-    add-small
-    small-requires-2
-    add-small-2
-    small-requires-3
-    three-line-requires
-    add-i
-    loop-less
-    loop-again
-    same-length
-    returns)
+join-lines-spec = tie.close (tie.spec Inv-loop μ-loop loop-holds (λ c. search needs) (λ c κs. search needs) (λ c. search needs)
+    (λ c κs. search needs) (λ c. search needs) (λ c κs. search needs) three-line-requires (λ c. search needs) (λ c. search needs) loop-again
+    (λ c. search needs) returns)

@@ -1,3 +1,4 @@
+-- Invariant: i blanks stand in `out` from `at` up to `next`, and the rest of `out` is as it was.
 use Prim.Native.Nat.{_-_, _≤_}
 use lib.ListN.{replicate}
 use Rattle.files.specs.Lines.{blank}
@@ -16,34 +17,12 @@ abbrev μ-loop : tie.MeasureT-loop
 loop-holds : tie.Need-loop-holds Inv-loop μ-loop
 loop-holds c = (search needs, search blanks-start)
 
-put-byte-requires : tie.Need-put-byte-requires Inv-loop μ-loop
-put-byte-requires c κs = search needs
-
-add-i : tie.Need-add-i Inv-loop μ-loop
-add-i c = search needs
-
-loop-less : tie.Need-loop-less Inv-loop μ-loop
-loop-less c = search needs
-
 loop-again : tie.Need-loop-again Inv-loop μ-loop
 loop-again c = (search needs, search blanks-turn)
-
-same-length : tie.Need-same-length Inv-loop μ-loop
-same-length c = search needs
 
 returns : tie.Need-returns Inv-loop μ-loop
 returns c = search blanks-end
 
 pub put-blanks-spec : {M : Type 1} → statement M
-put-blanks-spec =
-    tie.close
-    (tie.spec
-    Inv-loop
-    μ-loop
-    loop-holds
-    put-byte-requires
-    add-i
-    loop-less
-    loop-again
-    same-length
-    returns)
+put-blanks-spec = tie.close (tie.spec Inv-loop μ-loop loop-holds (λ c κs. search needs) (λ c. search needs) (λ c. search needs) loop-again
+    (λ c. search needs) returns)

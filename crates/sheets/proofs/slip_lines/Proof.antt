@@ -1,3 +1,5 @@
+-- Invariant: the lines of the first i slips stand in `out` from `at` up to `next`, the rest of `out` is as it was, and `here` is where the first i
+-- slips end.
 use Prim.Native.Nat.{_-_, _*_, _≤_}
 use mathlib.Core.Path.{_≡_, refl}
 use lib.ListN.{length}
@@ -21,69 +23,32 @@ abbrev μ-loop : tie.MeasureT-loop
 loop-holds : tie.Need-loop-holds Inv-loop μ-loop
 loop-holds c = (search needs, refl, put-none _ _ (omega arith))
 
-small-requires : tie.Need-small-requires Inv-loop μ-loop
-small-requires c κs = search needs
-
-mul-k : tie.Need-mul-k Inv-loop μ-loop
-mul-k c = search needs
-
-small-requires-2 : tie.Need-small-requires-2 Inv-loop μ-loop
-small-requires-2 c κs = search needs
-
-add-small : tie.Need-add-small Inv-loop μ-loop
-add-small c = search needs
-
-small-requires-3 : tie.Need-small-requires-3 Inv-loop μ-loop
-small-requires-3 c κs = search needs
-
-add-slip-line : tie.Need-add-slip-line Inv-loop μ-loop
-add-slip-line c = search needs
-
 sub-slip-line : tie.Need-sub-slip-line Inv-loop μ-loop
 sub-slip-line c = search slip-rises
 
 slip-line-requires : tie.Need-slip-line-requires Inv-loop μ-loop
 slip-line-requires c κs = (search needs, search slip-small, search slip-placed, search needs)
 
-add-i : tie.Need-add-i Inv-loop μ-loop
-add-i c = search needs
-
-loop-less : tie.Need-loop-less Inv-loop μ-loop
-loop-less c = search needs
-
 loop-again : tie.Need-loop-again Inv-loop μ-loop
 loop-again c =
-    let t = c .before .before in
-    let s = t .before .before in
-    let b = s .before .before .before .before in
-    let l = b .loop in
-    let a = b .before .before .before .before .args in
-    let end = s .before .before .small .ensures in
-    (search needs, here-turn _ (l .i) _ end, slip-turn (a .ends .now) (a .places .now) (l .i) _ _ _ _ _ _ _ _ _ _ (l .inv .1) end (s .before .small2 .ensures) (s .small3 .ensures) (l .inv .2) (t .slip-line .ensures))
-
-same-length : tie.Need-same-length Inv-loop μ-loop
-same-length c = search needs
+    let printed = c .before .before in
+    let mark-read = printed .before .before in
+    let place-read = mark-read .before in
+    let end-read = place-read .before in
+    let head = end-read .before .before in
+    let l = head .loop in
+    let start = head .before .before .before .before in
+    let end = end-read .small .ensures in (
+      search needs,
+      here-turn _ (l .i) _ end,
+      slip-turn (start .args .ends .now) (start .args .places .now) (l .i) _ _ _ _ _ _ _ _ _ _ (l .inv .1) end
+          (place-read .small2 .ensures) (mark-read .small3 .ensures) (l .inv .2) (printed .slip-line .ensures),
+    )
 
 returns : tie.Need-returns Inv-loop μ-loop
 returns c = search slips-end
 
 pub slip-lines-spec : {M : Type 1} → statement M
-slip-lines-spec =
-    tie.close
-    (tie.spec
-    Inv-loop
-    μ-loop
-    loop-holds
-    small-requires
-    mul-k
-    small-requires-2
-    add-small
-    small-requires-3
-    add-slip-line
-    sub-slip-line
-    slip-line-requires
-    add-i
-    loop-less
-    loop-again
-    same-length
-    returns)
+slip-lines-spec = tie.close (tie.spec Inv-loop μ-loop loop-holds (λ c κs. search needs) (λ c. search needs) (λ c κs. search needs)
+    (λ c. search needs) (λ c κs. search needs) (λ c. search needs) sub-slip-line slip-line-requires (λ c. search needs) (λ c. search needs)
+    loop-again (λ c. search needs) returns)

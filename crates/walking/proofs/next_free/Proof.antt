@@ -1,14 +1,10 @@
+-- Invariant: every slip of the list from `from` up to l has a right neighbour, so the slips without one are those from l on.
 use lib.ListN.{length}
 use Rattle.walking.specs.Runs.{endersFrom}
 use Rattle.walking.proofs.FreeLoop.{Searching, free-start, free-real, free-within, free-found, free-turn, free-less, free-none}
-use native.Mathlib.Omega.{arith}
 use borrow.Author.Needs.{needs}
 use Rattle.walking.proofs.next_free.Statement.{statement}
 use Rattle.walking.proofs.next_free.Tie as tie
-use Rattle.walking.proofs.next_free.Reads as reads
-use Rattle.walking.proofs.next_free.Lts as lts
-use Rattle.walking.proofs.mark_of.Reads as mark-of-reads
-use Rattle.walking.proofs.next_ender.Reads as next-ender-reads
 
 abbrev Inv-loop : tie.InvT-loop
 Inv-loop work ends right d from l₀ l = Searching ends work d right from l
@@ -16,31 +12,27 @@ Inv-loop work ends right d from l₀ l = Searching ends work d right from l
 abbrev μ-loop : tie.MeasureT-loop
 μ-loop work ends right d from l₀ l = length (endersFrom work ends d l)
 
--- src/lib.rt:71:5
 loop-holds : tie.Need-loop-holds Inv-loop μ-loop
 loop-holds c = search free-start
 
--- src/lib.rt:72:13
 mark-of-requires : tie.Need-mark-of-requires Inv-loop μ-loop
 mark-of-requires c κs = (search needs, search free-within)
 
--- src/lib.rt:74:13
 returns : tie.Need-returns Inv-loop μ-loop
 returns c = search free-found
 
--- src/lib.rt:76:9
 next-ender-requires : tie.Need-next-ender-requires Inv-loop μ-loop
 next-ender-requires c κs = (search needs, search free-real)
 
--- src/lib.rt:71:5
 loop-less : tie.Need-loop-less Inv-loop μ-loop
 loop-less c = search free-less
 
--- src/lib.rt:71:5
 loop-again : tie.Need-loop-again Inv-loop μ-loop
-loop-again c = free-turn (c .before .before .before .before .loop .inv) (search needs) (c .before .before .mark-of .ensures) (search needs) (c .next-ender .ensures)
+loop-again c =
+    let marked = c .before .before in
+    let head = marked .before .before in
+    free-turn (head .loop .inv) (search needs) (marked .mark-of .ensures) (search needs) (c .next-ender .ensures)
 
--- src/lib.rt:66:1
 returns-2 : tie.Need-returns-2 Inv-loop μ-loop
 returns-2 c = search free-none
 
