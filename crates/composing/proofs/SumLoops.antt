@@ -8,7 +8,7 @@ use lib.ListN.{length, getD, take}
 use lib.Seq.{take-suc}
 use Rattle.trays.specs.Slips.{slipsOf, slip, total}
 use Rattle.trays.specs.Faults.{trayFault}
-use Rattle.trays.proofs.Requests.{slip-small}
+use Rattle.spans.proofs.Stretches.{slip-small}
 use Rattle.composing.specs.Steps.{thirds, KeptReal}
 
 total-more : (ss : List (List ℕ)) (K : List ℕ) (i : ℕ) → total ss (K ++ (i ∷ [])) ≡ total ss K + length (slip ss i)

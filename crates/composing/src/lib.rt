@@ -42,7 +42,7 @@ fn kept_letters(letters: &[u8], ends: &[u16], kept: &[u16], k: usize) -> usize
     let mut i: usize = 0;
     while i < k {
         let slip = tables::wide(kept[i]);
-        let part = trays::slip_part(letters, ends, slip);
+        let part = spans::slip_part(letters, ends, slip);
         sum += part.len();
         i += 1;
     }
@@ -264,7 +264,7 @@ pub fn compose_staged(
     ensures { λ r. ⌜ Staged (now (letters .entry)) (now (ends .entry)) (now (work .entry)) (now (work .exit))
         (now (legend .entry)) (now (legend .exit)) «joins_room» «places_room» r ⌝ }
 {
-    let tray = trays::check_tray(letters, ends);
+    let tray = checking::check_tray(letters, ends);
     if tray.number != 0 {
         return refused(tray.number, tray.detail);
     }

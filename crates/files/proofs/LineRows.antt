@@ -11,7 +11,7 @@ use native.Mathlib.Omega.{arith}
 use lib.Dec.{eqb}
 use lib.ListN.{length, getD, take, drop, length-take, length-drop, length-map, drop-of-length-le}
 use Rattle.words.specs.Lists.{lastOr}
-use Rattle.trays.proofs.CheckLoops.{last-some}
+use Rattle.checking.proofs.CheckLoops.{last-some}
 use Rattle.files.specs.Lines.{lf, blank, field, firstLine, letters, isLaidOut}
 use Rattle.files.specs.Faults.{lineFault}
 use Rattle.files.specs.declared.Line.{Line}

@@ -39,7 +39,7 @@ pub struct Begun {
 fn check_find(letters: &[u8], ends: &[u16], text: &[u8], cells: usize) -> Refusal
     ensures { λ r. ⌜ r ≡ F.findBefore (now (letters .entry)) (now (ends .entry)) (now (text .entry)) cells ⌝ }
 {
-    let tray = trays::check_tray(letters, ends);
+    let tray = checking::check_tray(letters, ends);
     if tray.number != 0 {
         return tray;
     }
@@ -49,7 +49,7 @@ fn check_find(letters: &[u8], ends: &[u16], text: &[u8], cells: usize) -> Refusa
             detail: 0,
         };
     }
-    let bad = trays::first_bad(text);
+    let bad = checking::first_bad(text);
     if bad != 0 {
         return Refusal {
             number: 13,

@@ -121,7 +121,7 @@ fn lay_piece(letters: &[u8], ends: &[u16], pieces: &[u16], k: usize, legend: &mu
 {
     let slip = wide(pieces[2 * k]);
     let shared = wide(pieces[2 * k + 1]);
-    let part = trays::slip_part(letters, ends, slip);
+    let part = spans::slip_part(letters, ends, slip);
     let rest = &part[shared..];
     copy(rest, legend);
     rest.len()
@@ -190,7 +190,7 @@ fn put_place(
 {
     let slip = wide(pieces[2 * q]);
     let shared = wide(pieces[2 * q + 1]);
-    let part = trays::slip_part(letters, ends, slip);
+    let part = spans::slip_part(letters, ends, slip);
     put_two(places, 2 * (slip - 1), here - shared, 1);
     here + (part.len() - shared)
 }
@@ -218,7 +218,7 @@ fn aside_place(letters: &[u8], ends: &[u16], legend: &[u8], i: usize, places: &m
     if mark != 0 {
         return;
     }
-    let part = trays::slip_part(letters, ends, i + 1);
+    let part = spans::slip_part(letters, ends, i + 1);
     places[2 * i] = lowest_place(part, legend) as u16;
 }
 

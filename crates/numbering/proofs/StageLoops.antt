@@ -13,7 +13,7 @@ use lib.ListN.{length, getD}
 use Rattle.trays.specs.declared.Span.{Span}
 use Rattle.trays.specs.Limits.{maxSlip, maxLetters}
 use Rattle.trays.specs.Slips.{slip, slipsOf, startOf}
-use Rattle.trays.specs.Checks.{spanOf}
+use Rattle.trays.specs.Slips.{spanOf}
 use Rattle.tables.specs.Tables.{table, Got, Room, Put, Only}
 use Rattle.tables.proofs.Tables.{table-length, table-at, only-refl, only-trans, only-put, cells-below}
 use Rattle.matching.proofs.Ranks.{near}

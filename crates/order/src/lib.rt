@@ -77,7 +77,7 @@ fn member_below(letters: &[u8], ends: &[u16], member: usize, typed: &[u8], bound
     ensures { λ r. ⌜ r ≡ O.below bound (now (typed .entry)) (slip (slipsOf (now (letters .entry)) (now (ends .entry))) member) member ⌝ }
 {
     below(
-        trays::slip_part(letters, ends, member),
+        spans::slip_part(letters, ends, member),
         member,
         typed,
         bound,
@@ -124,7 +124,7 @@ fn insert_first(letters: &[u8], ends: &[u16], cells: &mut [u16])
     ensures { λ _. ⌜ now (cells .exit) ≡ insertFirst (O.precedes (slipsOf (now (letters .entry)) (now (ends .entry)))) (now (cells .entry)) ⌝ }
 {
     let member = tables::wide(cells[0]);
-    let typed = trays::slip_part(letters, ends, member);
+    let typed = spans::slip_part(letters, ends, member);
     let k = rank(letters, ends, &cells[1..], typed, Bound::Number(member));
     lay_behind(cells, k);
 }
@@ -159,8 +159,8 @@ fn common_at(letters: &[u8], ends: &[u16], order: &[u16], i: usize) -> usize
     if i == 0 {
         return 0;
     }
-    let before = trays::slip_part(letters, ends, tables::wide(order[i - 1]));
-    let here = trays::slip_part(letters, ends, tables::wide(order[i]));
+    let before = spans::slip_part(letters, ends, tables::wide(order[i - 1]));
+    let here = spans::slip_part(letters, ends, tables::wide(order[i]));
     words::common(before, here)
 }
 

@@ -23,7 +23,7 @@ use Rattle.words.proofs.Strings.{ends-length, ends-refl, endsProperly-ends}
 use Rattle.words.proofs.Members.{In, in-those}
 use Rattle.trays.specs.Limits.{maxSlip}
 use Rattle.trays.specs.Slips.{slipsOf, slip, endOf}
-use Rattle.trays.specs.Checks.{spanOf}
+use Rattle.trays.specs.Slips.{spanOf}
 use Rattle.trays.specs.declared.Span.{Span}
 use Rattle.tables.specs.Tables.{Got, Filled}
 use Rattle.tables.proofs.Tables.{filled-at, replicate-at}

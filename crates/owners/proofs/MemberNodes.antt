@@ -16,7 +16,7 @@ use Rattle.words.proofs.Picks.{getD-in}
 use Rattle.trays.specs.Limits.{maxSlips, maxLetters}
 use Rattle.trays.specs.Slips.{slipsOf, slip, startOf, endOf}
 use Rattle.trays.specs.Faults.{trayFault}
-use Rattle.trays.specs.Checks.{spanOf}
+use Rattle.trays.specs.Slips.{spanOf}
 use Rattle.trays.specs.declared.Span.{Span}
 use Rattle.trays.proofs.Accepted.{accepted-tells, span-rises, span-fits, span-slip}
 use Rattle.tables.specs.Tables.{Got}

@@ -21,7 +21,7 @@ use Rattle.words.proofs.Tests.{tell, both}
 use Rattle.words.proofs.Strings.{begins-take, begins-prefix, begins-length}
 use Rattle.words.proofs.Members.{In, in-those}
 use Rattle.trays.specs.Slips.{slipsOf, slip, startOf, endOf}
-use Rattle.trays.specs.Checks.{spanOf}
+use Rattle.trays.specs.Slips.{spanOf}
 use Rattle.trays.specs.declared.Span.{Span}
 use Rattle.tables.specs.Tables.{Got, Filled}
 use Rattle.tables.proofs.Tables.{filled-at, replicate-at}

@@ -25,7 +25,7 @@ fn node_of(letters: &[u8], ends: &[u16], work: &[u16], n: usize, count: usize, i
     ensures { λ r. ⌜ IsNode (patternsIn (now (letters .entry)) (now (ends .entry)) n (now (work .entry))) r
         (slip (slipsOf (now (letters .entry)) (now (ends .entry))) i) ⌝ }
 {
-    let span = trays::slip_span(ends, i);
+    let span = spans::slip_span(ends, i);
     let end = span.end;
     tables::at(work, layout::AT, end - 1)
 }
@@ -116,7 +116,7 @@ fn add_starts(
     ensures { λ _. ⌜ O.Started (now (letters .entry)) (now (ends .entry)) n k count (now (work .entry)) j (now (work .exit)) ⌝ }
 {
     let i = tables::at(work, layout::KEPT, j);
-    let span = trays::slip_span(ends, i);
+    let span = spans::slip_span(ends, i);
     let end = span.end;
     let mut p = span.start;
     while p < end {
@@ -154,7 +154,7 @@ fn add_ends(
     ensures { λ _. ⌜ O.Ended (now (letters .entry)) (now (ends .entry)) n k count (now (work .entry)) j (now (work .exit)) ⌝ }
 {
     let i = tables::at(work, layout::KEPT, j);
-    let span = trays::slip_span(ends, i);
+    let span = spans::slip_span(ends, i);
     let start = span.start;
     let end = span.end;
     let last = end - 1;

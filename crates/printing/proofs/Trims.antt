@@ -10,7 +10,7 @@ use native.Mathlib.Omega.{arith}
 use lib.ListN.{length, getD, take}
 use lib.Seq.{take-length, length-take-le}
 use Rattle.words.specs.Lists.{lastOr}
-use Rattle.trays.proofs.CheckLoops.{last-some}
+use Rattle.checking.proofs.CheckLoops.{last-some}
 use Rattle.files.specs.Lines.{lf}
 use Rattle.printing.specs.Lent.{Trimmed}
 

@@ -15,7 +15,7 @@ use Rattle.trays.specs.declared.Refusal.{Refusal}
 use Rattle.trays.specs.Limits.{maxSlips, maxLetters}
 use Rattle.trays.specs.Slips.{slipsFrom, slipsOf, slip, startOf, endOf}
 use Rattle.trays.specs.Faults.{row, firstRow, trayRows, trayFault, notAbove, tooLong, badSlip}
-use Rattle.trays.proofs.BadSlip.{above-rest}
+use Rattle.trays.proofs.Rising.{above-rest}
 use Rattle.trays.proofs.Rows.{both-silent, slip-zero}
 
 -- where no row speaks, each is silent

@@ -1,9 +1,7 @@
 -- Laws of trays.
 pub mod AllSpecimens
-pub mod CheckLoops
 pub mod Kept
-pub mod BadSlip
+pub mod Rising
 pub mod Rows
 pub mod Accepted
-pub mod Requests
 pub mod Specimens

@@ -1,5 +1,4 @@
--- Computed specimens of the definitions that AllSpecimens leaves: limits, signs, the slips of a tray, the order of the rows, what the
--- loops of the tray check compute. An edited definition computes another value.
+-- Computed specimens of the definitions that AllSpecimens leaves: limits, signs, the slips of a tray, the order of the rows. An edited definition computes another value.
 --   letters, bounds  == the letters and the ends of document 01's `compose` tray, whose slips are `slips`
 use mathlib.Core.Path.{_≡_, refl}
 use mathlib.Core.List.{List, [], _∷_, map}
@@ -8,11 +7,10 @@ use Rattle.words.specs.Lists.{those, upFrom}
 use Rattle.words.specs.Words.{overlapFor}
 use Rattle.words.specs.Quoted.{word}
 use Rattle.trays.specs.Limits.{maxSlips, maxSlip, maxLetters, maxText, workNeed, maxFile, endsNeed}
-use Rattle.trays.specs.Slips.{slipsOf, slip, numbers, isLetter, total}
+use Rattle.trays.specs.Slips.{slipsOf, slip, numbers, isLetter, spanOf, total}
 use Rattle.trays.specs.Aside.{counted}
-use Rattle.trays.specs.Faults.{refusal, written, badPlace, trayFault, slipFault, pairFault}
+use Rattle.trays.specs.Faults.{refusal, written, trayFault, slipFault, pairFault}
 use Rattle.trays.specs.Answers.{Stretch}
-use Rattle.trays.specs.Checks.{noteLong, endsFault, slipHolding, spanOf}
 
 limits :
     _≡_ {A = List ℕ}
@@ -85,16 +83,3 @@ buffers :
     map (λ f. written {A = ℕ} f (65 ∷ 66 ∷ []) (7 ∷ 8 ∷ 9 ∷ [])) (refusal 0 0 ∷ refusal 8 15 ∷ [])
     ≡ ((65 ∷ 66 ∷ 9 ∷ []) ∷ (7 ∷ 8 ∷ 9 ∷ []) ∷ [])
 buffers = refl
-
--- the first slip that is too long; the slip that holds a place; the first bad byte
-loops :
-    ((noteLong 0 2 40 80 ∷ noteLong 0 2 40 81 ∷ noteLong 1 2 40 81 ∷ [])
-    ∷ map (λ p. slipHolding 1 p (3 ∷ 5 ∷ [])) (1 ∷ 3 ∷ 4 ∷ 6 ∷ [])
-    ∷ map (badPlace 1) (word "AB" ∷ word "A--" ∷ [])
-    ∷ [])
-    ≡ ((0 ∷ 2 ∷ 1 ∷ []) ∷ (1 ∷ 1 ∷ 2 ∷ 0 ∷ []) ∷ (0 ∷ 2 ∷ []) ∷ [])
-loops = refl
-
--- rows 2 and 3
-end-rows : map endsFault ((40 ∷ 80 ∷ []) ∷ (41 ∷ 41 ∷ []) ∷ (41 ∷ 82 ∷ []) ∷ []) ≡ (refusal 0 0 ∷ refusal 2 2 ∷ refusal 3 1 ∷ [])
-end-rows = refl

@@ -4,4 +4,3 @@ pub mod Slips
 pub mod Aside
 pub mod Faults
 pub mod Answers
-pub mod Checks

@@ -5,6 +5,7 @@
 --   isLetter b     == b is one of the 27 signs
 --   startOf es i   == where slip i starts, the end before it
 --   endOf es i     == where slip i ends
+--   spanOf es i    == the two together
 --   total ss K     == the letters of the slips numbered in K, counted together
 use mathlib.Core.Bool.{Bool, _&&_, _||_}
 use mathlib.Core.List.{List, [], _∷_}
@@ -12,6 +13,7 @@ use Prim.Native.Nat.{ℕ, zero, suc, _+_, _-_}
 use lib.Dec.{eqb, leb}
 use lib.ListN.{length, getD, take, drop}
 use Rattle.words.specs.Lists.{upFrom}
+use Rattle.trays.specs.declared.Span.{Span}
 
 -- Document 01: slip 1 runs from the start to the first end, slip i from the end before it to its own.
 abbrev pub slipsFrom : ℕ → List ℕ → List ℕ → List (List ℕ)
@@ -39,6 +41,9 @@ endOf es (suc i) = getD es i 0
 abbrev pub startOf : List ℕ → ℕ → ℕ
 startOf es zero = 0
 startOf es (suc i) = endOf es i
+
+abbrev pub spanOf : List ℕ → ℕ → Span
+spanOf es i = record { start = startOf es i; end = endOf es i }
 
 abbrev pub total : List (List ℕ) → List ℕ → ℕ
 total ss [] = 0

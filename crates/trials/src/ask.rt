@@ -5,7 +5,7 @@ use crate::writing::put;
 use crate::writing::refusal;
 
 fn check(letters: &[u8], ends: &[u16]) {
-    let fault = trays::check_tray(letters, ends);
+    let fault = checking::check_tray(letters, ends);
     refusal(fault.number, fault.detail);
 }
 
@@ -13,13 +13,13 @@ fn check(letters: &[u8], ends: &[u16]) {
 fn slip(letters: &[u8], ends: &[u16], i: u32) {
     let mut number: u8 = 255;
     let mut detail: u32 = 255;
-    let part = trays::slip_letters(letters, ends, i, &mut number, &mut detail);
+    let part = asking::slip_letters(letters, ends, i, &mut number, &mut detail);
     refusal(number, detail);
     bracketed(part);
 }
 
 fn pair(letters: &[u8], ends: &[u16], i: u32, j: u32) {
-    let found = trays::pair_overlap(letters, ends, i, j);
+    let found = asking::pair_overlap(letters, ends, i, j);
     refusal(found.number, found.detail);
     put(found.letters);
 }
@@ -49,7 +49,7 @@ pub fn row(line: &[u8]) {
 // Writes a byte if a tray of that one letter is accepted.
 fn sign(byte: u8) {
     let one = [byte];
-    let fault = trays::check_tray(&one, &[1]);
+    let fault = checking::check_tray(&one, &[1]);
     if fault.number == 0 {
         io::write_all(1, &one);
     }

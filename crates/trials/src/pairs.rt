@@ -7,7 +7,7 @@ use crate::table;
 use crate::writing::put;
 
 fn pair(sum: u32, letters: &[u8], ends: &[u16], i: u32, j: u32) -> u32 {
-    let found = trays::pair_overlap(letters, ends, i, j);
+    let found = asking::pair_overlap(letters, ends, i, j);
     mix(
         mix(mix(sum, found.number as u32), found.detail),
         found.letters,
@@ -39,7 +39,7 @@ fn pairs(letters: &[u8], ends: &[u16], above: u32) -> u32 {
 fn slip(sum: u32, letters: &[u8], ends: &[u16], i: u32) -> u32 {
     let mut number: u8 = 255;
     let mut detail: u32 = 255;
-    let part = trays::slip_letters(letters, ends, i, &mut number, &mut detail);
+    let part = asking::slip_letters(letters, ends, i, &mut number, &mut detail);
     let answered = mix(mix(sum, number as u32), detail);
     sums::bytes(mix(answered, table::count(part.len())), part)
 }

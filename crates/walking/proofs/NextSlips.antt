@@ -7,7 +7,7 @@ use lib.ListN.{length}
 use Rattle.trays.specs.declared.Span.{Span}
 use Rattle.trays.specs.Limits.{maxLetters}
 use Rattle.trays.specs.Slips.{startOf, endOf}
-use Rattle.trays.specs.Checks.{spanOf}
+use Rattle.trays.specs.Slips.{spanOf}
 use Rattle.tables.specs.Tables.{Got}
 use Rattle.layout.specs.Layout.{STARTS-NEXT, ENDS-NEXT}
 use Rattle.walking.specs.Runs.{nextStarter, nextEnder, Real}

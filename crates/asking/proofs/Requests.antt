@@ -1,0 +1,143 @@
+-- The ways through the functions on one slip and on a pair.
+--   request-..  == row 10
+--   slip-..     == rows 1 to 6, then 10
+--   pair-..     == rows 1 to 6, 10, 10, 11
+use mathlib.Core.Path.{_≡_, refl, sym, _∙_, ap}
+use mathlib.Core.List.{List, [], _∷_}
+use Prim.Native.Nat.{ℕ, zero, suc, _-_, _^_, _≤_, _<_}
+use borrow.Author.Tests.{ltb-false, lt-ltb, le-ltb, eq-eqb, ne-eqb, eqb-false}
+use native.Mathlib.Omega.{arith}
+use lib.Dec.{ltb, eqb}
+use lib.ListN.{length}
+use Rattle.words.specs.Words.{overlap, overlapFor}
+use Rattle.words.proofs.Tests.{by-test}
+use Rattle.words.proofs.Overlaps.{overlapFor-nonEmpty, overlapFor-fits}
+use Rattle.trays.specs.declared.Refusal.{Refusal}
+use Rattle.trays.specs.declared.Pair.{Pair}
+use Rattle.trays.specs.Slips.{slipsOf, slip}
+use Rattle.trays.specs.Aside.{counted}
+use Rattle.trays.specs.Faults.{refusal, accepted, orElse, firstRow, trayRows, trayFault, slipRow, slipFault, pairRow, pairFault}
+use Rattle.trays.specs.Answers.{stretchOf, Stretch, pairOf}
+use Rattle.trays.proofs.Rows.{or-zero, or-some, or-assoc, both-silent, by-number, rows-append}
+use Rattle.spans.proofs.Stretches.{slip-small}
+
+pub request-zero : (es : List ℕ) (i : ℕ) → i ≡ 0 → refusal 10 i ≡ slipRow es i
+request-zero es i e = rw (eq-eqb i 0 e)
+
+pub request-above : (es : List ℕ) (i n : ℕ) → (i ≡ 0 → ⊥) → n ≡ i → length es < n → refusal 10 i ≡ slipRow es i
+request-above es i n z e h = rw (ne-eqb i 0 z, lt-ltb (length es) i (omega arith))
+
+pub request-good : (es : List ℕ) (i n : ℕ) → (i ≡ 0 → ⊥) → n ≡ i → n ≤ length es → refusal 0 0 ≡ slipRow es i
+request-good es i n z e h = rw (ne-eqb i 0 z, le-ltb (length es) i (omega arith))
+
+-- a row that is silent is the accepting one
+row-accepts : (es : List ℕ) (i : ℕ) → slipRow es i .number ≡ 0 → (1 ≤ i) × (i ≤ length es) × (slipRow es i ≡ accepted)
+row-accepts es i h =
+    by-test (eqb i 0)
+    (λ t. absurd (ten (rw t at h)))
+    (λ t. by-test (ltb (length es) i)
+    (λ u. absurd (ten (rw (t, u) at h)))
+    (λ u.
+    let z : i ≡ 0 → ⊥ = eqb-false i 0 t in
+    (omega arith, ltb-false (length es) i u, rw (t, u))))
+  where
+    ten : _≡_ {A = ℕ} 10 0 → ⊥
+    ten q = omega arith
+
+row-then : (es : List ℕ) (i : ℕ) → orElse (slipRow es i) accepted ≡ slipRow es i
+row-then es i =
+    by-number (slipRow es i)
+    (λ z. or-zero (slipRow es i) accepted z ∙ sym (row-accepts es i z .2))
+    (λ p. or-some (slipRow es i) accepted p)
+
+module _ (s es : List ℕ) (f : Refusal) where
+  pub slip-refused : (i : ℕ) → f ≡ trayFault s es → (f .number ≡ 0 → ⊥) → f ≡ slipFault s es i
+  unfolding trayFault slipFault
+  slip-refused i e z = rw (rows-append (trayRows s es) (slipRow es i ∷ []), ← e) (sym (or-some f _ (omega arith)))
+
+  pub slip-asked : (i : ℕ) (g : Refusal) → f ≡ trayFault s es → f .number ≡ 0 → g ≡ slipRow es i → g ≡ slipFault s es i
+  unfolding trayFault slipFault
+  slip-asked i g e z h =
+      rw (rows-append (trayRows s es) (slipRow es i ∷ []), ← e, or-zero f _ z, row-then es i) h
+
+-- what an accepted request tells
+pub slip-good : (s es : List ℕ) (i : ℕ) → slipFault s es i .number ≡ 0 → (trayFault s es .number ≡ 0) × (1 ≤ i) × (i ≤ length es)
+unfolding trayFault slipFault
+slip-good s es i h =
+    let g = both-silent (trayFault s es) (firstRow (slipRow es i ∷ [])) (rw (rows-append (trayRows s es) (slipRow es i ∷ [])) at h) in
+    let k = row-accepts es i (both-silent (slipRow es i) accepted (g .1) .0) in
+    (g .0, k .0, k .1)
+
+module _ (s es : List ℕ) (i j : ℕ) where
+  -- the rows of a pair: those of its left slip, then the right slip's, then 11
+  pair-rows : pairFault s es i j ≡ orElse (slipFault s es i) (orElse (slipRow es j) (orElse (pairRow i j) accepted))
+  unfolding trayFault slipFault pairFault
+  pair-rows =
+      rows-append (trayRows s es) (slipRow es i ∷ (slipRow es j ∷ (pairRow i j ∷ [])))
+      ∙ sym (or-assoc (trayFault s es) (slipRow es i) _)
+      ∙ ap (λ (r : Refusal). orElse r (orElse (slipRow es j) (orElse (pairRow i j) accepted)))
+      (ap (orElse (trayFault s es)) (sym (row-then es i)) ∙ sym (rows-append (trayRows s es) (slipRow es i ∷ [])))
+
+  module _ (f : Refusal) (e : f ≡ slipFault s es i) where
+    pub pair-left : (f .number ≡ 0 → ⊥) → f ≡ pairFault s es i j
+    pair-left z = rw (pair-rows, ← e) (sym (or-some f _ (omega arith)))
+
+    module _ (z : f .number ≡ 0) (g : Refusal) (h : g ≡ slipRow es j) where
+      pub pair-right : (g .number ≡ 0 → ⊥) → g ≡ pairFault s es i j
+      pair-right w = rw (pair-rows, ← e, or-zero f _ z, ← h) (sym (or-some g _ (omega arith)))
+
+      pub pair-twice : g .number ≡ 0 → i ≡ j → refusal 11 i ≡ pairFault s es i j
+      pair-twice w q = rw (pair-rows, ← e, or-zero f _ z, ← h, or-zero g _ w, eq-eqb i j q)
+
+      pub pair-different : g .number ≡ 0 → (i ≡ j → ⊥) → refusal 0 0 ≡ pairFault s es i j
+      pair-different w q = rw (pair-rows, ← e, or-zero f _ z, ← h, or-zero g _ w, ne-eqb i j q)
+
+  pub pair-good : pairFault s es i j .number ≡ 0 → (trayFault s es .number ≡ 0) × (1 ≤ i) × (i ≤ length es) × (1 ≤ j) × (j ≤ length es)
+  pair-good h =
+      let a = both-silent (slipFault s es i) (orElse (slipRow es j) (orElse (pairRow i j) accepted)) (rw pair-rows at h) in
+      let l = slip-good s es i (a .0) in
+      let r = row-accepts es j (both-silent (slipRow es j) (orElse (pairRow i j) accepted) (a .1) .0) in
+      (l .0, l .1, l .2, r .0, r .1)
+
+pub overlap-counted : (a b : List ℕ) (n : ℕ) → n ≡ overlap a b → n ≡ overlapFor counted a b
+overlap-counted a b n e = e ∙ sym (overlapFor-nonEmpty a b)
+
+module _ (s es : List ℕ) (i : ℕ) (f : Refusal) (e : f ≡ slipFault s es i) where
+  pub stretch-refused : (f .number ≡ 0 → ⊥) → Stretch s es i [] (f .number) (f .detail)
+  stretch-refused z = record { letters-are = nothing (f .number) z (ap (λ (r : Refusal). r .number) e); number-is = rw e; detail-is = rw e }
+    where
+      nothing : (n : ℕ) → (n ≡ 0 → ⊥) → n ≡ slipFault s es i .number → [] ≡ stretchOf s es i
+      nothing zero w h = absurd (w refl)
+      nothing (suc n) w h = rw (sym h, stretchOf)
+
+  module _ (z : f .number ≡ 0) where
+    pub request-tells : (trayFault s es .number ≡ 0) × (1 ≤ i) × (i ≤ length es)
+    request-tells = slip-good s es i (rw e at z)
+
+    pub stretch-good : (x : List ℕ) → x ≡ slip (slipsOf s es) i → Stretch s es i x (f .number) (f .detail)
+    stretch-good x h = record { letters-are = h ∙ rw (rw e at z, stretchOf); number-is = rw e; detail-is = rw e }
+
+module _ (s es : List ℕ) (i j : ℕ) (f : Refusal) (e : f ≡ pairFault s es i j) where
+  pub pair-refused : (f .number ≡ 0 → ⊥) → _≡_ {A = Pair} (record { number = f .number; detail = f .detail; letters = 0 }) (pairOf s es i j)
+  pair-refused z = rw e (ap (λ (n : ℕ). paired n) (nothing (f .number) z (ap (λ (r : Refusal). r .number) e)))
+    where
+      paired : ℕ → Pair
+      paired n = record { number = pairFault s es i j .number; detail = pairFault s es i j .detail; letters = n }
+
+      nothing : (n : ℕ) → (n ≡ 0 → ⊥) → n ≡ pairFault s es i j .number → 0 ≡ pairOf s es i j .letters
+      nothing zero w h = absurd (w refl)
+      nothing (suc n) w h = rw (sym h, pairOf)
+
+  module _ (z : f .number ≡ 0) where
+    pub pair-tells : (trayFault s es .number ≡ 0) × (1 ≤ i) × (i ≤ length es) × (1 ≤ j) × (j ≤ length es)
+    pair-tells = pair-good s es i j (rw e at z)
+
+    module _ (a b : List ℕ) (n : ℕ) (ha : a ≡ slip (slipsOf s es) i) (hb : b ≡ slip (slipsOf s es) j) (h : n ≡ overlapFor counted a b) where
+      pub pair-small : n < 2 ^ 32
+      pair-small =
+          let t = pair-tells in
+          let l : length b ≤ 2000 = rw hb (slip-small s es j (t .0) (t .3) (t .4)) in
+          omega (arith, overlapFor-fits counted a b)
+
+      pub pair-found : _≡_ {A = Pair} (record { number = f .number; detail = f .detail; letters = n }) (pairOf s es i j)
+      pair-found = rw (e, h, ha, hb, rw e at z)

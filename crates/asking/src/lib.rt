@@ -1,0 +1,115 @@
+// Requests on a tray: one slip's letters, the overlap of a pair.
+ghost use mathlib.Core.Path.{_≡_};
+ghost use Prim.Native.Nat.{_<_};
+ghost use Rattle.words.specs.Words.{overlapFor};
+ghost use Rattle.trays.specs.Aside.{counted};
+ghost use Rattle.trays.specs.Faults as F;
+ghost use Rattle.trays.specs.Answers.{Stretch, pairOf};
+use checking::check_tray;
+use spans::slip_part;
+use trays::Pair;
+use trays::Refusal;
+
+// Refusal 10.
+fn check_request(ends: &[u16], slip: u32) -> Refusal
+    ensures { λ r. ⌜ r ≡ F.slipRow (now (ends .entry)) slip ⌝ }
+{
+    if slip == 0 {
+        return Refusal {
+            number: 10,
+            detail: slip,
+        };
+    }
+    if ends.len() < slip as usize {
+        return Refusal {
+            number: 10,
+            detail: slip,
+        };
+    }
+    Refusal {
+        number: 0,
+        detail: 0,
+    }
+}
+
+// Refusals 1 to 6 and 10, for one slip number.
+fn check_slip(letters: &[u8], ends: &[u16], slip: u32) -> Refusal
+    ensures { λ r. ⌜ r ≡ F.slipFault (now (letters .entry)) (now (ends .entry)) slip ⌝ }
+{
+    let tray = check_tray(letters, ends);
+    if tray.number != 0 {
+        return tray;
+    }
+    check_request(ends, slip)
+}
+
+// The letters of one slip, as that stretch of the lent tray; empty if refused. The two lent numbers are the refusal's.
+pub fn slip_letters<'a>(
+    letters: &'a [u8],
+    ends: &[u16],
+    slip: u32,
+    number: &mut u8,
+    detail: &mut u32,
+) -> &'a [u8]
+    ensures { λ r. ⌜ Stretch (now (letters .entry)) (now (ends .entry)) slip (now r) (now (number .exit)) (now (detail .exit)) ⌝ }
+{
+    let fault = check_slip(letters, ends, slip);
+    *number = fault.number;
+    *detail = fault.detail;
+    if fault.number != 0 {
+        return &letters[0..0];
+    }
+    slip_part(letters, ends, slip as usize)
+}
+
+// Refusals 1 to 6, 10 and 11, for a pair of slip numbers.
+fn check_pair(letters: &[u8], ends: &[u16], left: u32, right: u32) -> Refusal
+    ensures { λ r. ⌜ r ≡ F.pairFault (now (letters .entry)) (now (ends .entry)) left right ⌝ }
+{
+    let first = check_slip(letters, ends, left);
+    if first.number != 0 {
+        return first;
+    }
+    let second = check_request(ends, right);
+    if second.number != 0 {
+        return second;
+    }
+    if left == right {
+        return Refusal {
+            number: 11,
+            detail: left,
+        };
+    }
+    Refusal {
+        number: 0,
+        detail: 0,
+    }
+}
+
+// The overlap of two strings that counts.
+pub fn counted_overlap(a: &[u8], b: &[u8]) -> usize
+    ensures { λ r. ⌜ r ≡ overlapFor counted (now (a .entry)) (now (b .entry)) ⌝ }
+{
+    words::overlap(a, b)
+}
+
+// The overlap of a pair of slips, by comparing their letters.
+pub fn pair_overlap(letters: &[u8], ends: &[u16], left: u32, right: u32) -> Pair
+    ensures { λ r. ⌜ r ≡ pairOf (now (letters .entry)) (now (ends .entry)) left right ⌝ }
+{
+    let fault = check_pair(letters, ends, left, right);
+    if fault.number != 0 {
+        return Pair {
+            number: fault.number,
+            detail: fault.detail,
+            letters: 0,
+        };
+    }
+    let a = slip_part(letters, ends, left as usize);
+    let b = slip_part(letters, ends, right as usize);
+    Pair {
+        number: fault.number,
+        detail: fault.detail,
+        letters: counted_overlap(a, b) as u32,
+    }
+}

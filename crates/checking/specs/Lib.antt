@@ -1,0 +1,2 @@
+-- The steps of the tray check.
+pub mod steps

@@ -1,0 +1,2 @@
+-- Laws of a slip's stretch.
+pub mod Stretches
