@@ -50,16 +50,16 @@ use denote.Triple.Walked.{Stays, gave-slice, stay-none-slice, stay-dropped, walk
 use Rattle.stores.proofs.Walking.{begun, calls-to, ends-with, meets-by}
 use Rattle.stores.proofs.Locals.{full, frees-behind, relends}
 use Rattle.stores.proofs.Lending.{twice}
-use Rattle.composing.specs.declared.Composed.{Composed}
-use Rattle.composing.proofs.Composed as R
-use Rattle.composing.proofs.Composed.Laws as R′
-use Rattle.legends.specs.declared.Join.{Join}
-use Rattle.legends.specs.declared.Place.{Place}
-use Rattle.legends.specs.Says.{ComposeSays}
-use Rattle.legends.proofs.Join as J
-use Rattle.legends.proofs.Join.Laws as J′
-use Rattle.legends.proofs.Place as P
-use Rattle.legends.proofs.Place.Laws as P′
+use Rattle.answers.specs.declared.Composed.{Composed}
+use Rattle.answers.proofs.Composed as R
+use Rattle.answers.proofs.Composed.Laws as R′
+use Rattle.answers.specs.declared.Join.{Join}
+use Rattle.answers.specs.declared.Place.{Place}
+use Rattle.answers.specs.Records.{ComposeSays}
+use Rattle.answers.proofs.Join as J
+use Rattle.answers.proofs.Join.Laws as J′
+use Rattle.answers.proofs.Place as P
+use Rattle.answers.proofs.Place.Laws as P′
 use Rattle.legends.proofs.compose_tray as tray
 use Rattle.legends.proofs.compose_tray.Symbol as tray-def
 use Rattle.legends.proofs.compose_tray.Met as tray-thm

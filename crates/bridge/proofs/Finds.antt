@@ -49,13 +49,13 @@ use denote.Triple.Walked.{Stays, gave-slice, stay-none-slice, stay-dropped, walk
 use Rattle.stores.proofs.Walking.{begun, calls-to, ends-with, meets-by}
 use Rattle.stores.proofs.Locals.{full, frees-behind, relends}
 use Rattle.stores.proofs.Lending.{twice}
-use Rattle.finding.specs.declared.Found.{Found}
-use Rattle.finding.specs.declared.Search.{Search}
-use Rattle.finding.specs.Answers.{FindSays}
-use Rattle.finding.proofs.Found as F
-use Rattle.finding.proofs.Found.Laws as F′
-use Rattle.finding.proofs.Search as R
-use Rattle.finding.proofs.Search.Laws as R′
+use Rattle.answers.specs.declared.Found.{Found}
+use Rattle.answers.specs.declared.Search.{Search}
+use Rattle.answers.specs.Finding.{FindSays}
+use Rattle.answers.proofs.Found as F
+use Rattle.answers.proofs.Found.Laws as F′
+use Rattle.answers.proofs.Search as R
+use Rattle.answers.proofs.Search.Laws as R′
 use Rattle.finding.proofs.find_slips as slips
 use Rattle.finding.proofs.find_slips.Symbol as slips-def
 use Rattle.finding.proofs.find_slips.Met as slips-thm

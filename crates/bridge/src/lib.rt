@@ -1,11 +1,11 @@
 // Composing and finding for callers that hold their lists as arrays: each array is taken by value, lent for the call, and handed back.
-ghost use Rattle.legends.specs.Says.{ComposeSays};
-ghost use Rattle.finding.specs.Answers.{FindSays};
-use composing::Composed;
-use finding::Found;
-use finding::Search;
-use legends::Join;
-use legends::Place;
+ghost use Rattle.answers.specs.Records.{ComposeSays};
+ghost use Rattle.answers.specs.Finding.{FindSays};
+use answers::Composed;
+use answers::Found;
+use answers::Join;
+use answers::Place;
+use answers::Search;
 
 // The answer of composing, and the two lists behind the call.
 pub struct Composition {

@@ -17,7 +17,7 @@ use Rattle.greedy.proofs.Demand3.{composed}
 use Rattle.layout.specs.Layout.{KEPT, JOINS}
 use Rattle.layout.specs.Tables.{cell}
 use Rattle.layout.specs.Staging.{keptIn, joinIn, joinsIn}
-use Rattle.composing.specs.Steps.{thirds, KeptReal, Walked, CountsAre}
+use Rattle.composing.specs.steps.Composing.{thirds, KeptReal, Walked, CountsAre}
 use Rattle.composing.proofs.PiecesFit.{kept-real}
 
 -- a member of a list at a place

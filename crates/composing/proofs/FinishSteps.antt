@@ -11,17 +11,17 @@ use Rattle.tables.specs.Tables.{table}
 use Rattle.tables.proofs.Tables.{table-more}
 use Rattle.trays.specs.declared.Refusal.{Refusal}
 use Rattle.trays.specs.Limits.{maxSlips, workNeed}
-use Rattle.trays.specs.Slips.{slipsOf, numbers}
+use Rattle.trays.specs.Slips.{slipsOf}
 use Rattle.trays.specs.Faults.{refusal, accepted, row, orElse, firstRow, trayRows, trayFault, written}
 use Rattle.trays.proofs.Rows.{or-zero, rows-append}
 use Rattle.greedy.specs.Joins.{Join, plainJoins}
 use Rattle.greedy.specs.Legends.{legendOf}
 use Rattle.layout.specs.Layout.{JOINS}
 use Rattle.layout.specs.Staging.{joinIn, joinsIn}
-use Rattle.layout.specs.WorkArea.{workRow}
-use Rattle.composing.specs.declared.Composed.{Composed}
-use Rattle.composing.specs.Answers.{composeFault, composedOf, outcomeOf, refusedBy, flatJoins}
-use Rattle.composing.specs.Steps.{Finished}
+use Rattle.answers.specs.WorkArea.{workRow}
+use Rattle.answers.specs.declared.Composed.{Composed}
+use Rattle.answers.specs.Composing.{composeFault, composedOf, outcomeOf, refusedBy, flatJoins}
+use Rattle.composing.specs.steps.Composing.{Finished}
 use Rattle.composing.proofs.CountSteps.{joins-more}
 
 -- behind an accepted tray with a work area large enough, only 8 and 9 are left

@@ -14,12 +14,12 @@ use lib.ListN.{length, getD, take}
 use lib.Seq.{ext-getD, getD-take, length-take-le}
 use Rattle.words.specs.Lists.{each, upFrom}
 use Rattle.words.proofs.Tests.{by-test}
-use Rattle.trays.specs.Slips.{slip, numbers}
+use Rattle.trays.specs.Slips.{numbers}
 use Rattle.trays.specs.Aside.{isAside, counted}
 use Rattle.greedy.specs.Legends.{Piece, piecesFor, legendOf, placeOf, placeFor}
 use Rattle.laying.specs.Places.{placedBy, asideBy}
 use Rattle.laying.proofs.PlacesAre.{laid, Once, placed-here, placed-other, aside-mark, aside-cell}
-use Rattle.composing.specs.Answers.{flatPlaces}
+use Rattle.answers.specs.Composing.{flatPlaces}
 
 module _ (a b : ℕ → ℕ) where
   abbrev twos : List ℕ → List ℕ

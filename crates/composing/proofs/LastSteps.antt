@@ -27,10 +27,10 @@ use Rattle.laying.specs.Laying.{staged}
 use Rattle.laying.proofs.NeighbourPieces.{pieces-by}
 use Rattle.layout.specs.Layout.{KEPT, JOINS}
 use Rattle.layout.specs.Staging.{joinIn, joinsIn}
-use Rattle.composing.specs.declared.Composed.{Composed}
+use Rattle.answers.specs.declared.Composed.{Composed}
 use Rattle.composing.specs.declared.Counts.{Counts}
-use Rattle.composing.specs.Answers.{refusedBy}
-use Rattle.composing.specs.Steps.{Walked, Joined, piecesHere, StageAsks, PiecesStaged, CountsAre, WritingAsks, Written, Finished, OutcomeAsks, outcomeBy}
+use Rattle.answers.specs.Composing.{refusedBy}
+use Rattle.composing.specs.steps.Composing.{Walked, Joined, piecesHere, StageAsks, PiecesStaged, CountsAre, WritingAsks, Written, Finished, OutcomeAsks, outcomeBy}
 use Rattle.composing.proofs.PiecesFit.{kept-real, kept-few, kept-small, legend-small, pieces-count}
 use Rattle.composing.proofs.CountSteps.{kept-part, kept-asks}
 use Rattle.composing.proofs.FinishSteps.{legend-short, lists-short, nothing-short, answer-composed, turned-back, flat-table}

@@ -20,7 +20,7 @@ use Rattle.trays.specs.Faults.{trayFault}
 use Rattle.trays.proofs.Kept.{kept-asc, in-kept, kept-in}
 use Rattle.trays.proofs.Accepted.{accepted-tells, slips-count}
 use Rattle.greedy.specs.Joins.{plainFor}
-use Rattle.greedy.specs.Legends.{Piece, added, spelled, pieces, piecesFor, legendOf}
+use Rattle.greedy.specs.Legends.{Piece, added, spelled, piecesFor, legendOf}
 use Rattle.greedy.proofs.Demand3.{numbers-rise, numbers-positive}
 use Rattle.greedy.proofs.Chains.{Chain, Rep}
 use Rattle.greedy.proofs.Bound.{kept-rep}

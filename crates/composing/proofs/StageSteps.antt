@@ -18,8 +18,8 @@ use Rattle.laying.specs.Chains.{piecesBy, PiecesAsk, Flattened}
 use Rattle.laying.specs.Places.{placedBy, asideBy, PlacesAsk}
 use Rattle.laying.proofs.PlacesAre.{placed-length, aside-length}
 use Rattle.layout.specs.Layout.{KEPT, PLACES}
-use Rattle.composing.specs.Answers.{flatPlaces}
-use Rattle.composing.specs.Steps.{piecesHere, StageAsks, PiecesStaged, PlacingAsks, Placed}
+use Rattle.answers.specs.Composing.{flatPlaces}
+use Rattle.composing.specs.steps.Composing.{piecesHere, StageAsks, PiecesStaged, PlacingAsks, Placed}
 use Rattle.composing.proofs.PiecesFit.{pieces-once, pieces-which, pieces-places, kept-few, legend-small}
 use Rattle.composing.proofs.FlatPlaces.{places-flat}
 

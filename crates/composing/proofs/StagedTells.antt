@@ -9,22 +9,23 @@ use Prim.Native.Nat.{ℕ, zero, suc, _+_, _-_, _*_, _≤_}
 use borrow.Author.Tests.{ltb-false, leb-true, leb-false}
 use native.Mathlib.Omega.{arith}
 use lib.Dec.{ltb, leb}
-use lib.ListN.{length, length-drop, drop, take}
+use lib.ListN.{length, length-drop, drop}
 use lib.Seq.{take-all}
 use Rattle.words.proofs.Tests.{by-test, neither}
 use Rattle.tables.specs.Tables.{table}
 use Rattle.trays.specs.declared.Refusal.{Refusal}
 use Rattle.trays.specs.Limits.{maxSlips, workNeed}
 use Rattle.trays.specs.Slips.{slipsOf}
-use Rattle.trays.specs.Faults.{accepted, row, firstRow, trayRows, trayFault}
+use Rattle.trays.specs.Faults.{row, firstRow, trayRows, trayFault}
 use Rattle.trays.proofs.Rows.{both-silent, rows-append}
 use Rattle.trays.proofs.Accepted.{rows-silent, row-silent, accepted-tells, slips-count}
 use Rattle.greedy.specs.Joins.{Join, plainJoins}
 use Rattle.greedy.specs.Legends.{legendOf}
 use Rattle.layout.specs.Layout.{JOINS}
-use Rattle.layout.specs.WorkArea.{workRow}
-use Rattle.composing.specs.declared.Composed.{Composed}
-use Rattle.composing.specs.Answers.{composeFault, composedOf, outcomeOf, refusedBy, flatJoins, Staged}
+use Rattle.answers.specs.WorkArea.{workRow}
+use Rattle.answers.specs.declared.Composed.{Composed}
+use Rattle.answers.specs.Composing.{composeFault, composedOf, outcomeOf, refusedBy, flatJoins}
+use Rattle.composing.specs.steps.Composing.{Staged}
 
 pub record Accepts (s es w : List ℕ) (l j p : ℕ) (r : Composed) : Type 0 where
   pub silent : composeFault s es (length w) l j p .number ≡ 0

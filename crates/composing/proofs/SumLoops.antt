@@ -9,7 +9,7 @@ use lib.Seq.{take-suc}
 use Rattle.trays.specs.Slips.{slipsOf, slip, total}
 use Rattle.trays.specs.Faults.{trayFault}
 use Rattle.spans.proofs.Stretches.{slip-small}
-use Rattle.composing.specs.Steps.{thirds, KeptReal}
+use Rattle.composing.specs.steps.Composing.{thirds, KeptReal}
 
 total-more : (ss : List (List ℕ)) (K : List ℕ) (i : ℕ) → total ss (K ++ (i ∷ [])) ≡ total ss K + length (slip ss i)
 total-more ss [] i = omega arith

@@ -23,10 +23,11 @@ use Rattle.layout.proofs.Frames.{members-kept}
 use Rattle.automaton.specs.Built.{Buildable, Built}
 use Rattle.owners.specs.Owners.{Listed}
 use Rattle.walking.specs.Walking as W
-use Rattle.layout.specs.WorkArea.{workRow}
-use Rattle.composing.specs.declared.Composed.{Composed}
-use Rattle.composing.specs.Answers.{beforeC, composeFault, refusedBy, Staged}
-use Rattle.composing.specs.Steps.{Joined, Finished}
+use Rattle.answers.specs.WorkArea.{workRow}
+use Rattle.answers.specs.declared.Composed.{Composed}
+use Rattle.answers.specs.Composing.{beforeC, composeFault, refusedBy}
+use Rattle.composing.specs.steps.Composing.{Staged}
+use Rattle.composing.specs.steps.Composing.{Joined, Finished}
 use Rattle.composing.proofs.FinishSteps.{turned-back}
 
 module _ (s es w : List ℕ) (a : Buildable s es w) (nodes : ℕ) (w₁ : List ℕ) (b : Built s es w nodes w₁) (k : ℕ) (w₂ : List ℕ)

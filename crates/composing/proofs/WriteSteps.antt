@@ -9,7 +9,7 @@ use Rattle.words.specs.Lists.{over}
 use Rattle.trays.specs.Slips.{slipsOf}
 use Rattle.greedy.specs.Legends.{spelled, legendOf}
 use Rattle.laying.specs.Laying.{staged, CanLay}
-use Rattle.composing.specs.Steps.{PlacingAsks, Placed, WritingAsks, Written}
+use Rattle.composing.specs.steps.Composing.{PlacingAsks, Placed, WritingAsks, Written}
 use Rattle.composing.proofs.PiecesFit.{pieces-fit, kept-few}
 
 module _ (s es w l xs : List ℕ) (k need : ℕ) (a : WritingAsks s es w l xs k need) where

@@ -1,3 +1,2 @@
--- What composing answers and leaves in the lent buffers, for every input.
-pub mod Answers
-pub mod Steps
+-- composing
+pub mod steps

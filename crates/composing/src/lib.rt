@@ -3,28 +3,17 @@ ghost use mathlib.Core.Path.{_≡_};
 ghost use Prim.Native.Nat.{_+_, _*_, _≤_, _<_};
 ghost use lib.ListN.{length, take};
 ghost use Rattle.trays.specs.Slips.{slipsOf, total};
-ghost use Rattle.layout.specs.Layout as L;
-ghost use Rattle.composing.specs.Steps.{thirds, KeptReal, StageAsks, PiecesStaged, Walked, CountsAre, PlacingAsks};
-ghost use Rattle.composing.specs.Steps.{Placed, WritingAsks, Written, Joined, Finished, OutcomeAsks, outcomeBy};
-ghost use Rattle.composing.specs.Answers.{refusedBy, Staged};
+ghost use Rattle.composing.specs.steps.Composing.{thirds, KeptReal, StageAsks, PiecesStaged, Walked, CountsAre, PlacingAsks};
+ghost use Rattle.composing.specs.steps.Composing.{Placed, WritingAsks, Written, Joined, Finished, OutcomeAsks, outcomeBy};
+ghost use Rattle.answers.specs.Composing.{refusedBy};
+ghost use Rattle.composing.specs.steps.Composing.{Staged};
 ghost use Rattle.automaton.specs.Built.{Buildable};
 ghost use Rattle.trays.specs.Faults.{refusal};
+use answers::Composed;
 use layout::JOINS;
 use layout::KEPT;
 use layout::PLACES;
 use layout::WORK_NEED;
-
-// The answer: number and detail of the refusal, or the counts of what was composed: slips, kept slips, kept letters, saved letters, legend letters, joins.
-pub struct Composed {
-    pub number: u8,
-    pub detail: u32,
-    pub slips: u32,
-    pub kept: u32,
-    pub letters: u32,
-    pub saved: u32,
-    pub legend: u32,
-    pub joins: u32,
-}
 
 // Kept letters, saved letters, and the letters that the legend needs.
 pub struct Counts {

@@ -1,5 +1,4 @@
 // Tray files: the parser of a line, the reader that goes line after line, and read_tray.
-use trays::Refusal;
 ghost use mathlib.Core.Path.{_≡_};
 ghost use mathlib.Core.List.{map};
 ghost use Prim.Native.Nat.{_+_, _<_, _≤_};
@@ -10,6 +9,7 @@ ghost use Rattle.files.specs.Lines as L;
 ghost use Rattle.files.specs.Faults as F;
 ghost use Rattle.files.specs.Answers.{Reading};
 ghost use Rattle.files.specs.Passes.{badLine, lineAt, Lent, Copied};
+use trays::Refusal;
 
 pub const MAX_FILE: usize = 16384;
 

@@ -3,4 +3,3 @@ pub mod Layout
 pub mod Tables
 pub mod Numbered
 pub mod Staging
-pub mod WorkArea

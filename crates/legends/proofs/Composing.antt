@@ -15,18 +15,19 @@ use Rattle.trays.proofs.Rows.{written-all, written-none}
 use Rattle.greedy.specs.Joins.{plainJoins}
 use Rattle.tables.specs.Tables.{table}
 use Rattle.layout.specs.Layout.{JOINS, PLACES}
-use Rattle.composing.specs.declared.Composed.{Composed}
-use Rattle.composing.specs.Answers.{flatJoins, flatPlaces}
+use Rattle.answers.specs.declared.Composed.{Composed}
+use Rattle.answers.specs.Composing.{flatJoins, flatPlaces}
 use Rattle.composing.proofs.StagedTells.{Accepts, Refuses, staged-tells, staged-room}
 use Rattle.stores.specs.Firsts.{firsts}
-use Rattle.legends.specs.declared.Join.{Join}
-use Rattle.legends.specs.declared.Place.{Place}
+use Rattle.answers.specs.declared.Join.{Join}
+use Rattle.answers.specs.declared.Place.{Place}
 use Rattle.legends.specs.declared.Counted.{Counted}
-use Rattle.legends.specs.Made.{joinAt, placeAt}
-use Rattle.legends.specs.Says.{recordOf, placed, faultOf, Counts, ComposeSays}
+use Rattle.legends.specs.steps.Made.{joinAt, placeAt}
+use Rattle.answers.specs.Records.{recordOf, placed, faultOf, ComposeSays}
+use Rattle.legends.specs.steps.Made.{StagedCounts}
 use Rattle.legends.proofs.Records.{joins-made, places-made}
 
-module _ (s es w w′ l l′ : List ℕ) (js : List Join) (ps : List Place) (r : Counted) (c : Counts s es w w′ l l′ (length js) (length ps) r) where
+module _ (s es w w′ l l′ : List ℕ) (js : List Join) (ps : List Place) (r : Counted) (c : StagedCounts s es w w′ l l′ (length js) (length ps) r) where
   abbrev ss : List (List ℕ)
   ss = slipsOf s es
 

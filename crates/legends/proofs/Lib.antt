@@ -1,4 +1,3 @@
 -- From the staged numbers to the records.
-pub mod AllSpecimens
 pub mod Records
 pub mod Composing

@@ -18,15 +18,15 @@ use Rattle.tables.specs.Tables.{table}
 use Rattle.tables.proofs.Tables.{table-at}
 use Rattle.layout.specs.Layout.{JOINS, PLACES}
 use Rattle.layout.specs.Tables.{cell}
-use Rattle.composing.specs.Answers.{flatJoins, flatPlaces}
+use Rattle.answers.specs.Composing.{flatJoins, flatPlaces}
 use Rattle.composing.proofs.FlatPlaces.{flat-at}
 use Rattle.stores.specs.Firsts.{firsts}
 use Rattle.words.proofs.Runs.{length-upFrom}
 use Rattle.stores.proofs.Firsts.{getD-map-upFrom, firsts-are}
-use Rattle.legends.specs.declared.Join.{Join}
-use Rattle.legends.specs.declared.Place.{Place}
-use Rattle.legends.specs.Made.{joinAt, placeAt}
-use Rattle.legends.specs.Says.{recordOf, placed}
+use Rattle.answers.specs.declared.Join.{Join}
+use Rattle.answers.specs.declared.Place.{Place}
+use Rattle.legends.specs.steps.Made.{joinAt, placeAt}
+use Rattle.answers.specs.Records.{recordOf, placed}
 
 -- records are equal where their fields are
 join-by : (a b c : ℕ) (x : Join) → a ≡ x .left → b ≡ x .right → c ≡ x .overlap → record { left = a; right = b; overlap = c } ≡ x

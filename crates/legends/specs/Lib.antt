@@ -1,3 +1,2 @@
--- Joins and places as records, and what composing promises.
-pub mod Made
-pub mod Says
+-- legends
+pub mod steps

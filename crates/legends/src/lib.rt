@@ -5,24 +5,14 @@ ghost use lib.ListN.{length};
 ghost use Rattle.words.specs.Lists.{over};
 ghost use Rattle.stores.specs.Firsts.{firsts};
 ghost use Rattle.layout.specs.Layout as L;
-ghost use Rattle.legends.specs.Made as M;
-ghost use Rattle.legends.specs.Says.{Counts, ComposeSays};
-use composing::Composed;
+ghost use Rattle.legends.specs.steps.Made as M;
+ghost use Rattle.answers.specs.Records.{ComposeSays};
+ghost use Rattle.legends.specs.steps.Made.{StagedCounts};
+use answers::Composed;
+use answers::Join;
+use answers::Place;
 use layout::JOINS;
 use layout::PLACES;
-
-// A join: its left slip, its right slip, and how many letters they overlap.
-pub struct Join {
-    pub left: u16,
-    pub right: u16,
-    pub overlap: u16,
-}
-// A slip, its place in the legend, and whether it was kept.
-pub struct Place {
-    pub slip: u16,
-    pub place: u16,
-    pub kept: bool,
-}
 
 // The answer, and how many joins and places are staged for it.
 pub struct Counted {
@@ -91,7 +81,7 @@ fn staged(
     joins_room: usize,
     places_room: usize,
 ) -> Counted
-    ensures { λ r. ⌜ Counts (now (letters .entry)) (now (ends .entry)) (now (work .entry)) (now (work .exit))
+    ensures { λ r. ⌜ StagedCounts (now (letters .entry)) (now (ends .entry)) (now (work .entry)) (now (work .exit))
         (now (legend .entry)) (now (legend .exit)) «joins_room» «places_room» r ⌝ }
 {
     let answer = composing::compose_staged(letters, ends, work, legend, joins_room, places_room);

@@ -17,10 +17,11 @@ use Rattle.trays.specs.Slips.{slipsOf}
 use Rattle.trays.specs.Faults.{refusal, accepted, row, orElse, firstRow, trayRows}
 use Rattle.trays.proofs.Rows.{by-number}
 use Rattle.matching.specs.Occurrences.{found, occurrences}
-use Rattle.finding.specs.declared.Search.{Search}
-use Rattle.finding.specs.Answers as F
-use Rattle.finding.specs.Answers.{textRows, listRow, outcomeOf, refusedBy, flatFound, FlatSays}
-use Rattle.finding.proofs.Answering.{answer-found, answer-refused}
+use Rattle.answers.specs.declared.Search.{Search}
+use Rattle.answers.specs.Finding as F
+use Rattle.answers.specs.Finding.{textRows, listRow, outcomeOf, refusedBy, flatFound}
+use Rattle.answers.specs.Finding.{FindFlat}
+use Rattle.searching.proofs.Answering.{answer-found, answer-refused}
 use Rattle.sheets.specs.Sheets.{detailWidth, refusedLine, refusedSize, findLines, findSheetOf, maxFound}
 use Rattle.sheets.specs.Printing.{Printed, FindAsks}
 use Rattle.sheets.specs.Programs.{textFault, textSheet}
@@ -52,7 +53,7 @@ module _ (s es t w f o : List ℕ) (room : TextRoom w f o) where
       ∙ drop-silent (trayRows s es ++ textRows t) (listRow ss t (length f / 2) ∷ [])
       ∙ ap (λ (m : ℕ). firstRow (trayRows s es ++ (textRows t ++ (listRow ss t m ∷ [])))) k
 
-  module _ (w′ f′ : List ℕ) (r : Search) (a : FlatSays s es t w w′ f f′ r) where
+  module _ (w′ f′ : List ℕ) (r : Search) (a : FindFlat s es t w w′ f f′ r) where
     found-as : textFault s es t .number ≡ 0 → r ≡ outcomeOf ss t
     found-as h = a .answered .answer-is ∙ answer-found s es t (length w) (length f / 2) (ap (λ (g : Refusal). g .number) own-fault ∙ h)
 

@@ -24,9 +24,10 @@ use Rattle.trays.proofs.Rows.{or-zero, or-some, rows-append}
 use Rattle.greedy.specs.Joins.{plainJoins}
 use Rattle.greedy.specs.Legends.{legendOf}
 use Rattle.layout.specs.Layout.{JOINS, PLACES}
-use Rattle.composing.specs.declared.Composed.{Composed}
-use Rattle.layout.specs.WorkArea.{workRow}
-use Rattle.composing.specs.Answers.{composeFault, composedOf, outcomeOf, refusedBy, flatJoins, flatPlaces, Staged}
+use Rattle.answers.specs.declared.Composed.{Composed}
+use Rattle.answers.specs.WorkArea.{workRow}
+use Rattle.answers.specs.Composing.{composeFault, composedOf, outcomeOf, refusedBy, flatJoins, flatPlaces}
+use Rattle.composing.specs.steps.Composing.{Staged}
 use Rattle.sheets.specs.Sheets.{detailWidth, refusedLine, refusedSize, composeLines, composeSheetOf}
 use Rattle.sheets.specs.Printing.{Printed, ComposeAsks}
 use Rattle.sheets.specs.Programs.{traySheet}

@@ -1,9 +1,9 @@
 // From the bytes of a program's files to the whole sheet that it prints.
-use layout::JOINS;
-use layout::PLACES;
 ghost use Rattle.sheets.specs.Printing.{Printed};
 ghost use Rattle.sheets.specs.Programs.{traySheet, composeSheet, textSheet, findSheet};
 ghost use Rattle.printing.specs.Lent.{TrayRoom, ComposeRoom, TextRoom, FindRoom, Trimmed};
+use layout::JOINS;
+use layout::PLACES;
 
 // So many joins and places are taken: no accepted tray has more.
 const ROWS: usize = 200;
@@ -86,7 +86,7 @@ fn text_sheet(
     requires { ⌜ TextRoom (now work) (now found) (now out) ⌝ }
     ensures { λ r. ⌜ Printed (textSheet (now (letters .entry)) (now (ends .entry)) (now (text .entry))) (now (out .entry)) (now (out .exit)) r ⌝ }
 {
-    let a = finding::find_flat(letters, ends, text, work, found);
+    let a = flat::find_flat(letters, ends, text, work, found);
     if a.number != 0 {
         return sheets::refused_line(a.number, a.detail, out);
     }

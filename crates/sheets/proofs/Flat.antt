@@ -21,8 +21,8 @@ use Rattle.greedy.specs.Joins.{Join, join, plainJoins}
 use Rattle.greedy.specs.Legends.{legendOf, placeOf}
 use Rattle.matching.specs.Moves.{moves}
 use Rattle.matching.specs.Occurrences.{Found, found, occurrences}
-use Rattle.composing.specs.Answers.{outcomeOf, flatJoins, flatPlaces}
-use Rattle.finding.specs.Answers.{flatFound}
+use Rattle.answers.specs.Composing.{outcomeOf, flatJoins, flatPlaces}
+use Rattle.answers.specs.Finding.{flatFound}
 use Rattle.sheets.specs.Sheets.{asideSign, keptSign, signOf, joinLine, slipLineOf, slipLineAt, joinLineAt}
 use Rattle.sheets.specs.Sheets.{foundLine, foundLineAt, lines, composeLines, composeSheetOf, findLines, findSheetOf}
 

@@ -7,7 +7,7 @@ use native.Mathlib.Omega.{arith}
 use lib.ListN.{length}
 use Rattle.words.specs.Quoted.{word}
 use Rattle.trays.specs.Faults.{refusal}
-use Rattle.composing.specs.declared.Composed.{Composed}
+use Rattle.answers.specs.declared.Composed.{Composed}
 use Rattle.files.specs.Lines.{blank, lf}
 use Rattle.sheets.specs.Sheets.{column, threeLine, trayLine, slipLine, signOf, findLine, foundLine, refusedLine, lines}
 use Rattle.sheets.specs.Sheets.{slipLineAt, joinLineAt, foundLineAt, composeLines, findLines, placeWidth, countWidth}

@@ -19,7 +19,7 @@ use Rattle.trays.specs.Faults.{refusal, orElse, firstRow, trayRows, trayFault}
 use Rattle.trays.proofs.Rows.{both-silent, rows-append}
 use Rattle.files.specs.Lines.{lf}
 use Rattle.files.specs.Faults.{readFault}
-use Rattle.finding.specs.Answers.{textRows, listRow}
+use Rattle.answers.specs.Finding.{textRows, listRow}
 use Rattle.sheets.specs.Sheets.{composeSheetOf, findSheetOf, refusedLine, maxFound}
 use Rattle.sheets.specs.Programs.{lettersIn, endsIn, fileFault, composeSheet, textOf, textFault, findFault, findSheet}
 

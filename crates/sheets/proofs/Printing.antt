@@ -12,9 +12,9 @@ use Rattle.greedy.specs.Joins.{plainJoins}
 use Rattle.greedy.specs.Legends.{legendOf}
 use Rattle.matching.specs.Moves.{moves}
 use Rattle.matching.specs.Occurrences.{occurrences}
-use Rattle.composing.specs.declared.Composed.{Composed}
-use Rattle.composing.specs.Answers.{outcomeOf, flatJoins, flatPlaces}
-use Rattle.finding.specs.Answers.{flatFound}
+use Rattle.answers.specs.declared.Composed.{Composed}
+use Rattle.answers.specs.Composing.{outcomeOf, flatJoins, flatPlaces}
+use Rattle.answers.specs.Finding.{flatFound}
 use Rattle.sheets.specs.Sheets.{composeLines, composeSheetOf, findLines, findSheetOf, composeRoom, maxFound, findRoom}
 use Rattle.sheets.specs.Printing.{ComposeAsks, FindAsks, Printed}
 use Rattle.sheets.proofs.Flat.{compose-lines-are, find-lines-are}

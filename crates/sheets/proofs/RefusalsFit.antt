@@ -22,8 +22,8 @@ use Rattle.files.specs.Lines.{lf, onFirst, linesOf, isLaidOut, slipField, lengt
 use Rattle.files.specs.Faults.{lineFault, linesFault, readFault}
 use Rattle.greedy.specs.Joins.{plainJoins}
 use Rattle.greedy.specs.Legends.{legendOf}
-use Rattle.layout.specs.WorkArea.{workRow}
-use Rattle.composing.specs.Answers.{composeFault}
+use Rattle.answers.specs.WorkArea.{workRow}
+use Rattle.answers.specs.Composing.{composeFault}
 use Rattle.sheets.specs.Sheets.{detailWidth}
 use Rattle.sheets.specs.Fits.{RefusalFits}
 use Rattle.sheets.proofs.Fitting.{compose-fits}

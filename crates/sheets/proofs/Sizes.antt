@@ -25,9 +25,9 @@ use Rattle.greedy.specs.Joins.{join, plainJoins}
 use Rattle.greedy.specs.Legends.{legendOf, placeOf}
 use Rattle.matching.specs.Moves.{moves}
 use Rattle.matching.specs.Occurrences.{found, occurrences}
-use Rattle.composing.specs.declared.Composed.{Composed}
-use Rattle.composing.specs.Answers.{outcomeOf, flatJoins, flatPlaces}
-use Rattle.finding.specs.Answers.{flatFound}
+use Rattle.answers.specs.declared.Composed.{Composed}
+use Rattle.answers.specs.Composing.{outcomeOf, flatJoins, flatPlaces}
+use Rattle.answers.specs.Finding.{flatFound}
 use Rattle.sheets.specs.Sheets.{threeLine, trayLine, slipLine, findLine, foundLine, refusedLine, lines, slipLineAt, joinLineAt}
 use Rattle.sheets.specs.Sheets.{foundLineAt, composeLines, composeSheetOf, findLines, findSheetOf, composeRoom, maxFound, findRoom}
 use Rattle.sheets.specs.Sheets.{placeWidth, countWidth, detailWidth, traySize, slipSize, joinSize, findSize, foundSize, refusedSize}

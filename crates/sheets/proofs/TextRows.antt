@@ -18,7 +18,7 @@ use Rattle.trays.proofs.Rows.{both-silent, rows-append}
 use Rattle.trays.proofs.Accepted.{rows-silent, row-silent}
 use Rattle.files.specs.Faults.{readFault}
 use Rattle.matching.specs.Occurrences.{occurrences}
-use Rattle.finding.specs.Answers.{textRows, listRow}
+use Rattle.answers.specs.Finding.{textRows, listRow}
 use Rattle.sheets.specs.Sheets.{findSheetOf, findRoom, maxFound, refusedLine}
 use Rattle.sheets.specs.Fits.{RefusalFits}
 use Rattle.sheets.specs.Printing.{Printed}

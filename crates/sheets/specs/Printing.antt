@@ -10,7 +10,7 @@ use Prim.Native.Nat.{ℕ, suc, _+_, _*_, _^_, _≤_, _<_}
 use lib.ListN.{length, getD, take, drop}
 use Rattle.words.specs.Lists.{over}
 use Rattle.trays.specs.Slips.{endOf}
-use Rattle.composing.specs.declared.Composed.{Composed}
+use Rattle.answers.specs.declared.Composed.{Composed}
 use Rattle.sheets.specs.Sheets.{placeWidth, countWidth, traySize, slipSize, joinSize, findSize, foundSize}
 
 abbrev pub behind : ℕ → List ℕ → List ℕ → List ℕ

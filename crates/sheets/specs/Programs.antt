@@ -21,7 +21,7 @@ use Rattle.trays.specs.Faults.{orElse, firstRow, trayRows, trayFault}
 use Rattle.files.specs.Lines.{lf, linesOf}
 use Rattle.files.specs.Faults.{readFault}
 use Rattle.files.specs.Answers.{lettersOf, endsFrom}
-use Rattle.finding.specs.Answers.{textRows, listRow}
+use Rattle.answers.specs.Finding.{textRows, listRow}
 use Rattle.sheets.specs.Sheets.{composeSheetOf, findSheetOf, refusedLine, maxFound}
 
 abbrev pub lettersIn : List ℕ → List ℕ

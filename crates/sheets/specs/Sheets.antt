@@ -28,7 +28,7 @@ use Rattle.greedy.specs.Legends.{legendOf, placeOf}
 use Rattle.greedy.specs.Claims.{keptLetters}
 use Rattle.matching.specs.Moves.{moves}
 use Rattle.matching.specs.Occurrences.{occurrences}
-use Rattle.composing.specs.declared.Composed.{Composed}
+use Rattle.answers.specs.declared.Composed.{Composed}
 
 abbrev pub digit : ℕ → ℕ
 digit d = 48 + d

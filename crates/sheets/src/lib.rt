@@ -1,6 +1,5 @@
 // What the programs print: numbers in columns, lines, and whole sheets, written into a lent buffer.
 // Each function writes behind the first `at` bytes and answers where the next byte goes.
-use composing::Composed;
 ghost use mathlib.Core.Path.{_≡_};
 ghost use mathlib.Core.List.{[], _∷_};
 ghost use Prim.Native.Nat.{_+_, _*_, _^_, _≤_, _<_};
@@ -9,6 +8,7 @@ ghost use Rattle.trays.specs.Faults.{refusal};
 ghost use Rattle.files.specs.Lines.{blank};
 ghost use Rattle.sheets.specs.Sheets as S;
 ghost use Rattle.sheets.specs.Printing as P;
+use answers::Composed;
 
 // A sheet of `compose` has at most so many bytes.
 pub const COMPOSE_ROOM: usize = 7816;

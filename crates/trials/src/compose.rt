@@ -6,9 +6,9 @@ use crate::sums;
 use crate::table;
 use crate::writing;
 use crate::writing::put;
-use composing::Composed;
-use legends::Join;
-use legends::Place;
+use answers::Composed;
+use answers::Join;
+use answers::Place;
 
 // How many cells, bytes and numbers are lent, and where the letters start in the line.
 struct Rooms {
@@ -64,7 +64,7 @@ fn flat(
     joins: &mut [u16],
     places: &mut [u16],
 ) {
-    let a = exports::compose_flat(letters, ends, work, legend, joins, places);
+    let a = flat::compose_flat(letters, ends, work, legend, joins, places);
     io::write_all(1, b"C");
     answer(a);
     let n = table::least(a.legend, legend.len());

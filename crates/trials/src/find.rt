@@ -5,8 +5,8 @@ use crate::sums;
 use crate::table;
 use crate::writing;
 use crate::writing::put;
-use finding::Found;
-use finding::Search;
+use answers::Found;
+use answers::Search;
 
 // How many cells and numbers are lent, and where the text starts in the line.
 struct Rooms {
@@ -38,7 +38,7 @@ fn answer(a: Search, list: u32, work: &[u16]) {
 }
 
 fn flat(letters: &[u8], ends: &[u16], text: &[u8], work: &mut [u16], list: &mut [u32]) {
-    let a = finding::find_flat(letters, ends, text, work, list);
+    let a = flat::find_flat(letters, ends, text, work, list);
     io::write_all(1, b"F");
     answer(a, sums::numbers(list), work);
 }

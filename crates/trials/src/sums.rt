@@ -1,7 +1,7 @@
 // The sum of a run of numbers, in which each number and its place count.
-use finding::Found;
-use legends::Join;
-use legends::Place;
+use answers::Found;
+use answers::Join;
+use answers::Place;
 
 pub fn mix(sum: u32, x: u32) -> u32 {
     let next = (sum as u64) * 65599 + (x as u64) + 1;

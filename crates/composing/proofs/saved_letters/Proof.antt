@@ -1,7 +1,7 @@
 -- Invariant: `sum` is the sum of the overlaps of the first i joins, which is at most 65536 a join.
 use mathlib.Core.Path.{_≡_}
 use Prim.Native.Nat.{_-_, _*_, _≤_}
-use Rattle.composing.specs.Steps.{thirds}
+use Rattle.composing.specs.steps.Composing.{thirds}
 use Rattle.composing.proofs.SumLoops.{thirds-more, thirds-end}
 use borrow.Author.Needs.{needs}
 use Rattle.composing.proofs.saved_letters.Statement.{statement}

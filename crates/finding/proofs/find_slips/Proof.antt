@@ -45,18 +45,18 @@ use Rattle.stores.specs.Firsts.{firsts}
 use Rattle.stores.proofs.Walking.{begun, calls-to, ends-with, meets-by}
 use Rattle.stores.proofs.Locals.{full, frees-behind, relends}
 use Rattle.stores.proofs.Lending.{lends, takes-back, twice}
-use Rattle.finding.specs.declared.Found.{Found}
-use Rattle.finding.specs.declared.Begun.{Begun}
-use Rattle.finding.specs.Steps.{foundAt, Left, CoreSays}
-use Rattle.finding.proofs.Answering.{find-says}
-use Rattle.finding.proofs.Found as F
-use Rattle.finding.proofs.Search as R
-use Rattle.finding.proofs.Search.Laws as R′
-use Rattle.finding.proofs.Begun as S
-use Rattle.finding.proofs.Begun.Laws as S′
-use Rattle.finding.proofs.find_core as core
-use Rattle.finding.proofs.find_core.Symbol as core-def
-use Rattle.finding.proofs.find_core.Met as core-thm
+use Rattle.answers.specs.declared.Found.{Found}
+use Rattle.searching.specs.declared.Begun.{Begun}
+use Rattle.searching.specs.steps.Searching.{foundAt, Left, CoreSays}
+use Rattle.finding.proofs.RecordAnswers.{find-says}
+use Rattle.answers.proofs.Found as F
+use Rattle.answers.proofs.Search as R
+use Rattle.answers.proofs.Search.Laws as R′
+use Rattle.searching.proofs.Begun as S
+use Rattle.searching.proofs.Begun.Laws as S′
+use Rattle.searching.proofs.find_core as core
+use Rattle.searching.proofs.find_core.Symbol as core-def
+use Rattle.searching.proofs.find_core.Met as core-thm
 use Rattle.finding.proofs.scan_found as scan
 use Rattle.finding.proofs.scan_found.Symbol as scan-def
 use Rattle.finding.proofs.scan_found.Met as scan-thm
@@ -233,7 +233,7 @@ find-slips-spec 𝓤 H 𝓜 𝓖 𝓡 =
     entered 𝓤 H (tripleOf 𝓤 H (𝓖 .A) find.signature (find.spec 𝓤 H (𝓖 .A) (𝓜 .mem) (𝓡 .run))) (tables 𝓤 H 𝓜 𝓡 code.env .C)
     (tables 𝓤 H 𝓜 𝓡 code.env .Λ) name code.function (code.unfolded 𝓤 H 𝓜 𝓡)
     (meets 𝓤 H (𝓖 .A) (givenOf 𝓤 H 𝓜 𝓖) (𝓜 .mem) (𝓡 .run) (tablesOf 𝓤 H 𝓜 (tables 𝓤 H 𝓜 𝓡 code.env))
-    (cited 𝓤 H (Core 𝓤 H (𝓖 .A) (givenOf 𝓤 H 𝓜 𝓖) (𝓜 .mem) (𝓡 .run)) 𝓜 𝓡 code.env core-def.name core-def.routine code.calls-finding·find-core
+    (cited 𝓤 H (Core 𝓤 H (𝓖 .A) (givenOf 𝓤 H 𝓜 𝓖) (𝓜 .mem) (𝓡 .run)) 𝓜 𝓡 code.env core-def.name core-def.routine code.calls-searching·find-core
     (core-thm.met 𝓤 H 𝓜 𝓖 𝓡))
     (cited 𝓤 H (Scan 𝓤 H (𝓖 .A) (givenOf 𝓤 H 𝓜 𝓖) (𝓜 .mem) (𝓡 .run)) 𝓜 𝓡 code.env scan-def.name scan-def.routine code.calls-finding·scan-found
     (scan-thm.met 𝓤 H 𝓜 𝓖 𝓡)))

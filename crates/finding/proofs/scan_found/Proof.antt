@@ -1,11 +1,11 @@
 -- `scan_found` meets its contract: the scanning loop of `stores`, over `next_found`.
 use Rattle.stores.proofs.Scan.{scanned-by}
-use Rattle.finding.specs.Steps.{foundAt, Ready, Next, Enough, Left}
-use Rattle.finding.proofs.Telling.{Telling, telling-start, telling-ready, telling-more}
-use Rattle.finding.proofs.Found as T
-use Rattle.finding.proofs.Found.Laws as T′
-use Rattle.finding.proofs.next_found.Symbol as next
-use Rattle.finding.proofs.next_found.Met as next-thm
+use Rattle.searching.specs.steps.Searching.{foundAt, Ready, Next, Enough, Left}
+use Rattle.searching.proofs.Telling.{Telling, telling-start, telling-ready, telling-more}
+use Rattle.answers.proofs.Found as T
+use Rattle.answers.proofs.Found.Laws as T′
+use Rattle.searching.proofs.next_found.Symbol as next
+use Rattle.searching.proofs.next_found.Met as next-thm
 use Rattle.finding.proofs.scan_found.Key.{name}
 use Rattle.finding.proofs.scan_found.Code as code
 use Rattle.finding.proofs.scan_found.Statement.{statement}
@@ -22,4 +22,4 @@ scan-found-spec 𝓤 H 𝓜 𝓖 𝓡 =
       yields-it = λ ls es ts n ws₀ i ws ws′ r l v x. x .is;
       leaves = λ ls es ts n ws₀ ws v. v .left;
     })
-    𝓤 H 𝓜 𝓖 𝓡 code.env next.routine code.calls-finding·next-found (next-thm.met 𝓤 H 𝓜 𝓖 𝓡) name (code.unfolded 𝓤 H 𝓜 𝓡)
+    𝓤 H 𝓜 𝓖 𝓡 code.env next.routine code.calls-searching·next-found (next-thm.met 𝓤 H 𝓜 𝓖 𝓡) name (code.unfolded 𝓤 H 𝓜 𝓡)

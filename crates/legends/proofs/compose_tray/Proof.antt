@@ -41,16 +41,16 @@ use Rattle.stores.specs.Firsts.{firsts}
 use Rattle.stores.proofs.Walking.{begun, calls-to, ends-with, meets-by}
 use Rattle.stores.proofs.Locals.{full, frees-behind, relends}
 use Rattle.stores.proofs.Lending.{lends, takes-back, shares, twice}
-use Rattle.composing.proofs.Composed as R
-use Rattle.composing.proofs.Composed.Laws as R′
-use Rattle.legends.specs.declared.Join.{Join}
-use Rattle.legends.specs.declared.Place.{Place}
+use Rattle.answers.proofs.Composed as R
+use Rattle.answers.proofs.Composed.Laws as R′
+use Rattle.answers.specs.declared.Join.{Join}
+use Rattle.answers.specs.declared.Place.{Place}
 use Rattle.legends.specs.declared.Counted.{Counted}
-use Rattle.legends.specs.Made.{joinAt, placeAt}
-use Rattle.legends.specs.Says.{Counts}
+use Rattle.legends.specs.steps.Made.{joinAt, placeAt}
+use Rattle.legends.specs.steps.Made.{StagedCounts}
 use Rattle.legends.proofs.Composing.{joins-can, places-can, composing-says}
-use Rattle.legends.proofs.Join as J
-use Rattle.legends.proofs.Place as P
+use Rattle.answers.proofs.Join as J
+use Rattle.answers.proofs.Place as P
 use Rattle.legends.proofs.Counted as S
 use Rattle.legends.proofs.Counted.Laws as S′
 use Rattle.legends.proofs.staged as core
@@ -129,7 +129,7 @@ module _ {M : Type 1} (𝓤 : URA M) (H : Heap 𝓤) (A : Atoms 𝓤) (W : Given
           owned ! usize (Is usize) (uint-makes 𝓤 H A W w64) (length (js .now)) (vint w64 (length (js .now)) ∷ []) (refl, room-j .0) $ owned ! usize (Is usize) (uint-makes 𝓤 H A W w64) (length (ps .now)) (vint w64 (length (ps .now)) ∷ []) (refl, room-p .0) $
           -- [two numbers; ends; ends; letters; letters; work, lent; what is kept of it; ν; κ₀; κ₁; κ₃; κ₄; κ₅; legend; joins; places; locals]
           move ! (9 ∷ 10 ∷ 8 ∷ 11 ∷ 4 ∷ 2 ∷ 6 ∷ 14 ∷ 1 ∷ 0 ∷ []) $
-          calls-to W core.ended (core.clauses 𝓤 H A at-mem run) (to-core ν δ) tt (λ r zs. Counts (ls .now) (es .now) (wk .now) (zs .1 .1 .0) (lg .now) (zs .1 .1 .1 .0) (length (js .now)) (length (ps .now)) r) ! fm core-known (id⊢ 𝓤 (emp 𝓤)) (λ r zs. refl)
+          calls-to W core.ended (core.clauses 𝓤 H A at-mem run) (to-core ν δ) tt (λ r zs. StagedCounts (ls .now) (es .now) (wk .now) (zs .1 .1 .0) (lg .now) (zs .1 .1 .1 .0) (length (js .now)) (length (ps .now)) r) ! fm core-known (id⊢ 𝓤 (emp 𝓤)) (λ r zs. refl)
           (and-then ! (load ! (from ! (stop !)) (look ! 50 refl)) (and-then ! (load ! (from ! (stop !)) (look ! 48 refl)) (and-then ! (load ! (from ! (stop !)) (look ! 30 refl)) (and-then ! (load ! (from ! (stop !)) (look ! 26 refl)) (and-then ! (load ! (from ! (stop !)) (look ! 38 refl)) (and-then ! (load ! (from ! (stop !)) (look ! 36 refl)) (no-more !))))))) (λ w r zs says.
           -- [what the answer owns; true; true; work's last value; legend's; true; true; κ₀; κ₁; ν; κ₃; ends; letters; what is kept of work; κ₄; κ₅; joins; places; locals]
           facts ! S.the-row (Is S.the-row) (shows 𝓤 H A S.the-row) r (w ∷ []) (λ is. land ! (from ! (stop !)) (init ! 43 refl (LL.lawful S.the-type S′.the-laws 𝓤 H A W .typed r _ is .0)) $

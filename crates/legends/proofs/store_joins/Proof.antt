@@ -4,9 +4,9 @@ use native.Mathlib.Omega.{arith}
 use lib.ListN.{length}
 use Rattle.stores.proofs.Loop.{stored-by}
 use Rattle.layout.specs.Layout.{JOINS}
-use Rattle.legends.specs.Made.{joinAt}
-use Rattle.legends.proofs.Join as T
-use Rattle.legends.proofs.Join.Laws as T′
+use Rattle.legends.specs.steps.Made.{joinAt}
+use Rattle.answers.proofs.Join as T
+use Rattle.answers.proofs.Join.Laws as T′
 use Rattle.legends.proofs.join_at.Symbol as join-at
 use Rattle.legends.proofs.join_at.Met as join-at-thm
 use Rattle.legends.proofs.store_joins.Key.{name}

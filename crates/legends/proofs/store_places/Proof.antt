@@ -4,9 +4,9 @@ use native.Mathlib.Omega.{arith}
 use lib.ListN.{length}
 use Rattle.stores.proofs.Loop.{stored-by}
 use Rattle.layout.specs.Layout.{PLACES}
-use Rattle.legends.specs.Made.{placeAt}
-use Rattle.legends.proofs.Place as T
-use Rattle.legends.proofs.Place.Laws as T′
+use Rattle.legends.specs.steps.Made.{placeAt}
+use Rattle.answers.proofs.Place as T
+use Rattle.answers.proofs.Place.Laws as T′
 use Rattle.legends.proofs.place_at.Symbol as place-at
 use Rattle.legends.proofs.place_at.Met as place-at-thm
 use Rattle.legends.proofs.store_places.Key.{name}

@@ -1,0 +1,56 @@
+-- Computed specimens of the records: what the definitions put into the lists of joins and places. The outcomes are document 01's, or worked out by
+-- hand from its sentences.
+-- Modules are checked in the order of their names: an edited definition is refused here first.
+--   Records      == the two lists of records of one tray
+--   recordsOf ss == those of the slips ss
+--   specimens    == trays, written as words, with their records
+use mathlib.Core.Path.{_≡_, refl}
+use mathlib.Core.Bool.{true, false}
+use mathlib.Core.List.{List, [], _∷_, map}
+use Prim.Native.Nat.{ℕ}
+use Prim.Native.String.{String}
+use Rattle.words.specs.Quoted.{word}
+use Rattle.trays.specs.Slips.{numbers}
+use Rattle.greedy.specs.Joins.{plainJoins}
+use Rattle.answers.specs.declared.Join.{Join}
+use Rattle.answers.specs.declared.Place.{Place}
+use Rattle.answers.specs.Records.{recordOf, placed}
+
+abbrev joined : ℕ → ℕ → ℕ → Join
+joined l r o = record { left = l; right = r; overlap = o }
+
+abbrev keptAt : ℕ → ℕ → Place
+keptAt i p = record { slip = i; place = p; kept = true }
+
+abbrev asideAt : ℕ → ℕ → Place
+asideAt i p = record { slip = i; place = p; kept = false }
+
+pub record Records : Type 0 where
+  pub joins : List Join
+  pub places : List Place
+
+pub record Specimen : Type 0 where
+  pub tray : List String
+  pub records : Records
+
+abbrev specimen : List String → List Join → List Place → Specimen
+specimen ws js ps = record { tray = ws; records = record { joins = js; places = ps } }
+
+abbrev pub recordsOf : List (List ℕ) → Records
+recordsOf ss = record { joins = map recordOf (plainJoins ss); places = map (placed ss) (numbers ss) }
+
+pub specimens : List Specimen
+specimens =
+    specimen [] [] []
+    ∷ specimen ("AVG" ∷ "AVG" ∷ []) [] (keptAt 1 1 ∷ asideAt 2 1 ∷ [])
+    ∷ specimen ("AB" ∷ "BA" ∷ []) (joined 2 1 1 ∷ []) (keptAt 1 2 ∷ keptAt 2 1 ∷ [])
+    -- document 01's `compose` tray
+    ∷ specimen
+    ("IMPCAES" ∷ "AES" ∷ "CAESAVG" ∷ "VGPIVS" ∷ "SIMP" ∷ [])
+    (joined 1 3 4 ∷ joined 5 1 3 ∷ joined 3 4 2 ∷ [])
+    (keptAt 1 2 ∷ asideAt 2 6 ∷ keptAt 3 5 ∷ keptAt 4 10 ∷ keptAt 5 1 ∷ [])
+    ∷ []
+
+pub specimens-computed : map (λ s. recordsOf (map word (s .tray))) specimens ≡ map (λ s. s .records) specimens
+unfolding specimens
+specimens-computed = refl

@@ -1,0 +1,3 @@
+-- Laws.
+pub mod AllComposed
+pub mod AllFound

@@ -1,0 +1,61 @@
+-- Composing: refusals 7, 8 and 9 behind those of the tray, the answer, and what each buffer holds afterwards.
+--   beforeC s es w        == what turns composing back before place C
+--   composeFault          == what turns composing back: legend room l, room for j joins and p places
+--   composedOf            == the answer
+--   flatJoins js          == the joins as numbers: left slip, right slip, overlap
+--   flatPlaces ss         == the places as numbers: for each slip its place, and 1 if it is kept
+use mathlib.Core.Bool.{cond, _||_}
+use mathlib.Core.List.{List, [], _∷_, _++_}
+use Prim.Native.Nat.{ℕ, zero, suc}
+use lib.Dec.{ltb}
+use lib.ListN.{length}
+use Rattle.words.specs.Lists.{each}
+use Rattle.trays.specs.declared.Refusal.{Refusal}
+use Rattle.trays.specs.Slips.{slipsOf, numbers}
+use Rattle.trays.specs.Aside.{isAside, kept}
+use Rattle.trays.specs.Faults.{row, firstRow, trayRows}
+use Rattle.greedy.specs.Joins.{Join, plainJoins, saved}
+use Rattle.greedy.specs.Legends.{legendOf, placeOf}
+use Rattle.greedy.specs.Claims.{keptLetters}
+use Rattle.answers.specs.WorkArea.{workRow}
+use Rattle.answers.specs.declared.Composed.{Composed}
+
+unfoldable pub beforeC : List ℕ → List ℕ → ℕ → Refusal
+beforeC s es w = firstRow (trayRows s es ++ (workRow w ∷ []))
+
+-- Document 01, place C: the legend is longer than its buffer; more joins than the list takes, or fewer than one record of places a slip.
+unfoldable pub composeFault : List ℕ → List ℕ → ℕ → ℕ → ℕ → ℕ → Refusal
+composeFault s es w l j p =
+    let ss = slipsOf s es in
+    let need = length (legendOf ss) in
+    let joins = length (plainJoins ss) in
+    firstRow (trayRows s es
+    ++ (workRow w ∷ (row 8 (ltb l need) need ∷ (row 9 (ltb j joins || ltb p (length ss)) joins ∷ []))))
+
+-- the answer to a tray that is composed
+abbrev pub outcomeOf : List (List ℕ) → Composed
+outcomeOf ss =
+    record {
+      number = 0;
+      detail = 0;
+      slips = length ss;
+      kept = length (kept ss (numbers ss));
+      letters = keptLetters ss;
+      saved = saved (plainJoins ss);
+      legend = length (legendOf ss);
+      joins = length (plainJoins ss);
+    }
+
+abbrev pub refusedBy : Refusal → Composed
+refusedBy f = record { number = f .number; detail = f .detail; slips = 0; kept = 0; letters = 0; saved = 0; legend = 0; joins = 0 }
+
+unfoldable pub composedOf : List ℕ → List ℕ → ℕ → ℕ → ℕ → ℕ → Composed
+composedOf s es w l j p =
+    let f = composeFault s es w l j p in
+    elim (f .number) [ zero ↦ outcomeOf (slipsOf s es) | suc n ↦ refusedBy f ]
+
+abbrev pub flatJoins : List Join → List ℕ
+flatJoins js = each (λ j. j .left ∷ (j .right ∷ (j .overlap ∷ []))) js
+
+abbrev pub flatPlaces : List (List ℕ) → List ℕ
+flatPlaces ss = each (λ i. placeOf ss i ∷ (cond (isAside ss (numbers ss) i) 0 1 ∷ [])) (numbers ss)

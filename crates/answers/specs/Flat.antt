@@ -1,0 +1,26 @@
+-- Composing over slices of numbers, for every input: three numbers a join, two a place.
+--   flatFault  == what turns it back, given the lengths of what was lent
+--   ComposeFlat == the answer, and what each lent buffer holds afterwards
+use mathlib.Core.Path.{_≡_}
+use mathlib.Core.List.{List}
+use Prim.Native.Nat.{ℕ, _-_, _/_}
+use lib.ListN.{length}
+use Rattle.trays.specs.Slips.{slipsOf}
+use Rattle.trays.specs.declared.Refusal.{Refusal}
+use Rattle.trays.specs.Faults.{written}
+use Rattle.greedy.specs.Joins.{plainJoins}
+use Rattle.greedy.specs.Legends.{legendOf}
+use Rattle.answers.specs.WorkArea.{WorkKept}
+use Rattle.answers.specs.declared.Composed.{Composed}
+use Rattle.answers.specs.Composing.{beforeC, composeFault, composedOf, flatJoins, flatPlaces}
+
+-- a list of joins takes a third of its numbers, a list of places half of them
+abbrev pub flatFault : List ℕ → List ℕ → List ℕ → List ℕ → List ℕ → List ℕ → Refusal
+flatFault s es w l j p = composeFault s es (length w) (length l) (length j / 3) (length p / 2)
+
+pub record ComposeFlat (s es w w′ l l′ j j′ p p′ : List ℕ) (r : Composed) : Type 0 where
+  pub answer-is : r ≡ composedOf s es (length w) (length l) (length j / 3) (length p / 2)
+  pub legend-is : l′ ≡ written (flatFault s es w l j p) (legendOf (slipsOf s es)) l
+  pub joins-are : j′ ≡ written (flatFault s es w l j p) (flatJoins (plainJoins (slipsOf s es))) j
+  pub places-are : p′ ≡ written (flatFault s es w l j p) (flatPlaces (slipsOf s es)) p
+  pub work-is : WorkKept (beforeC s es (length w)) w w′

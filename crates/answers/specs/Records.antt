@@ -1,0 +1,41 @@
+-- What composing a tray into lent lists of records promises: the answer, and what each buffer holds afterwards.
+--   recordOf j      == the record of a join: left slip, right slip, overlap
+--   placed ss i     == the record of slip i: its number, its place, kept or set aside
+--   ComposeSays     == the promise, for every input: tray s, es; work area w, legend l, joins js, places ps before, and w′, l′, js′, ps′ after; answer r
+use mathlib.Core.Path.{_≡_}
+use mathlib.Core.Bool.{not}
+use mathlib.Core.List.{List, map}
+use Prim.Native.Nat.{ℕ}
+use lib.ListN.{length}
+use Rattle.trays.specs.declared.Refusal.{Refusal}
+use Rattle.trays.specs.Slips.{slipsOf, numbers}
+use Rattle.trays.specs.Aside.{isAside}
+use Rattle.trays.specs.Faults.{written}
+use Rattle.greedy.specs.Joins as G
+use Rattle.greedy.specs.Joins.{plainJoins}
+use Rattle.greedy.specs.Legends.{legendOf, placeOf}
+use Rattle.answers.specs.WorkArea.{WorkKept}
+use Rattle.answers.specs.declared.Composed.{Composed}
+use Rattle.answers.specs.Composing.{beforeC, composeFault, composedOf}
+use Rattle.answers.specs.declared.Join.{Join}
+use Rattle.answers.specs.declared.Place.{Place}
+
+-- Document 01: a record of a join has left slip, right slip and overlap.
+abbrev pub recordOf : G.Join → Join
+recordOf j = record { left = j .left; right = j .right; overlap = j .overlap }
+
+-- Document 01: a record of places holds the slip's number, its place, and kept or set aside.
+abbrev pub placed : List (List ℕ) → ℕ → Place
+placed ss i = record { slip = i; place = placeOf ss i; kept = not (isAside ss (numbers ss) i) }
+
+-- the refusal, given the lengths of what was lent
+abbrev pub faultOf : List ℕ → List ℕ → List ℕ → List ℕ → List Join → List Place → Refusal
+faultOf s es w l js ps = composeFault s es (length w) (length l) (length js) (length ps)
+
+-- On success the first part of each buffer is the outcome and the rest is unchanged; a refusal leaves each as it was, but for the work area from place C on.
+pub record ComposeSays (s es w w′ l l′ : List ℕ) (js js′ : List Join) (ps ps′ : List Place) (r : Composed) : Type 0 where
+  pub answer-is : r ≡ composedOf s es (length w) (length l) (length js) (length ps)
+  pub legend-is : l′ ≡ written (faultOf s es w l js ps) (legendOf (slipsOf s es)) l
+  pub joins-are : js′ ≡ written (faultOf s es w l js ps) (map recordOf (plainJoins (slipsOf s es))) js
+  pub places-are : ps′ ≡ written (faultOf s es w l js ps) (map (placed (slipsOf s es)) (numbers (slipsOf s es))) ps
+  pub work-is : WorkKept (beforeC s es (length w)) w w′

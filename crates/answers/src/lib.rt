@@ -1,0 +1,44 @@
+// What the calls answer, and what they leave in the lent buffers, for every input.
+
+// The answer: number and detail of the refusal, or the counts of what was composed: slips, kept slips, kept letters, saved letters, legend letters, joins.
+pub struct Composed {
+    pub number: u8,
+    pub detail: u32,
+    pub slips: u32,
+    pub kept: u32,
+    pub letters: u32,
+    pub saved: u32,
+    pub legend: u32,
+    pub joins: u32,
+}
+
+// A join: its left slip, its right slip, and how many letters they overlap.
+pub struct Join {
+    pub left: u16,
+    pub right: u16,
+    pub overlap: u16,
+}
+
+// A slip, its place in the legend, and whether it was kept.
+pub struct Place {
+    pub slip: u16,
+    pub place: u16,
+    pub kept: bool,
+}
+
+// 12: a text has at most so many letters.
+pub const MAX_TEXT: usize = 2000;
+
+// An occurrence: the place of its last letter, from 1, and its slip.
+pub struct Found {
+    pub end: u32,
+    pub slip: u16,
+}
+
+// The answer: number and detail of the refusal, or the moves and how many occurrences there are.
+pub struct Search {
+    pub number: u8,
+    pub detail: u32,
+    pub moves: u32,
+    pub count: u32,
+}

@@ -1,2 +1,0 @@
--- Laws of composing over slices of numbers.
-pub mod FlatSteps

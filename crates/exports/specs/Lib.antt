@@ -1,2 +1,0 @@
--- What composing over slices of numbers promises.
-pub mod Flat

@@ -1,0 +1,73 @@
+-- From the staged answer to lists of numbers: nothing is copied where something was refused.
+--   cells-more, cells-all == one turn of the loop that copies cells, and its end
+--   joins-can, places-can == what copying asks
+--   flat-says             == what composing over slices of numbers leaves
+use mathlib.Core.Path.{_≡_, refl, _∙_, ap}
+use mathlib.Core.List.{List}
+use Prim.Native.Nat.{ℕ, _+_, _-_, _*_, _/_, _≤_, _<_}
+use native.Mathlib.Omega.{arith}
+use lib.ListN.{length, getD, set}
+use Rattle.words.specs.Lists.{over}
+use Rattle.words.proofs.Buffers.{over-set}
+use Rattle.tables.specs.Tables.{table}
+use Rattle.tables.proofs.Tables.{table-length, table-more}
+use Rattle.layout.specs.Layout.{JOINS, PLACES}
+use Rattle.answers.specs.declared.Composed.{Composed}
+use Rattle.composing.specs.steps.Composing.{Staged}
+use Rattle.composing.proofs.StagedTells.{staged-tells, staged-room}
+use Rattle.answers.specs.Flat.{ComposeFlat}
+use Rattle.flat.specs.steps.Copying.{CanCopy}
+
+pub cells-more : (w old out : List ℕ) (base i n : ℕ) → CanCopy w base n old → i < n → out ≡ over (table w base i) old →
+    set out i (getD w (base + i) 0) ≡ over (table w base (i + 1)) old
+cells-more w old out base i n a h e =
+    rw (e, table-more w base i (i + 1) (omega (arith, a .there)) refl)
+    (over-set 0 (table w base i) old i (getD w (base + i) 0) (table-length w base i (omega (arith, a .there))) (omega (arith, a .room)))
+
+pub cells-none : (w old : List ℕ) (base : ℕ) → old ≡ over (table w base 0) old
+unfolding table
+cells-none w old base = refl
+
+pub cells-all : (w old out : List ℕ) (base i n : ℕ) → i ≤ n → n ≤ i → out ≡ over (table w base i) old → out ≡ over (table w base n) old
+cells-all w old out base i n a b e = let q : i ≡ n = omega arith in e ∙ rw q
+
+module _ (s es w w₁ l l′ : List ℕ) (jr pr : ℕ) (r : Composed) (st : Staged s es w w₁ l l′ jr pr r) where
+  pub joins-can : (m : ℕ) (j : List ℕ) → m ≡ r .joins → jr ≡ length j / 3 → CanCopy w₁ JOINS (3 * m) j
+  joins-can m j e q =
+      staged-tells s es w (length l) jr pr r (st .answer-is)
+      (λ a. let d = staged-room s es w w₁ l l′ jr pr r st a in record { there = omega (arith, d); room = omega (arith, a .joins-fit) })
+      (λ b. let z = ap (λ (c : Composed). c .joins) (b .answer-is) in record { there = omega arith; room = omega arith })
+
+  pub places-can : (m : ℕ) (p : List ℕ) → m ≡ r .slips → pr ≡ length p / 2 → CanCopy w₁ PLACES (2 * m) p
+  places-can m p e q =
+      staged-tells s es w (length l) jr pr r (st .answer-is)
+      (λ a. record { there = omega (arith, a .room, a .few-slips, st .work-is .same); room = omega (arith, a .places-fit) })
+      (λ b. let z = ap (λ (c : Composed). c .slips) (b .answer-is) in record { there = omega arith; room = omega arith })
+
+  pub flat-says :
+      (j j′ p p′ : List ℕ) (m n : ℕ) → jr ≡ length j / 3 → pr ≡ length p / 2 → m ≡ r .joins → n ≡ r .slips
+      → j′ ≡ over (table w₁ JOINS (3 * m)) j → p′ ≡ over (table w₁ PLACES (2 * n)) p → ComposeFlat s es w w₁ l l′ j j′ p p′ r
+  unfolding table
+  flat-says j j′ p p′ m n ej ep em en hj hp =
+      staged-tells s es w (length l) jr pr r (st .answer-is)
+      (λ a.
+      let z : r .number ≡ 0 = ap (λ (c : Composed). c .number) (a .answer-is) in
+      let q = rw (ej, ep) at (a .silent) in
+      record {
+        answer-is = st .answer-is ∙ rw (ej, ep);
+        legend-is = st .legend-is ∙ rw (ej, ep);
+        joins-are = hj ∙ rw (em, st .joins-are z, q);
+        places-are = hp ∙ rw (en, st .places-are z, q);
+        work-is = st .work-is;
+      })
+      (λ b.
+      let z : r .joins ≡ 0 = ap (λ (c : Composed). c .joins) (b .answer-is) in
+      let y : r .slips ≡ 0 = ap (λ (c : Composed). c .slips) (b .answer-is) in
+      let q = rw (ej, ep) at (b .speaks) in
+      record {
+        answer-is = st .answer-is ∙ rw (ej, ep);
+        legend-is = st .legend-is ∙ rw (ej, ep);
+        joins-are = hj ∙ rw (em, z, q);
+        places-are = hp ∙ rw (en, y, q);
+        work-is = st .work-is;
+      })

@@ -1,0 +1,4 @@
+-- Laws.
+pub mod ComposingSteps
+pub mod FlatLoop
+pub mod FlatAnswers

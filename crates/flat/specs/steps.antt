@@ -1,0 +1,3 @@
+-- What only loops and their proofs need.
+pub mod Copying
+pub mod Occurrences

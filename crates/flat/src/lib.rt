@@ -1,0 +1,97 @@
+// Composing and finding over slices of numbers: three numbers a join, two a place, two an occurrence.
+ghost use mathlib.Core.Path.{_≡_};
+ghost use Rattle.words.specs.Lists.{over};
+ghost use Rattle.tables.specs.Tables.{table};
+ghost use Rattle.answers.specs.Flat.{ComposeFlat};
+ghost use Rattle.flat.specs.steps.Copying.{CanCopy};
+ghost use Prim.Native.Nat.{_+_, _<_};
+ghost use Rattle.answers.specs.Finding as F;
+ghost use Rattle.flat.specs.steps.Occurrences as N;
+use answers::Composed;
+use answers::Search;
+use layout::JOINS;
+use layout::PLACES;
+
+// Copies the first `n` cells of the table at `base` over the first part of `out`.
+fn copy_cells(work: &[u16], base: usize, n: usize, out: &mut [u16])
+    requires { ⌜ CanCopy (now work) base n (now out) ⌝ }
+    ensures { λ _. ⌜ now (out .exit) ≡ over (table (now (work .entry)) base n) (now (out .entry)) ⌝ }
+{
+    let mut i: usize = 0;
+    while i < n {
+        out[i] = work[base + i];
+        i += 1;
+    }
+}
+
+fn whole(x: u32) -> usize
+    ensures { λ r. ⌜ r ≡ x ⌝ }
+{
+    x as usize
+}
+
+// Composes any tray, or refuses it. A join is three numbers (left slip, right slip, overlap), a place two (the place, and 1 if the slip is kept).
+pub fn compose_flat(
+    letters: &[u8],
+    ends: &[u16],
+    work: &mut [u16],
+    legend: &mut [u8],
+    joins: &mut [u16],
+    places: &mut [u16],
+) -> Composed
+    ensures { λ r. ⌜ ComposeFlat (now (letters .entry)) (now (ends .entry)) (now (work .entry)) (now (work .exit))
+        (now (legend .entry)) (now (legend .exit)) (now (joins .entry)) (now (joins .exit)) (now (places .entry)) (now (places .exit)) r ⌝ }
+{
+    let joins_room = joins.len() / 3;
+    let places_room = places.len() / 2;
+    let answer = composing::compose_staged(letters, ends, work, legend, joins_room, places_room);
+    copy_cells(work, JOINS, 3 * whole(answer.joins), joins);
+    copy_cells(work, PLACES, 2 * whole(answer.slips), places);
+    answer
+}
+
+fn number(x: u16) -> u32
+    ensures { λ r. ⌜ r ≡ x ⌝ }
+{
+    x as u32
+}
+
+// The first `count` occurrences, two numbers each, stored from the start of the list.
+fn scan_flat(
+    letters: &[u8],
+    ends: &[u16],
+    text: &[u8],
+    work: &mut [u16],
+    found: &mut [u32],
+    count: usize,
+)
+    requires { ⌜ N.CanFlat (now letters) (now ends) (now text) count (now work) (now found) ⌝ }
+    ensures { λ _. ⌜ N.Flattened (now (letters .entry)) (now (ends .entry)) (now (text .entry)) count (now (work .entry)) (now (work .exit))
+        (now (found .entry)) (now (found .exit)) ⌝ }
+{
+    let mut i: usize = 0;
+    while i < count {
+        let next = searching::next_found(letters, ends, text, work, i);
+        let at = 2 * i;
+        found[at] = next.end;
+        found[at + 1] = number(next.slip);
+        i += 1;
+    }
+}
+
+// The same into a lent list of numbers, two for each occurrence: end place, slip.
+pub fn find_flat(
+    letters: &[u8],
+    ends: &[u16],
+    text: &[u8],
+    work: &mut [u16],
+    found: &mut [u32],
+) -> Search
+    ensures { λ r. ⌜ F.FindFlat (now (letters .entry)) (now (ends .entry)) (now (text .entry)) (now (work .entry)) (now (work .exit))
+        (now (found .entry)) (now (found .exit)) r ⌝ }
+{
+    let room = found.len() / 2;
+    let a = searching::find_core(letters, ends, text, work, room);
+    scan_flat(letters, ends, text, work, found, a.count);
+    a.answer
+}

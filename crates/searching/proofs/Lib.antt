@@ -1,0 +1,5 @@
+-- Laws.
+pub mod Answering
+pub mod Begins
+pub mod Checks
+pub mod Telling

@@ -1,0 +1,25 @@
+use Rattle.searching.proofs.Checks.{place-fits, before-tray, before-long, before-bad, before-room, before-none}
+use borrow.Author.Needs.{needs}
+use Rattle.searching.proofs.check_find.Statement.{statement}
+use Rattle.searching.proofs.check_find.Tie as tie
+
+returns : tie.Need-returns
+returns c = search before-tray
+
+returns-2 : tie.Need-returns-2
+returns-2 c = search before-long
+
+cast-t9 : tie.Need-cast-t9
+cast-t9 c = record { fits = search place-fits }
+
+returns-3 : tie.Need-returns-3
+returns-3 c = search before-bad
+
+returns-4 : tie.Need-returns-4
+returns-4 c = search before-room
+
+returns-5 : tie.Need-returns-5
+returns-5 c = search before-none
+
+pub check-find-spec : {M : Type 1} → statement M
+check-find-spec = tie.close (tie.spec (λ c κs. search needs) returns returns-2 (λ c κs. search needs) cast-t9 returns-3 returns-4 returns-5)
