@@ -21,9 +21,9 @@ use Rattle.files.specs.Answers.{goodOf, readOf, Reading}
 use Rattle.files.proofs.CopyTurns.{length-ends}
 use Rattle.files.proofs.SlipsRead.{letters-first, ends-first}
 use Rattle.sheets.specs.Sheets.{detailWidth, refusedLine, refusedSize, composeSheetOf, findSheetOf}
-use Rattle.sheets.specs.Printing.{Printed}
+use Rattle.sheet_lines.specs.steps.Lines.{Printed}
 use Rattle.sheets.specs.Programs.{lettersIn, endsIn, traySheet, fileFault, composeSheet, textOf, textFault, textSheet, findFault, findSheet}
-use Rattle.sheets.proofs.RefusalsFit.{read-refusal-fits}
+use Rattle.sheet_sizes.proofs.RefusalsFit.{read-refusal-fits}
 use Rattle.printing.specs.Lent.{FileRoom, ComposeRoom, FindRoom, Trimmed}
 use Rattle.printing.proofs.TraySteps.{printed-is}
 

@@ -23,11 +23,11 @@ use Rattle.answers.specs.Finding.{textRows, listRow, outcomeOf, refusedBy, flat
 use Rattle.answers.specs.Finding.{FindFlat}
 use Rattle.searching.proofs.Answering.{answer-found, answer-refused}
 use Rattle.sheets.specs.Sheets.{detailWidth, refusedLine, refusedSize, findLines, findSheetOf, maxFound}
-use Rattle.sheets.specs.Printing.{Printed, FindAsks}
+use Rattle.sheet_lines.specs.steps.Lines.{Printed, FindAsks}
 use Rattle.sheets.specs.Programs.{textFault, textSheet}
-use Rattle.sheets.proofs.Flat.{two-length}
-use Rattle.sheets.proofs.Printing.{find-ready, find-printed}
-use Rattle.sheets.proofs.TextRows.{TextAccepted, text-tells, text-refusal-fits}
+use Rattle.sheet_sizes.proofs.Flat.{two-length}
+use Rattle.sheet_sizes.proofs.Printing.{find-ready, find-printed}
+use Rattle.sheet_sizes.proofs.TextRows.{TextAccepted, text-tells, text-refusal-fits}
 use Rattle.printing.specs.Lent.{TextRoom}
 use Rattle.printing.proofs.TraySteps.{printed-is}
 

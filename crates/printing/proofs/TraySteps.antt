@@ -29,12 +29,12 @@ use Rattle.answers.specs.WorkArea.{workRow}
 use Rattle.answers.specs.Composing.{composeFault, composedOf, outcomeOf, refusedBy, flatJoins, flatPlaces}
 use Rattle.composing.specs.steps.Composing.{Staged}
 use Rattle.sheets.specs.Sheets.{detailWidth, refusedLine, refusedSize, composeLines, composeSheetOf}
-use Rattle.sheets.specs.Printing.{Printed, ComposeAsks}
+use Rattle.sheet_lines.specs.steps.Lines.{Printed, ComposeAsks}
 use Rattle.sheets.specs.Programs.{traySheet}
-use Rattle.sheets.proofs.Fitting.{compose-fits}
-use Rattle.sheets.proofs.RefusalsFit.{tray-refusal-fits}
-use Rattle.sheets.proofs.Sizes.{compose-asks}
-use Rattle.sheets.proofs.Flat.{compose-lines-are}
+use Rattle.sheet_sizes.proofs.Fitting.{compose-fits}
+use Rattle.sheet_sizes.proofs.RefusalsFit.{tray-refusal-fits}
+use Rattle.sheet_sizes.proofs.Sizes.{compose-asks}
+use Rattle.sheet_sizes.proofs.Flat.{compose-lines-are}
 use Rattle.printing.specs.Lent.{TrayRoom}
 
 pub printed-is : (xs ys o o′ : List ℕ) (n : ℕ) → xs ≡ ys → Printed xs o o′ n → Printed ys o o′ n

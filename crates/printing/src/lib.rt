@@ -1,5 +1,5 @@
 // From the bytes of a program's files to the whole sheet that it prints.
-ghost use Rattle.sheets.specs.Printing.{Printed};
+ghost use Rattle.sheet_lines.specs.steps.Lines.{Printed};
 ghost use Rattle.sheets.specs.Programs.{traySheet, composeSheet, textSheet, findSheet};
 ghost use Rattle.printing.specs.Lent.{TrayRoom, ComposeRoom, TextRoom, FindRoom, Trimmed};
 use layout::JOINS;
@@ -23,12 +23,12 @@ fn tray_sheet(
 {
     let c = composing::compose_staged(letters, ends, work, legend, ROWS, ROWS);
     if c.number != 0 {
-        return sheets::refused_line(c.number, c.detail, out);
+        return sheet_lines::refused_line(c.number, c.detail, out);
     }
     let joins = 3 * c.joins as usize;
     let places = 2 * c.slips as usize;
     let text = c.legend as usize;
-    sheets::compose_lines(
+    sheet_lines::compose_lines(
         c,
         ends,
         &work[JOINS..JOINS + joins],
@@ -52,7 +52,7 @@ pub fn compose_sheet(
 {
     let read = files::read_tray(file, letters, ends);
     if read.number != 0 {
-        return sheets::refused_line(read.number, read.detail, out);
+        return sheet_lines::refused_line(read.number, read.detail, out);
     }
     let n = read.letters as usize;
     let k = read.slips as usize;
@@ -88,12 +88,12 @@ fn text_sheet(
 {
     let a = flat::find_flat(letters, ends, text, work, found);
     if a.number != 0 {
-        return sheets::refused_line(a.number, a.detail, out);
+        return sheet_lines::refused_line(a.number, a.detail, out);
     }
     let moves = a.moves as usize;
     let count = a.count as usize;
     let numbers = 2 * count;
-    sheets::find_lines(text.len(), moves, count, &found[..numbers], out)
+    sheet_lines::find_lines(text.len(), moves, count, &found[..numbers], out)
 }
 
 // The sheet that `find` prints for a tray file and a text file. Letters, ends, work area and occurrences are lent for the work.
@@ -111,7 +111,7 @@ pub fn find_sheet(
 {
     let got = files::read_tray(tray, letters, ends);
     if got.number != 0 {
-        return sheets::refused_line(got.number, got.detail, out);
+        return sheet_lines::refused_line(got.number, got.detail, out);
     }
     let n = got.letters as usize;
     let k = got.slips as usize;

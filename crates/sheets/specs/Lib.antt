@@ -1,5 +1,3 @@
 -- What the programs print, and what the functions that write it into a lent buffer ask and leave.
 pub mod Sheets
-pub mod Fits
-pub mod Printing
 pub mod Programs

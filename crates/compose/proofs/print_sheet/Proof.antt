@@ -1,6 +1,6 @@
 use borrow.Author.Needs.{needs}
 use native.Mathlib.Omega.{arith}
-use Rattle.sheets.proofs.ProgramSizes.{compose-counted}
+use Rattle.sheet_sizes.proofs.ProgramSizes.{compose-counted}
 use Rattle.compose.proofs.print_sheet.Statement.{statement}
 use Rattle.compose.proofs.print_sheet.Tie as tie
 

@@ -1,6 +1,6 @@
 use borrow.Author.Needs.{needs}
 use native.Mathlib.Omega.{arith}
-use Rattle.sheets.proofs.TextRows.{find-counted}
+use Rattle.sheet_sizes.proofs.TextRows.{find-counted}
 use Rattle.find.proofs.print_sheet.Statement.{statement}
 use Rattle.find.proofs.print_sheet.Tie as tie
 

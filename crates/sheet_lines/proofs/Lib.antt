@@ -1,0 +1,4 @@
+-- Laws.
+pub mod Puts
+pub mod Lines
+pub mod LineLoops

@@ -1,0 +1,66 @@
+-- What the functions that write lines into a lent buffer ask and leave.
+--   behind at ys old        == a lent buffer that held old, with ys written behind its first `at` bytes
+--   Put at n ys old new r   == that was done, with n bytes, and r is where the next one goes
+--   Printed ys old new r    == ys was written from the start on, and r counts its bytes
+--   ..Fits, ..Fit           == numbers that fit their columns
+--   ..Asks                  == what a function asks: such numbers, and room for the sheet
+use mathlib.Core.Path.{_≡_}
+use mathlib.Core.List.{List, _++_}
+use Prim.Native.Nat.{ℕ, suc, _+_, _*_, _^_, _≤_, _<_}
+use lib.ListN.{length, getD, take, drop}
+use Rattle.words.specs.Lists.{over}
+use Rattle.trays.specs.Slips.{endOf}
+use Rattle.answers.specs.declared.Composed.{Composed}
+use Rattle.sheets.specs.Sheets.{placeWidth, countWidth, traySize, slipSize, joinSize, findSize, foundSize}
+
+abbrev pub behind : ℕ → List ℕ → List ℕ → List ℕ
+behind at ys old = take at old ++ over ys (drop at old)
+
+pub record Put (at n : ℕ) (ys old new : List ℕ) (r : ℕ) : Type 0 where
+  pub is : new ≡ behind at ys old
+  pub many : length ys ≡ n
+  pub room : at + n ≤ length old
+  pub size : length new ≡ length old
+  pub next : r ≡ at + n
+
+pub record Printed (ys old new : List ℕ) (r : ℕ) : Type 0 where
+  pub is : new ≡ over ys old
+  pub count : r ≡ length ys
+
+-- the numbers of the header fit
+pub record HeaderFits (c : Composed) : Type 0 where
+  pub slips : c .slips < 10 ^ 4
+  pub kept : c .kept < 10 ^ 4
+  pub letters : c .letters < 10 ^ 5
+  pub saved : c .saved < 10 ^ 5
+  pub legend : c .legend < 10 ^ 5
+
+-- the ends rise, and the slips' numbers, lengths and places fit
+pub record SlipsFit (es ps : List ℕ) : Type 0 where
+  pub few : length es < 10 ^ 4
+  pub rise : (i : ℕ) → i < length es → endOf es i ≤ endOf es (suc i)
+  pub small : (i : ℕ) → i < length es → endOf es (suc i) < 10 ^ 4
+  pub placed : (i : ℕ) → i < length es → getD ps (2 * i) 0 < 10 ^ 5
+  pub places : 2 * length es ≤ length ps
+
+pub record JoinsFit (js : List ℕ) (n : ℕ) : Type 0 where
+  pub small : (i : ℕ) → i < 3 * n → getD js i 0 < 10 ^ 4
+  pub numbers : 3 * n ≤ length js
+
+pub record ComposeAsks (c : Composed) (es js ps t : List ℕ) (room : ℕ) : Type 0 where
+  pub header : HeaderFits c
+  pub slips : SlipsFit es ps
+  pub joins : JoinsFit js (c .joins)
+  pub room-is : traySize + (slipSize * length es + (joinSize * c .joins + (length t + 1))) ≤ room
+
+pub record FoundFit (ns : List ℕ) (k : ℕ) : Type 0 where
+  pub places : (i : ℕ) → i < k → getD ns (2 * i) 0 < 10 ^ placeWidth
+  pub slips : (i : ℕ) → i < k → getD ns (2 * i + 1) 0 < 10 ^ 4
+  pub numbers : 2 * k ≤ length ns
+
+pub record FindAsks (n m k : ℕ) (ns : List ℕ) (room : ℕ) : Type 0 where
+  pub letters : n < 10 ^ placeWidth
+  pub moves : m < 10 ^ placeWidth
+  pub count : k < 10 ^ countWidth
+  pub found : FoundFit ns k
+  pub room-is : findSize + foundSize * k ≤ room

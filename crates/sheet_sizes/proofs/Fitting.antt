@@ -1,0 +1,148 @@
+-- Every number that is printed fits: the claims of specs/Fits.antt.
+--   compose-fits, find-fits  == the claims
+--   chains-fewer             == a chain has one join less than slips
+--   NAME-few                 == NAME gives at most so many
+-- The joins make chains of the kept slips, so they are fewer; their slips are kept slips, and an overlap is within its right slip. At one
+-- place of a text each slip ends at most once.
+use mathlib.Core.Path.{_≡_, refl}
+use mathlib.Core.Bool.{Bool}
+use mathlib.Core.List.{List, [], _∷_, map}
+use Prim.Native.Nat.{ℕ, suc, _+_, _-_, _*_, _≤_}
+use native.Mathlib.Nat.{mul-suc}
+use native.Mathlib.Omega.{arith}
+use lib.ListN.{length, take, length-append, length-map}
+use Rattle.words.specs.Lists.{each, those, upFrom, insert, inOrder}
+use Rattle.words.specs.Words.{ends}
+use Rattle.words.proofs.Tests.{by-test}
+use Rattle.words.proofs.Runs.{length-upFrom}
+use Rattle.words.proofs.Members.{in-upFrom, those-yes, those-no}
+use Rattle.words.proofs.Maps.{all-each}
+use Rattle.words.proofs.Sums.{sum, All, all-in, all-at, held-in}
+use Rattle.words.proofs.Overlaps.{overlapFor-fits}
+use Rattle.trays.specs.Limits.{maxSlips, maxText}
+use Rattle.trays.specs.Slips.{slipsOf, slip, numbers}
+use Rattle.trays.specs.Aside.{kept, counted}
+use Rattle.trays.specs.Faults.{trayFault}
+use Rattle.trays.proofs.Accepted.{accepted-tells, slips-count}
+use Rattle.numbering.proofs.Spans.{accepted-spanned}
+use Rattle.greedy.specs.Joins.{Join, plainJoins}
+use Rattle.greedy.proofs.Chains.{Chain, whole, Arc}
+use Rattle.greedy.proofs.Letters.{weight}
+use Rattle.greedy.proofs.Demand3.{composed}
+use Rattle.matching.specs.Occurrences.{Found, found, endingAt, firstHere, occurrences}
+use Rattle.matching.proofs.States.{few-moves}
+use Rattle.matching.proofs.Finds.{in-ending}
+use Rattle.composing.proofs.PiecesFit.{kept-real, kept-few, kept-small, legend-small}
+use Rattle.sheet_sizes.specs.Fits.{JoinFits, ComposeFits, OccurrenceFits, FindFits}
+use Rattle.sheet_sizes.proofs.Placed.{joins-rep, place-most}
+
+ones : {A : Type 0} (xs : List A) → sum (λ x. 1) xs ≡ length xs
+ones [] = refl
+ones (x ∷ xs) = omega (arith, ones xs)
+
+-- each chain has a join less than slips
+chains-fewer : (Cs : List Chain) → length Cs + sum (λ C. length (C .rest)) Cs ≡ sum (λ C. sum (λ i. 1) (whole C)) Cs
+chains-fewer [] = refl
+chains-fewer (C ∷ Cs) = omega (arith, chains-fewer Cs, ones (C .rest))
+
+fewer : (Cs : List Chain) (n : ℕ) → length Cs + sum (λ C. length (C .rest)) Cs ≤ suc n → sum (λ C. length (C .rest)) Cs ≤ n
+fewer [] n h = omega arith
+fewer (C ∷ Cs) n h = omega arith
+
+module _ (s es : List ℕ) (acc : trayFault s es .number ≡ 0) where
+  abbrev ss : List (List ℕ)
+  ss = slipsOf s es
+
+  abbrev K : List ℕ
+  K = kept ss (numbers ss)
+
+  few : length es ≤ maxSlips
+  few = accepted-tells s es acc .few
+
+  join-fits : (j : Join) → Arc (weight counted ss) K j → JoinFits j
+  join-fits j (_, _, l, r, o) =
+      let (_, a) = kept-real s es acc (j .left) (held-in (j .left) K l) in
+      let (p, b) = kept-real s es acc (j .right) (held-in (j .right) K r) in (
+        omega (arith, few),
+        omega (arith, few),
+        omega (arith, o, overlapFor-fits counted (slip ss (j .left)) (slip ss (j .right)), accepted-spanned s es acc .short (j .right) p b),
+      )
+
+  joins-fewer : length (plainJoins ss) ≤ maxSlips - 1
+  joins-fewer =
+      let (Cs, R) = joins-rep s es acc in
+      omega (arith, R .count, fewer Cs (maxSlips - 1) (omega (arith, chains-fewer Cs, R .all (λ i. 1), ones K, kept-few s es acc)))
+
+  pub compose-fits : ComposeFits ss
+  compose-fits =
+      let n : length ss ≡ length es = slips-count s es in
+      record {
+        slips = omega (arith, few);
+        kept-slips = kept-few s es acc;
+        letters = kept-small s es acc;
+        saved-letters = omega (arith, kept-small s es acc, composed ss .saving);
+        legend = legend-small s es acc;
+        lengths = λ i p l. accepted-spanned s es acc .short i p (omega arith);
+        places = λ i p l. omega (arith, legend-small s es acc, place-most s es acc i p (omega arith));
+        joins = all-in JoinFits (plainJoins ss) (λ j m. join-fits j (all-at (Arc (weight counted ss) K) (plainJoins ss) j (joins-rep s es acc .1 .arcs) m));
+        count = joins-fewer;
+      }
+
+-- occurrences: at each place at most one of each slip
+those-few : {A : Type 0} (t : A → Bool) (xs : List A) → length (those t xs) ≤ length xs
+those-few t [] = omega arith
+those-few t (x ∷ xs) =
+    by-test (t x)
+    (λ e. rw (those-yes t x xs e) (omega (arith, those-few t xs)))
+    (λ e. rw (those-no t x xs e) (omega (arith, those-few t xs)))
+
+insert-few : {A : Type 0} (lt : A → A → Bool) (x : A) (ys : List A) → length (insert lt x ys) ≤ suc (length ys)
+insert-few lt x [] = omega arith
+insert-few lt x (y ∷ ys) =
+    by-test (lt x y) (λ e. rw (e, insert) (omega arith)) λ e. by-test (lt y x)
+    (λ d. rw (e, d, insert) (omega (arith, insert-few lt x ys))) (λ d. rw (e, d, insert) (omega arith))
+
+inOrder-few : {A : Type 0} (lt : A → A → Bool) (xs : List A) → length (inOrder lt xs) ≤ length xs
+inOrder-few lt [] = omega arith
+inOrder-few lt (x ∷ xs) = omega (arith, insert-few lt x (inOrder lt xs), inOrder-few lt xs)
+
+each-few : {A B : Type 0} (f : A → List B) (n : ℕ) (xs : List A) → ((x : A) → length (f x) ≤ n) → length (each f xs) ≤ n * length xs
+each-few f n [] h = omega arith
+each-few f n (x ∷ xs) h =
+    rw (length-append (f x) (each f xs), mul-suc n (length xs)) (omega (arith, h x, each-few f n xs h))
+
+all-map : {A B : Type 0} (P : B → Type 0) (f : A → B) (xs : List A) → All (λ x. P (f x)) xs → All P (map f xs)
+all-map P f [] p = tt
+all-map P f (x ∷ xs) p = (p .0, all-map P f xs (p .1))
+
+module _ (ss : List (List ℕ)) (few : length ss ≤ maxSlips) (t : List ℕ) (small : length t ≤ maxText) where
+  at-place : ℕ → List Found
+  at-place e = map (found e) (endingAt ss (take e t))
+
+  place-few : (e : ℕ) → length (at-place e) ≤ maxSlips
+  unfolding at-place
+  place-few e =
+      let b = those-few (λ i. ends (slip ss i) (take e t)) (numbers ss) in
+      rw (length-map (endingAt ss (take e t)) (found e))
+      (omega (arith, b, inOrder-few (firstHere ss) (those (λ i. ends (slip ss i) (take e t)) (numbers ss)), length-upFrom 1 (length ss)))
+
+  occurrences-few : length (occurrences ss t) ≤ maxSlips * maxText
+  unfolding at-place
+  occurrences-few =
+      omega (arith, each-few at-place maxSlips (upFrom 1 (length t)) place-few, length-upFrom 1 (length t))
+
+  occurrences-fit : All OccurrenceFits (occurrences ss t)
+  occurrences-fit =
+      all-each (λ e. e ≤ maxText) OccurrenceFits (λ e. map (found e) (endingAt ss (take e t)))
+      (λ e h. all-map OccurrenceFits (found e) (endingAt ss (take e t)) (all-in (λ i. OccurrenceFits (found e i)) (endingAt ss (take e t))
+      (λ i m. let r = in-upFrom 1 (length ss) (in-ending ss (numbers ss) (take e t) m .0) in (h, omega (arith, r .1)))))
+      (upFrom 1 (length t)) (all-in (λ e. e ≤ maxText) (upFrom 1 (length t)) (λ e m. let r = in-upFrom 1 (length t) m in omega (arith, r .1)))
+
+pub find-fits : (s es t : List ℕ) → trayFault s es .number ≡ 0 → length t ≤ maxText → FindFits (slipsOf s es) t
+find-fits s es t acc small =
+    let few : length (slipsOf s es) ≤ maxSlips = compose-fits s es acc .slips in
+    record {
+      moves-few = omega (arith, few-moves s es t acc);
+      found = occurrences-fit (slipsOf s es) few t small;
+      count = occurrences-few (slipsOf s es) few t small;
+    }

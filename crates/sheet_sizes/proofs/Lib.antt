@@ -1,0 +1,9 @@
+-- Laws.
+pub mod Fitting
+pub mod Placed
+pub mod RefusalsFit
+pub mod Sizes
+pub mod Printing
+pub mod ProgramSizes
+pub mod TextRows
+pub mod Flat

@@ -1,0 +1,45 @@
+-- Every number that is printed fits its columns.
+--   ComposeFits ss   == the numbers of the `compose` sheet are within document 01's limits
+--   FindFits ss t    == those of the `find` sheet
+--   RefusalFits f    == a refusal's number has at most two digits, and its detail fits
+use Prim.Native.Nat.{ℕ, _*_, _-_, _^_, _≤_, _<_}
+use mathlib.Core.List.{List}
+use lib.ListN.{length}
+use Rattle.words.proofs.Sums.{All}
+use Rattle.trays.specs.declared.Refusal.{Refusal}
+use Rattle.trays.specs.Limits.{maxSlips, maxSlip, maxLetters, maxText}
+use Rattle.trays.specs.Slips.{slip, numbers}
+use Rattle.trays.specs.Aside.{kept}
+use Rattle.greedy.specs.Joins.{Join, plainJoins, saved}
+use Rattle.greedy.specs.Legends.{legendOf, placeOf}
+use Rattle.greedy.specs.Claims.{keptLetters}
+use Rattle.matching.specs.Moves.{moves}
+use Rattle.matching.specs.Occurrences.{Found, occurrences}
+use Rattle.sheets.specs.Sheets.{detailWidth}
+
+abbrev pub JoinFits : Join → Type 0
+JoinFits j = (j .left ≤ maxSlips) × (j .right ≤ maxSlips) × (j .overlap ≤ maxSlip)
+
+pub record ComposeFits (ss : List (List ℕ)) : Type 0 where
+  pub slips : length ss ≤ maxSlips
+  pub kept-slips : length (kept ss (numbers ss)) ≤ maxSlips
+  pub letters : keptLetters ss ≤ maxLetters
+  pub saved-letters : saved (plainJoins ss) ≤ maxLetters
+  pub legend : length (legendOf ss) ≤ maxLetters
+  pub lengths : (i : ℕ) → 1 ≤ i → i ≤ length ss → length (slip ss i) ≤ maxSlip
+  pub places : (i : ℕ) → 1 ≤ i → i ≤ length ss → placeOf ss i ≤ maxLetters
+  pub joins : All JoinFits (plainJoins ss)
+  pub count : length (plainJoins ss) ≤ maxSlips - 1
+
+abbrev pub OccurrenceFits : Found → Type 0
+OccurrenceFits f = (f .end ≤ maxText) × (f .which ≤ maxSlips)
+
+pub record FindFits (ss : List (List ℕ)) (t : List ℕ) : Type 0 where
+  pub moves-few : moves ss t ≤ 2 * maxText
+  pub found : All OccurrenceFits (occurrences ss t)
+  -- a refusal 14 names this count
+  pub count : length (occurrences ss t) ≤ maxSlips * maxText
+
+pub record RefusalFits (f : Refusal) : Type 0 where
+  pub number-fits : f .number < 10 ^ 2
+  pub detail-fits : f .detail < 10 ^ detailWidth

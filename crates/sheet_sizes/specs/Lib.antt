@@ -1,0 +1,2 @@
+-- That every number that is printed fits its columns, and every sheet its buffer.
+pub mod Fits
