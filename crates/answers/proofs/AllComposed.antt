@@ -11,10 +11,10 @@ use Prim.Native.Nat.{ℕ}
 use Prim.Native.String.{String}
 use Rattle.words.specs.Quoted.{word}
 use Rattle.trays.specs.Slips.{numbers}
-use Rattle.greedy.specs.Joins.{plainJoins}
+use Rattle.greedy.specs.Composing.{whole, joinsOf}
 use Rattle.answers.specs.declared.Join.{Join}
 use Rattle.answers.specs.declared.Place.{Place}
-use Rattle.answers.specs.Records.{recordOf, placed}
+use Rattle.answers.specs.Records.{joinRecord, placeRecord}
 
 abbrev joined : ℕ → ℕ → ℕ → Join
 joined l r o = record { left = l; right = r; overlap = o }
@@ -37,7 +37,7 @@ abbrev specimen : List String → List Join → List Place → Specimen
 specimen ws js ps = record { tray = ws; records = record { joins = js; places = ps } }
 
 abbrev pub recordsOf : List (List ℕ) → Records
-recordsOf ss = record { joins = map recordOf (plainJoins ss); places = map (placed ss) (numbers ss) }
+recordsOf ss = record { joins = map joinRecord (joinsOf (whole ss)); places = map (placeRecord (whole ss)) (numbers ss) }
 
 pub specimens : List Specimen
 specimens =

@@ -3,7 +3,7 @@
 --   composeFault          == what turns composing back: legend room l, room for j joins and p places
 --   composedOf            == the answer
 --   flatJoins js          == the joins as numbers: left slip, right slip, overlap
---   flatPlaces ss         == the places as numbers: for each slip its place, and 1 if it is kept
+--   flatPlaces c          == the places as numbers: for each slip its place, and 1 if it is kept
 use mathlib.Core.Bool.{cond, _||_}
 use mathlib.Core.List.{List, [], _∷_, _++_}
 use Prim.Native.Nat.{ℕ, zero, suc}
@@ -12,11 +12,10 @@ use lib.ListN.{length}
 use Rattle.words.specs.Lists.{each}
 use Rattle.trays.specs.declared.Refusal.{Refusal}
 use Rattle.trays.specs.Slips.{slipsOf, numbers}
-use Rattle.trays.specs.Aside.{isAside, kept}
+use Rattle.trays.specs.Aside.{isAside}
 use Rattle.trays.specs.Faults.{row, firstRow, trayRows}
-use Rattle.greedy.specs.Joins.{Join, plainJoins, saved}
-use Rattle.greedy.specs.Legends.{legendOf, placeOf}
-use Rattle.greedy.specs.Claims.{keptLetters}
+use Rattle.greedy.specs.Joins.{Join, saved}
+use Rattle.greedy.specs.Composing.{Composing, whole, keptOf, joinsOf, legendOf, placeOf, keptLetters}
 use Rattle.answers.specs.WorkArea.{workRow}
 use Rattle.answers.specs.declared.Composed.{Composed}
 
@@ -26,24 +25,24 @@ beforeC s es w = firstRow (trayRows s es ++ (workRow w ∷ []))
 -- Document 01, place C: the legend is longer than its buffer; more joins than the list takes, or fewer than one record of places a slip.
 unfoldable pub composeFault : List ℕ → List ℕ → ℕ → ℕ → ℕ → ℕ → Refusal
 composeFault s es w l j p =
-    let ss = slipsOf s es in
-    let need = length (legendOf ss) in
-    let joins = length (plainJoins ss) in
+    let c = whole (slipsOf s es) in
+    let need = length (legendOf c) in
+    let joins = length (joinsOf c) in
     firstRow (trayRows s es
-    ++ (workRow w ∷ (row 8 (ltb l need) need ∷ (row 9 (ltb j joins || ltb p (length ss)) joins ∷ []))))
+    ++ (workRow w ∷ (row 8 (ltb l need) need ∷ (row 9 (ltb j joins || ltb p (length (c .slips))) joins ∷ []))))
 
 -- the answer to a tray that is composed
-abbrev pub outcomeOf : List (List ℕ) → Composed
-outcomeOf ss =
+abbrev pub outcomeOf : Composing → Composed
+outcomeOf c =
     record {
       number = 0;
       detail = 0;
-      slips = length ss;
-      kept = length (kept ss (numbers ss));
-      letters = keptLetters ss;
-      saved = saved (plainJoins ss);
-      legend = length (legendOf ss);
-      joins = length (plainJoins ss);
+      slips = length (c .slips);
+      kept = length (keptOf c);
+      letters = keptLetters c;
+      saved = saved (joinsOf c);
+      legend = length (legendOf c);
+      joins = length (joinsOf c);
     }
 
 abbrev pub refusedBy : Refusal → Composed
@@ -52,10 +51,11 @@ refusedBy f = record { number = f .number; detail = f .detail; slips = 0; kept =
 unfoldable pub composedOf : List ℕ → List ℕ → ℕ → ℕ → ℕ → ℕ → Composed
 composedOf s es w l j p =
     let f = composeFault s es w l j p in
-    elim (f .number) [ zero ↦ outcomeOf (slipsOf s es) | suc n ↦ refusedBy f ]
+    elim (f .number) [ zero ↦ outcomeOf (whole (slipsOf s es)) | suc n ↦ refusedBy f ]
 
 abbrev pub flatJoins : List Join → List ℕ
 flatJoins js = each (λ j. j .left ∷ (j .right ∷ (j .overlap ∷ []))) js
 
-abbrev pub flatPlaces : List (List ℕ) → List ℕ
-flatPlaces ss = each (λ i. placeOf ss i ∷ (cond (isAside ss (numbers ss) i) 0 1 ∷ [])) (numbers ss)
+-- a place, and a mark, for every slip, a member or not
+abbrev pub flatPlaces : Composing → List ℕ
+flatPlaces c = each (λ i. placeOf c i ∷ (cond (isAside (c .slips) (c .members) i) 0 1 ∷ [])) (numbers (c .slips))

@@ -5,7 +5,7 @@
 --   findBefore            == what turns finding back before place C
 --   findFault .. k        == what turns finding back
 --   searchOf .. k         == the answer
---   recordOf f            == an occurrence as a record of the lent list
+--   foundRecord f            == an occurrence as a record of the lent list
 --   flatFound fs          == occurrences as numbers: end place, slip
 --   Answered .. w w′ k r  == r is the answer, and the work area is as it may be
 --   FindSays, FindFlat    == what finding promises, with a lent list of records and with one of numbers
@@ -43,19 +43,19 @@ unfoldable pub findFault : List ℕ → List ℕ → List ℕ → ℕ → ℕ �
 findFault s es t w k = firstRow (findRows s es t w ++ (listRow (slipsOf s es) t k ∷ []))
 
 -- the answer to a tray and a text that are not turned back
-abbrev pub outcomeOf : List (List ℕ) → List ℕ → Search
-outcomeOf ss t = record { number = 0; detail = 0; moves = moves ss t; count = length (occurrences ss t) }
+abbrev pub searchOutcome : List (List ℕ) → List ℕ → Search
+searchOutcome ss t = record { number = 0; detail = 0; moves = moves ss t; count = length (occurrences ss t) }
 
-abbrev pub refusedBy : Refusal → Search
-refusedBy f = record { number = f .number; detail = f .detail; moves = 0; count = 0 }
+abbrev pub searchRefused : Refusal → Search
+searchRefused f = record { number = f .number; detail = f .detail; moves = 0; count = 0 }
 
 unfoldable pub searchOf : List ℕ → List ℕ → List ℕ → ℕ → ℕ → Search
 searchOf s es t w k =
     let f = findFault s es t w k in
-    elim (f .number) [ zero ↦ outcomeOf (slipsOf s es) t | suc n ↦ refusedBy f ]
+    elim (f .number) [ zero ↦ searchOutcome (slipsOf s es) t | suc n ↦ searchRefused f ]
 
-abbrev pub recordOf : O.Found → Found
-recordOf f = record { end = f .end; slip = f .which }
+abbrev pub foundRecord : O.Found → Found
+foundRecord f = record { end = f .end; slip = f .which }
 
 abbrev pub flatFound : List O.Found → List ℕ
 flatFound fs = each (λ f. f .end ∷ (f .which ∷ [])) fs
@@ -68,7 +68,7 @@ pub record Answered (s es t w w′ : List ℕ) (k : ℕ) (r : Search) : Type 0 w
 
 pub record FindSays (s es t w w′ : List ℕ) (o o′ : List Found) (r : Search) : Type 0 where
   pub answered : Answered s es t w w′ (length o) r
-  pub found-are : o′ ≡ written (findFault s es t (length w) (length o)) (map recordOf (occurrences (slipsOf s es) t)) o
+  pub found-are : o′ ≡ written (findFault s es t (length w) (length o)) (map foundRecord (occurrences (slipsOf s es) t)) o
 
 -- two numbers an occurrence
 pub record FindFlat (s es t w w′ o o′ : List ℕ) (r : Search) : Type 0 where

@@ -8,8 +8,7 @@ use lib.ListN.{length}
 use Rattle.trays.specs.Slips.{slipsOf}
 use Rattle.trays.specs.declared.Refusal.{Refusal}
 use Rattle.trays.specs.Faults.{written}
-use Rattle.greedy.specs.Joins.{plainJoins}
-use Rattle.greedy.specs.Legends.{legendOf}
+use Rattle.greedy.specs.Composing.{whole, joinsOf, legendOf}
 use Rattle.answers.specs.WorkArea.{WorkKept}
 use Rattle.answers.specs.declared.Composed.{Composed}
 use Rattle.answers.specs.Composing.{beforeC, composeFault, composedOf, flatJoins, flatPlaces}
@@ -20,7 +19,7 @@ flatFault s es w l j p = composeFault s es (length w) (length l) (length j / 3) 
 
 pub record ComposeFlat (s es w w′ l l′ j j′ p p′ : List ℕ) (r : Composed) : Type 0 where
   pub answer-is : r ≡ composedOf s es (length w) (length l) (length j / 3) (length p / 2)
-  pub legend-is : l′ ≡ written (flatFault s es w l j p) (legendOf (slipsOf s es)) l
-  pub joins-are : j′ ≡ written (flatFault s es w l j p) (flatJoins (plainJoins (slipsOf s es))) j
-  pub places-are : p′ ≡ written (flatFault s es w l j p) (flatPlaces (slipsOf s es)) p
+  pub legend-is : l′ ≡ written (flatFault s es w l j p) (legendOf (whole (slipsOf s es))) l
+  pub joins-are : j′ ≡ written (flatFault s es w l j p) (flatJoins (joinsOf (whole (slipsOf s es)))) j
+  pub places-are : p′ ≡ written (flatFault s es w l j p) (flatPlaces (whole (slipsOf s es))) p
   pub work-is : WorkKept (beforeC s es (length w)) w w′

@@ -15,10 +15,8 @@ use Rattle.trays.specs.Slips.{slipsOf, slip, numbers}
 use Rattle.trays.specs.Aside.{isAside, kept}
 use Rattle.trays.specs.Answers.{pairOf}
 use Rattle.trays.specs.Faults.{trayFault}
-use Rattle.greedy.specs.Joins.{Join, join, plainJoins, saved}
-use Rattle.greedy.specs.Walk.{walkJoins}
-use Rattle.greedy.specs.Legends.{legendOf, placeOf}
-use Rattle.greedy.specs.Claims.{keptLetters}
+use Rattle.greedy.specs.Joins.{Join, join, saved}
+use Rattle.greedy.specs.Composing.{whole, joinsOf, walkOf, legendOf, placeOf, keptLetters}
 use Rattle.matching.specs.Moves.{moves}
 use Rattle.matching.specs.Occurrences.{Found, found, occurrences}
 
@@ -37,7 +35,7 @@ abbrev pub line : ℕ → ℕ → ℕ → Mark → Line
 line i n p m = record { number = i; letters = n; place = p; mark = m }
 
 abbrev pub lineOf : List (List ℕ) → ℕ → Line
-lineOf ss i = line i (length (slip ss i)) (placeOf ss i) (elim (isAside ss (numbers ss) i) [ true ↦ S | false ↦ K ])
+lineOf ss i = line i (length (slip ss i)) (placeOf (whole ss) i) (elim (isAside ss (numbers ss) i) [ true ↦ S | false ↦ K ])
 
 pub record Sheet : Type 0 where
   -- slips, kept, kept letters, saved, legend length
@@ -49,13 +47,13 @@ pub record Sheet : Type 0 where
 
 abbrev pub sheetOf : List (List ℕ) → Sheet
 sheetOf ss =
-    let js = plainJoins ss in
-    let t = legendOf ss in
+    let js = joinsOf (whole ss) in
+    let t = legendOf (whole ss) in
     record {
-      header = length ss ∷ length (kept ss (numbers ss)) ∷ keptLetters ss ∷ saved js ∷ length t ∷ [];
+      header = length ss ∷ length (kept ss (numbers ss)) ∷ keptLetters (whole ss) ∷ saved js ∷ length t ∷ [];
       lines = map (lineOf ss) (numbers ss);
       by-plain-rule = js;
-      by-walk = walkJoins ss;
+      by-walk = walkOf (whole ss);
       legend = t;
     }
 

@@ -11,8 +11,8 @@ use Rattle.tables.proofs.Tables.{table-length, table-at, table-take, part-table
 use Rattle.trays.specs.Limits.{maxSlips, workNeed}
 use Rattle.trays.specs.Slips.{slipsOf, numbers, total}
 use Rattle.trays.specs.Aside.{kept}
-use Rattle.greedy.specs.Joins.{Join, plainJoins, saved}
-use Rattle.greedy.specs.Claims.{keptLetters}
+use Rattle.greedy.specs.Joins.{Join, saved}
+use Rattle.greedy.specs.Composing.{whole, joinsOf, keptLetters}
 use Rattle.greedy.proofs.Demand3.{composed}
 use Rattle.layout.specs.Layout.{KEPT, JOINS}
 use Rattle.layout.specs.Tables.{cell}
@@ -85,10 +85,10 @@ module _ (s es w : List ℕ) (k j : ℕ) (a : Walked s es w k j) where
       (a .few-joins, omega (arith, a .few-joins))
 
   module _ (n m : ℕ) (e : n ≡ total (slipsOf s es) (take k (keptPart w))) (f : m ≡ thirds (joinsPart w) j) where
-    letters-are : n ≡ keptLetters (slipsOf s es)
+    letters-are : n ≡ keptLetters (whole (slipsOf s es))
     letters-are = e ∙ rw first-kept
 
-    saved-are : m ≡ saved (plainJoins (slipsOf s es))
+    saved-are : m ≡ saved (joinsOf (whole (slipsOf s es)))
     saved-are = f ∙ rw (joins-part, thirds-saved w (a .room) j (a .few-joins), a .joins-are)
 
     pub saved-fits : m ≤ n

@@ -14,8 +14,8 @@ use Rattle.trays.specs.Limits.{maxSlips, workNeed}
 use Rattle.trays.specs.Slips.{slipsOf}
 use Rattle.trays.specs.Faults.{refusal, accepted, row, orElse, firstRow, trayRows, trayFault, written}
 use Rattle.trays.proofs.Rows.{or-zero, rows-append}
-use Rattle.greedy.specs.Joins.{Join, plainJoins}
-use Rattle.greedy.specs.Legends.{legendOf}
+use Rattle.greedy.specs.Joins.{Join}
+use Rattle.greedy.specs.Composing.{whole, joinsOf, legendOf}
 use Rattle.layout.specs.Layout.{JOINS}
 use Rattle.layout.specs.Staging.{joinIn, joinsIn}
 use Rattle.answers.specs.WorkArea.{workRow}
@@ -31,38 +31,38 @@ module _ (s es w : List ℕ) (tray : trayFault s es .number ≡ 0) (room : workN
 
   outcome-rows :
       composeFault s es (length w) l j p
-      ≡ orElse (row 8 (ltb l (length (legendOf ss))) (length (legendOf ss)))
-      (orElse (row 9 (ltb j (length (plainJoins ss)) || ltb p (length ss)) (length (plainJoins ss))) accepted)
+      ≡ orElse (row 8 (ltb l (length (legendOf (whole ss)))) (length (legendOf (whole ss))))
+      (orElse (row 9 (ltb j (length (joinsOf (whole ss))) || ltb p (length ss)) (length (joinsOf (whole ss)))) accepted)
   unfolding composeFault trayFault
   outcome-rows =
       rows-append (trayRows s es)
       (workRow (length w) ∷
-      (row 8 (ltb l (length (legendOf ss))) (length (legendOf ss))
-      ∷ (row 9 (ltb j (length (plainJoins ss)) || ltb p (length ss)) (length (plainJoins ss)) ∷ [])))
+      (row 8 (ltb l (length (legendOf (whole ss)))) (length (legendOf (whole ss)))
+      ∷ (row 9 (ltb j (length (joinsOf (whole ss))) || ltb p (length ss)) (length (joinsOf (whole ss))) ∷ [])))
       ∙ or-zero (firstRow (trayRows s es)) _ tray
       ∙ rw (le-ltb (length w) workNeed room)
 
-  pub legend-short : l < length (legendOf ss) → composeFault s es (length w) l j p ≡ refusal 8 (length (legendOf ss))
-  legend-short h = outcome-rows ∙ rw (lt-ltb l (length (legendOf ss)) h)
+  pub legend-short : l < length (legendOf (whole ss)) → composeFault s es (length w) l j p ≡ refusal 8 (length (legendOf (whole ss)))
+  legend-short h = outcome-rows ∙ rw (lt-ltb l (length (legendOf (whole ss))) h)
 
-  module _ (h : length (legendOf ss) ≤ l) where
-    pub lists-short : ltb j (length (plainJoins ss)) || ltb p (length ss) ≡ true → composeFault s es (length w) l j p ≡ refusal 9 (length (plainJoins ss))
-    lists-short t = outcome-rows ∙ rw (le-ltb l (length (legendOf ss)) h, t)
+  module _ (h : length (legendOf (whole ss)) ≤ l) where
+    pub lists-short : ltb j (length (joinsOf (whole ss))) || ltb p (length ss) ≡ true → composeFault s es (length w) l j p ≡ refusal 9 (length (joinsOf (whole ss)))
+    lists-short t = outcome-rows ∙ rw (le-ltb l (length (legendOf (whole ss))) h, t)
 
-    pub nothing-short : length (plainJoins ss) ≤ j → length ss ≤ p → composeFault s es (length w) l j p ≡ accepted
-    nothing-short u v = outcome-rows ∙ rw (le-ltb l (length (legendOf ss)) h, le-ltb j (length (plainJoins ss)) u, le-ltb p (length ss) v)
+    pub nothing-short : length (joinsOf (whole ss)) ≤ j → length ss ≤ p → composeFault s es (length w) l j p ≡ accepted
+    nothing-short u v = outcome-rows ∙ rw (le-ltb l (length (legendOf (whole ss))) h, le-ltb j (length (joinsOf (whole ss))) u, le-ltb p (length ss) v)
 
 -- the two cases of the answer
 answer-refused : (s es : List ℕ) (w l j p : ℕ) (f : Refusal) (n d : ℕ) → f ≡ refusal (suc n) d → composeFault s es w l j p ≡ f →
     composedOf s es w l j p ≡ refusedBy f
 unfolding composedOf
 answer-refused s es w l j p f n d e h =
-    ap {B = Composed} (λ (g : Refusal). elim (g .number) [ zero ↦ outcomeOf (slipsOf s es) | suc m ↦ refusedBy g ]) (h ∙ e) ∙ ap refusedBy (sym e)
+    ap {B = Composed} (λ (g : Refusal). elim (g .number) [ zero ↦ outcomeOf (whole (slipsOf s es)) | suc m ↦ refusedBy g ]) (h ∙ e) ∙ ap refusedBy (sym e)
 
-pub answer-composed : (s es : List ℕ) (w l j p : ℕ) → composeFault s es w l j p ≡ accepted → composedOf s es w l j p ≡ outcomeOf (slipsOf s es)
+pub answer-composed : (s es : List ℕ) (w l j p : ℕ) → composeFault s es w l j p ≡ accepted → composedOf s es w l j p ≡ outcomeOf (whole (slipsOf s es))
 unfolding composedOf
 answer-composed s es w l j p h =
-    ap {B = Composed} (λ (g : Refusal). elim (g .number) [ zero ↦ outcomeOf (slipsOf s es) | suc m ↦ refusedBy g ]) h
+    ap {B = Composed} (λ (g : Refusal). elim (g .number) [ zero ↦ outcomeOf (whole (slipsOf s es)) | suc m ↦ refusedBy g ]) h
 
 -- a refusal in place C leaves every buffer as it was
 pub turned-back : (s es w l : List ℕ) (j p : ℕ) (f : Refusal) (n d : ℕ) (r : Composed) → f ≡ refusal (suc n) d →
@@ -70,7 +70,7 @@ pub turned-back : (s es w l : List ℕ) (j p : ℕ) (f : Refusal) (n d : ℕ) (r
 turned-back s es w l j p f n d r e h q =
     record {
       answer-is = q ∙ sym (answer-refused s es (length w) (length l) j p f n d e h);
-      legend-is = sym (ap (λ (g : Refusal). written g (legendOf (slipsOf s es)) l) (h ∙ e));
+      legend-is = sym (ap (λ (g : Refusal). written g (legendOf (whole (slipsOf s es))) l) (h ∙ e));
       same = refl;
       joins-are = λ z. absurd (no z);
       places-are = λ z. absurd (no z);

@@ -16,7 +16,8 @@ use Rattle.words.specs.Lists.{each, upFrom}
 use Rattle.words.proofs.Tests.{by-test}
 use Rattle.trays.specs.Slips.{numbers}
 use Rattle.trays.specs.Aside.{isAside, counted}
-use Rattle.greedy.specs.Legends.{Piece, piecesFor, legendOf, placeOf, placeFor}
+use Rattle.greedy.specs.Legends.{Piece, piecesFor, placeFor}
+use Rattle.greedy.specs.Composing.{whole, legendOf, placeOf}
 use Rattle.laying.specs.Places.{placedBy, asideBy}
 use Rattle.laying.proofs.PlacesAre.{laid, Once, placed-here, placed-other, aside-mark, aside-cell}
 use Rattle.answers.specs.Composing.{flatPlaces}
@@ -40,9 +41,9 @@ module _ (a b : ℕ → ℕ) where
       (rw (e, ← g) (r .0), rw (f, ← g) (r .1))
 
 pub flat-at : (ss : List (List ℕ)) (k : ℕ) → k < length ss →
-    (getD (flatPlaces ss) (2 * k) 0 ≡ placeOf ss (suc k)) × (getD (flatPlaces ss) (2 * k + 1) 0 ≡ cond (isAside ss (numbers ss) (suc k)) 0 1)
+    (getD (flatPlaces (whole ss)) (2 * k) 0 ≡ placeOf (whole ss) (suc k)) × (getD (flatPlaces (whole ss)) (2 * k + 1) 0 ≡ cond (isAside ss (numbers ss) (suc k)) 0 1)
 flat-at ss k h =
-    let r = twos-at (placeOf ss) (λ i. cond (isAside ss (numbers ss) i) 0 1) 1 (length ss) k h in
+    let r = twos-at (placeOf (whole ss)) (λ i. cond (isAside ss (numbers ss) i) 0 1) 1 (length ss) k h in
     rw (← (one-add k)) r
 
 -- a number below 2 * n is 2 * k or 2 * k + 1, for k below n
@@ -57,42 +58,42 @@ module _ (ss : List (List ℕ)) (xs : List ℕ) (room : 2 * length ss ≤ length
   ps = piecesFor counted ss (numbers ss)
 
   abbrev after : List ℕ
-  after = asideBy ss (legendOf ss) (placedBy ss xs 1 ps) (length ss)
+  after = asideBy ss (legendOf (whole ss)) (placedBy ss xs 1 ps) (length ss)
 
   module _ (once : Once ps) (which : (k : ℕ) → k < length ss → laid (suc k) ps ≡ not (isAside ss (numbers ss) (suc k)))
       (longer : length (placedBy ss xs 1 ps) ≡ length xs) where
-    cells : (k : ℕ) → k < length ss → (getD after (2 * k) 0 ≡ placeOf ss (suc k)) × (getD after (2 * k + 1) 0 ≡ cond (isAside ss (numbers ss) (suc k)) 0 1)
+    cells : (k : ℕ) → k < length ss → (getD after (2 * k) 0 ≡ placeOf (whole ss) (suc k)) × (getD after (2 * k + 1) 0 ≡ cond (isAside ss (numbers ss) (suc k)) 0 1)
     cells k h =
         by-test (isAside ss (numbers ss) (suc k))
         (λ t.
         let l : laid (suc k) ps ≡ false = which k h ∙ rw t in
         let o = placed-other ss ps xs 1 k (2 * k) once l refl in
         let z : getD (placedBy ss xs 1 ps) (2 * k + 1) 0 ≡ 0 = o .1 ∙ blank k h in (
-          aside-cell ss (legendOf ss) (placedBy ss xs 1 ps) (length ss) k h (omega arith) ∙ rw (z, t, placeFor),
-          aside-mark ss (legendOf ss) (placedBy ss xs 1 ps) (length ss) k ∙ z ∙ rw t,
+          aside-cell ss (legendOf (whole ss)) (placedBy ss xs 1 ps) (length ss) k h (omega arith) ∙ rw (z, t, placeFor),
+          aside-mark ss (legendOf (whole ss)) (placedBy ss xs 1 ps) (length ss) k ∙ z ∙ rw t,
         ))
         (λ t.
         let l : laid (suc k) ps ≡ true = which k h ∙ rw t in
         let o = placed-here ss ps xs 1 k (2 * k) once l refl (omega arith) in (
-          aside-cell ss (legendOf ss) (placedBy ss xs 1 ps) (length ss) k h (omega arith) ∙ rw (o .1, t, placeFor) (o .0),
-          aside-mark ss (legendOf ss) (placedBy ss xs 1 ps) (length ss) k ∙ o .1 ∙ rw t,
+          aside-cell ss (legendOf (whole ss)) (placedBy ss xs 1 ps) (length ss) k h (omega arith) ∙ rw (o .1, t, placeFor) (o .0),
+          aside-mark ss (legendOf (whole ss)) (placedBy ss xs 1 ps) (length ss) k ∙ o .1 ∙ rw t,
         ))
 
-    pub places-flat : 2 * length ss ≤ length after → take (2 * length ss) after ≡ flatPlaces ss
+    pub places-flat : 2 * length ss ≤ length after → take (2 * length ss) after ≡ flatPlaces (whole ss)
     places-flat l =
         let size : length (take (2 * length ss) after) ≡ 2 * length ss = length-take-le (2 * length ss) after l in
-        ext-getD 0 (take (2 * length ss) after) (flatPlaces ss)
-        (size ∙ sym (twos-length (placeOf ss) (λ i. cond (isAside ss (numbers ss) i) 0 1) 1 (length ss)))
+        ext-getD 0 (take (2 * length ss) after) (flatPlaces (whole ss))
+        (size ∙ sym (twos-length (placeOf (whole ss)) (λ i. cond (isAside ss (numbers ss) i) 0 1) 1 (length ss)))
         (λ j h.
         elim (half j (length ss) (omega arith)) [
           | inl r ↦
               getD-take (2 * length ss) after j 0 (omega arith)
               ∙ ap (λ (i : ℕ). getD after i 0) (r .2)
               ∙ cells (r .0) (r .1) .0
-              ∙ sym (ap (λ (i : ℕ). getD (flatPlaces ss) i 0) (r .2) ∙ flat-at ss (r .0) (r .1) .0)
+              ∙ sym (ap (λ (i : ℕ). getD (flatPlaces (whole ss)) i 0) (r .2) ∙ flat-at ss (r .0) (r .1) .0)
           | inr r ↦
               getD-take (2 * length ss) after j 0 (omega arith)
               ∙ ap (λ (i : ℕ). getD after i 0) (r .2)
               ∙ cells (r .0) (r .1) .1
-              ∙ sym (ap (λ (i : ℕ). getD (flatPlaces ss) i 0) (r .2) ∙ flat-at ss (r .0) (r .1) .1)
+              ∙ sym (ap (λ (i : ℕ). getD (flatPlaces (whole ss)) i 0) (r .2) ∙ flat-at ss (r .0) (r .1) .1)
         ])

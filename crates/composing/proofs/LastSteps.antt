@@ -19,8 +19,9 @@ use Rattle.trays.specs.Slips.{slipsOf, numbers}
 use Rattle.trays.specs.Aside.{kept, counted}
 use Rattle.trays.specs.Faults.{refusal, written}
 use Rattle.trays.proofs.Accepted.{accepted-tells, slips-count}
-use Rattle.greedy.specs.Joins.{Join, plainJoins, rightOf}
-use Rattle.greedy.specs.Legends.{legendOf, pieces, piecesFor}
+use Rattle.greedy.specs.Joins.{Join, rightOf}
+use Rattle.greedy.specs.Composing.{whole, joinsOf, legendOf}
+use Rattle.greedy.specs.Legends.{pieces, piecesFor}
 use Rattle.greedy.proofs.Relabel.{plain-in}
 use Rattle.greedy.proofs.Demand3.{composed}
 use Rattle.laying.specs.Laying.{staged}
@@ -68,8 +69,8 @@ module _ (s es w : List ℕ) (k j : ℕ) (left right overs : List ℕ) (a : Join
   small : (i : ℕ) → rightOf i (joinsIn w j) ≤ maxSlips
   small i =
       rw (walked .joins-are)
-      (right-most maxSlips i (plainJoins ss)
-      (all-map (λ e h. omega (arith, few-ends, kept-real s es (walked .tray) (e .right) (h .1) .1)) (plainJoins ss) (plain-in counted ss K)))
+      (right-most maxSlips i (joinsOf (whole ss))
+      (all-map (λ e h. omega (arith, few-ends, kept-real s es (walked .tray) (e .right) (h .1) .1)) (joinsOf (whole ss)) (plain-in counted ss K)))
 
   here-pieces : piecesHere w k j left right overs ≡ piecesFor counted ss (numbers ss)
   here-pieces =
@@ -116,7 +117,7 @@ module _ (s es w : List ℕ) (k j : ℕ) (left right overs : List ℕ) (a : Join
           joins-fit = omega (arith, walked .few-joins);
         }
 
-    count-plain : j ≡ length (plainJoins ss)
+    count-plain : j ≡ length (joinsOf (whole ss))
     count-plain = sym count-joins ∙ ap length (walked .joins-are)
 
     module _ (l : List ℕ) (jr pr : ℕ) where
@@ -126,16 +127,16 @@ module _ (s es w : List ℕ) (k j : ℕ) (left right overs : List ℕ) (a : Join
           (legend-short s es w (walked .tray) (walked .room) (length l) jr pr (omega (arith, h .need-is)) ∙ ap (refusal 8) (sym (h .need-is))) e
 
       module _ (q : c .need ≤ length l) where
-        short-list : (r : Composed) → ltb jr (length (plainJoins ss)) || ltb pr (length ss) ≡ true → r ≡ refusedBy (refusal 9 j) → Finished s es w w l l jr pr r
+        short-list : (r : Composed) → ltb jr (length (joinsOf (whole ss))) || ltb pr (length ss) ≡ true → r ≡ refusedBy (refusal 9 j) → Finished s es w w l l jr pr r
         short-list r t e =
             turned-back s es w l jr pr (refusal 9 j) 8 j r refl
             (lists-short s es w (walked .tray) (walked .room) (length l) jr pr (omega (arith, h .need-is)) t ∙ ap (refusal 9) (sym count-plain)) e
 
         pub last-joins : (r : Composed) → jr < j → r ≡ refusedBy (refusal 9 j) → Finished s es w w l l jr pr r
-        last-joins r u e = short-list r (or-left (ltb jr (length (plainJoins ss))) _ (lt-ltb jr (length (plainJoins ss)) (omega (arith, count-plain)))) e
+        last-joins r u e = short-list r (or-left (ltb jr (length (joinsOf (whole ss)))) _ (lt-ltb jr (length (joinsOf (whole ss))) (omega (arith, count-plain)))) e
 
         pub last-places : (r : Composed) → pr < length es → r ≡ refusedBy (refusal 9 j) → Finished s es w w l l jr pr r
-        last-places r u e = short-list r (or-right (ltb jr (length (plainJoins ss))) _ (lt-ltb pr (length ss) (omega (arith, slips-count s es)))) e
+        last-places r u e = short-list r (or-right (ltb jr (length (joinsOf (whole ss)))) _ (lt-ltb pr (length ss) (omega (arith, slips-count s es)))) e
 
         pub write-can : (xs : List ℕ) → PiecesStaged w k j left right overs xs → WritingAsks s es w l xs k (c .need)
         write-can xs p =
@@ -161,7 +162,7 @@ module _ (s es w : List ℕ) (k j : ℕ) (left right overs : List ℕ) (a : Join
             record {
               answer-is = o ∙ rw (← (slips-count s es), count-kept, h .letters-are, h .saved-are, h .need-is, count-plain)
                   (sym (answer-composed s es (length w) (length l) jr pr f));
-              legend-is = d .legend-is ∙ sym (ap (λ (g : Refusal). written g (legendOf ss) l) f);
+              legend-is = d .legend-is ∙ sym (ap (λ (g : Refusal). written g (legendOf (whole ss)) l) f);
               same = b .same;
               joins-are = λ z. rw o
                   (table-same w w′ JOINS (3 * j) (b .same) (λ i o. b .cells (JOINS + i) (omega (arith, walked .few-joins)))

@@ -20,7 +20,8 @@ use Rattle.trays.specs.Faults.{trayFault}
 use Rattle.trays.proofs.Kept.{kept-asc, in-kept, kept-in}
 use Rattle.trays.proofs.Accepted.{accepted-tells, slips-count}
 use Rattle.greedy.specs.Joins.{plainFor}
-use Rattle.greedy.specs.Legends.{Piece, added, spelled, piecesFor, legendOf}
+use Rattle.greedy.specs.Legends.{Piece, added, spelled, piecesFor}
+use Rattle.greedy.specs.Composing.{whole, legendOf}
 use Rattle.greedy.proofs.Demand3.{numbers-rise, numbers-positive}
 use Rattle.greedy.proofs.Chains.{Chain, Rep}
 use Rattle.greedy.proofs.Bound.{kept-rep}
@@ -189,7 +190,7 @@ module _ (s es : List ℕ) (acc : trayFault s es .number ≡ 0) where
     accepted-tells s es acc .small,
   )
 
-  pub legend-small : length (legendOf ss) ≤ maxLetters
+  pub legend-small : length (legendOf (whole ss)) ≤ maxLetters
   legend-small = omega (arith, kept-small, saving-of counted ss (rep .1))
 
   in-tray : All (λ p. (1 ≤ p .number) × (p .number ≤ length es)) ps

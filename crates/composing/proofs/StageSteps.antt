@@ -12,7 +12,8 @@ use Rattle.trays.specs.Slips.{slipsOf, numbers}
 use Rattle.trays.specs.Aside.{counted}
 use Rattle.trays.specs.Faults.{trayFault}
 use Rattle.trays.proofs.Accepted.{accepted-tells, slips-count}
-use Rattle.greedy.specs.Legends.{legendOf, piecesFor}
+use Rattle.greedy.specs.Legends.{piecesFor}
+use Rattle.greedy.specs.Composing.{whole, legendOf}
 use Rattle.laying.specs.Laying.{staged}
 use Rattle.laying.specs.Chains.{piecesBy, PiecesAsk, Flattened}
 use Rattle.laying.specs.Places.{placedBy, asideBy, PlacesAsk}
@@ -99,7 +100,7 @@ module _ (s es w t xs : List ℕ) (k : ℕ) (a : PlacingAsks s es w t xs k) (w�
     )
 
     module _ (p₂ : List ℕ) (e₂ : p₂ ≡ asideBy ss t (mine (back w₁ p₁)) (length es)) where
-      second-is : p₂ ≡ asideBy ss (legendOf ss) (placedBy ss (replicate size 0) 1 (piecesFor counted ss (numbers ss))) (length ss)
+      second-is : p₂ ≡ asideBy ss (legendOf (whole ss)) (placedBy ss (replicate size 0) 1 (piecesFor counted ss (numbers ss))) (length ss)
       second-is = e₂ ∙ rw (again, e₁, blank, a .pieces .are, a .legend-is, slips-count s es)
 
       second-length : length p₂ ≡ size
@@ -111,7 +112,7 @@ module _ (s es w t xs : List ℕ) (k : ℕ) (a : PlacingAsks s es w t xs k) (w�
       pub places-same : length (back (back w₁ p₁) p₂) ≡ length w
       places-same = second .only .same ∙ first .only .same ∙ long
 
-      all-flat : take (2 * length ss) p₂ ≡ flatPlaces ss
+      all-flat : take (2 * length ss) p₂ ≡ flatPlaces (whole ss)
       all-flat =
           rw second-is
           (places-flat ss (replicate size 0) room zeros (pieces-once s es (a .tray)) (pieces-which s es (a .tray))

@@ -19,8 +19,8 @@ use Rattle.trays.specs.Slips.{slipsOf}
 use Rattle.trays.specs.Faults.{row, firstRow, trayRows, trayFault}
 use Rattle.trays.proofs.Rows.{both-silent, rows-append}
 use Rattle.trays.proofs.Accepted.{rows-silent, row-silent, accepted-tells, slips-count}
-use Rattle.greedy.specs.Joins.{Join, plainJoins}
-use Rattle.greedy.specs.Legends.{legendOf}
+use Rattle.greedy.specs.Joins.{Join}
+use Rattle.greedy.specs.Composing.{whole, joinsOf, legendOf}
 use Rattle.layout.specs.Layout.{JOINS}
 use Rattle.answers.specs.WorkArea.{workRow}
 use Rattle.answers.specs.declared.Composed.{Composed}
@@ -31,7 +31,7 @@ pub record Accepts (s es w : List ℕ) (l j p : ℕ) (r : Composed) : Type 0 whe
   pub silent : composeFault s es (length w) l j p .number ≡ 0
   pub tray : trayFault s es .number ≡ 0
   pub room : workNeed ≤ length w
-  pub answer-is : r ≡ outcomeOf (slipsOf s es)
+  pub answer-is : r ≡ outcomeOf (whole (slipsOf s es))
   pub legend-fits : r .legend ≤ l
   pub joins-fit : r .joins ≤ j
   pub places-fit : r .slips ≤ p
@@ -54,12 +54,12 @@ module _ (s es w : List ℕ) (l j p : ℕ) (r : Composed) where
   f = composeFault s es (length w) l j p
 
   abbrev need : ℕ
-  need = length (legendOf ss)
+  need = length (legendOf (whole ss))
 
   abbrev joins : ℕ
-  joins = length (plainJoins ss)
+  joins = length (joinsOf (whole ss))
 
-  accepts : f .number ≡ 0 → r ≡ outcomeOf ss → Accepts s es w l j p r
+  accepts : f .number ≡ 0 → r ≡ outcomeOf (whole ss) → Accepts s es w l j p r
   unfolding composeFault trayFault
   accepts h e =
       let last = workRow (length w) ∷ (row 8 (ltb l need) need ∷ (row 9 (ltb j joins || ltb p (length ss)) joins ∷ [])) in
@@ -87,7 +87,7 @@ module _ (s es w : List ℕ) (l j p : ℕ) (r : Composed) where
         row-above = n;
         speaks = h;
         answer-is = q
-            ∙ ap {B = Composed} (λ (m : ℕ). elim m [ zero ↦ outcomeOf ss | suc k ↦ refusedBy f ]) h;
+            ∙ ap {B = Composed} (λ (m : ℕ). elim m [ zero ↦ outcomeOf (whole ss) | suc k ↦ refusedBy f ]) h;
       })
 
 -- the staged joins stand within the work area
@@ -96,7 +96,7 @@ pub staged-room : (s es w w′ l l′ : List ℕ) (j p : ℕ) (r : Composed) →
 unfolding table
 staged-room s es w w′ l l′ j p r st a =
     let e = ap length (st .joins-are (ap (λ (c : Composed). c .number) (a .answer-is))) in
-    let m = flat-length (plainJoins (slipsOf s es)) in
+    let m = flat-length (joinsOf (whole (slipsOf s es))) in
     let n = ap (λ (c : Composed). c .joins) (a .answer-is) in
     by-test (leb (JOINS + 3 * r .joins) (length w′))
     (λ h. leb-true (JOINS + 3 * r .joins) (length w′) h)

@@ -14,8 +14,8 @@ use Rattle.trays.specs.Slips.{slipsOf, numbers}
 use Rattle.trays.specs.Aside.{kept, counted}
 use Rattle.trays.specs.Faults.{refusal, accepted, row, firstRow, trayRows, trayFault}
 use Rattle.trays.proofs.Rows.{or-zero, or-some, rows-append}
-use Rattle.greedy.specs.Joins.{plainFor, plainJoins}
-use Rattle.greedy.specs.Legends.{legendOf}
+use Rattle.greedy.specs.Joins.{plainFor}
+use Rattle.greedy.specs.Composing.{whole, joinsOf, legendOf}
 use Rattle.layout.specs.Layout.{KEPT}
 use Rattle.layout.specs.Tables.{members}
 use Rattle.layout.specs.Staging.{keptIn}
@@ -86,8 +86,8 @@ module _ (s es w l : List ℕ) (jr pr : ℕ) (r : Composed) where
   abbrev lastRows : List Refusal
   lastRows =
       let ss = slipsOf s es in
-      let need = length (legendOf ss) in
-      let joins = length (plainJoins ss) in
+      let need = length (legendOf (whole ss)) in
+      let joins = length (joinsOf (whole ss)) in
       workRow (length w) ∷ (row 8 (ltb (length l) need) need ∷ (row 9 (ltb jr joins || ltb pr (length ss)) joins ∷ []))
 
   refused-before : (f : Refusal) (n d : ℕ) → f ≡ refusal (suc n) d → composeFault s es (length w) (length l) jr pr ≡ f → r ≡ refusedBy f →

@@ -7,7 +7,8 @@ use lib.ListN.{length, take}
 use lib.Seq.{take-at}
 use Rattle.words.specs.Lists.{over}
 use Rattle.trays.specs.Slips.{slipsOf}
-use Rattle.greedy.specs.Legends.{spelled, legendOf}
+use Rattle.greedy.specs.Legends.{spelled}
+use Rattle.greedy.specs.Composing.{whole, legendOf}
 use Rattle.laying.specs.Laying.{staged, CanLay}
 use Rattle.composing.specs.steps.Composing.{PlacingAsks, Placed, WritingAsks, Written}
 use Rattle.composing.proofs.PiecesFit.{pieces-fit, kept-few}
@@ -23,11 +24,11 @@ module _ (s es w l xs : List ℕ) (k need : ℕ) (a : WritingAsks s es w l xs k 
       }
 
   module _ (l₁ : List ℕ) (e : l₁ ≡ over (spelled (slipsOf s es) (staged xs 0 k)) l) where
-    laid-is : l₁ ≡ over (legendOf (slipsOf s es)) l
+    laid-is : l₁ ≡ over (legendOf (whole (slipsOf s es))) l
     laid-is = e ∙ rw (a .pieces .are)
 
-    first-is : take need l₁ ≡ legendOf (slipsOf s es)
-    first-is = rw laid-is (take-at (legendOf (slipsOf s es)) _ need (sym (a .need-is)))
+    first-is : take need l₁ ≡ legendOf (whole (slipsOf s es))
+    first-is = rw laid-is (take-at (legendOf (whole (slipsOf s es))) _ need (sym (a .need-is)))
 
     pub lent-count : need ≡ length (take need l₁)
     lent-count = a .need-is ∙ sym (ap length first-is)

@@ -12,21 +12,22 @@ use Rattle.matching.specs.Occurrences as O
 use Rattle.matching.specs.Occurrences.{occurrences}
 use Rattle.answers.specs.declared.Found.{Found}
 use Rattle.searching.specs.declared.Begun.{Begun}
-use Rattle.answers.specs.Finding.{findFault, recordOf, FindSays}
+use Rattle.answers.specs.Finding.{findFault, FindSays}
+use Rattle.answers.specs.Finding.{foundRecord}
 use Rattle.searching.specs.steps.Searching.{foundAt, Left, CoreSays}
 use Rattle.searching.proofs.Answering.{none-stored, all-stored, answered-after}
 
-records-are : (s es t : List ℕ) (n : ℕ) → n ≡ length (occurrences (slipsOf s es) t) → firsts (foundAt s es t) n ≡ map recordOf (occurrences (slipsOf s es) t)
+records-are : (s es t : List ℕ) (n : ℕ) → n ≡ length (occurrences (slipsOf s es) t) → firsts (foundAt s es t) n ≡ map foundRecord (occurrences (slipsOf s es) t)
 records-are s es t n e =
     let os = occurrences (slipsOf s es) t in
-    ap (firsts (foundAt s es t)) (e ∙ sym (length-map os recordOf))
-    ∙ firsts-are (foundAt s es t) (recordOf (O.found 0 0)) (map recordOf os) (λ i l. sym (List·getD-map recordOf os i (O.found 0 0)))
+    ap (firsts (foundAt s es t)) (e ∙ sym (length-map os foundRecord))
+    ∙ firsts-are (foundAt s es t) (foundRecord (O.found 0 0)) (map foundRecord os) (λ i l. sym (List·getD-map foundRecord os i (O.found 0 0)))
 
 pub find-says : {s es t w w₁ w′ : List ℕ} {o o′ : List Found} {r : Begun} → CoreSays s es t w w₁ (length o) r
     → o′ ≡ over (firsts (foundAt s es t) (r .count)) o → Left s es t (r .count) w₁ w′ → FindSays s es t w w′ o o′ (r .answer)
 find-says {s} {es} {t} {w} {o = o} {r = r} c e l =
     let f = findFault s es t (length w) (length o) in
-    let xs = map recordOf (occurrences (slipsOf s es) t) in
+    let xs = map foundRecord (occurrences (slipsOf s es) t) in
     record {
       answered = answered-after c l;
       found-are =

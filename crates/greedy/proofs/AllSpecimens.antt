@@ -14,10 +14,9 @@ use Prim.Native.String.{String}
 use Rattle.words.specs.Quoted.{word}
 use Rattle.trays.specs.Slips.{numbers}
 use Rattle.trays.specs.Aside.{kept}
-use Rattle.greedy.specs.Joins.{Join, join, plainJoins, saved}
-use Rattle.greedy.specs.Walk.{walkJoins}
-use Rattle.greedy.specs.Legends.{legendOf, placeOf}
-use Rattle.greedy.specs.Claims.{holdsAll, keptLetters, bound}
+use Rattle.greedy.specs.Joins.{Join, join, saved}
+use Rattle.greedy.specs.Composing.{whole, joinsOf, walkOf, legendOf, placeOf, keptLetters}
+use Rattle.greedy.specs.Claims.{holdsAll, bound}
 
 pub record Outcome : Type 0 where
   pub kept-slips : List ℕ
@@ -32,12 +31,12 @@ abbrev pub outcomeOf : List (List ℕ) → Outcome
 outcomeOf ss =
     record {
       kept-slips = kept ss (numbers ss);
-      by-plain-rule = plainJoins ss;
-      by-walk = walkJoins ss;
-      legend = legendOf ss;
-      places = map (placeOf ss) (numbers ss);
-      saving = saved (plainJoins ss);
-      letters = keptLetters ss;
+      by-plain-rule = joinsOf (whole ss);
+      by-walk = walkOf (whole ss);
+      legend = legendOf (whole ss);
+      places = map (placeOf (whole ss)) (numbers ss);
+      saving = saved (joinsOf (whole ss));
+      letters = keptLetters (whole ss);
     }
 
 pub record Specimen : Type 0 where
@@ -123,5 +122,5 @@ abbrev pub tightTray : List (List ℕ)
 tightTray = map word ("CA" ∷ "AB" ∷ "ADA" ∷ [])
 
 pub tight :
-    (holdsAll tightTray (kept tightTray (numbers tightTray)) (word "CADAB") ≡ true) × (keptLetters tightTray ≡ bound tightTray (word "CADAB"))
+    (holdsAll tightTray (kept tightTray (numbers tightTray)) (word "CADAB") ≡ true) × (keptLetters (whole tightTray) ≡ bound (whole tightTray) (word "CADAB"))
 tight = (refl, refl)

@@ -6,7 +6,8 @@ use Rattle.words.specs.Lists.{upFrom}
 use Rattle.words.proofs.Members.{In, Asc, in-upFrom, asc-upFrom}
 use Rattle.trays.specs.Slips.{numbers, slipsOf}
 use Rattle.trays.specs.Aside.{counted}
-use Rattle.greedy.specs.Claims.{Composed, Demand-3}
+use Rattle.greedy.specs.Composing.{whole}
+use Rattle.greedy.specs.Claims.{Greedy, Demand-3}
 use Rattle.greedy.proofs.OneList.{walk-is-plain}
 use Rattle.greedy.proofs.Letters.{saving-of, holds-of}
 use Rattle.greedy.proofs.Bound.{kept-rep, kept-at-most-twice}
@@ -18,7 +19,7 @@ numbers-rise ss = asc-upFrom 1 (length ss)
 pub numbers-positive : (ss : List (List ℕ)) (i : ℕ) → In i (numbers ss) → 1 ≤ i
 numbers-positive ss i h = in-upFrom 1 (length ss) h .0
 
-pub composed : (ss : List (List ℕ)) → Composed ss
+pub composed : (ss : List (List ℕ)) → Greedy (whole ss)
 composed ss =
     let r = kept-rep ss (numbers ss) (numbers-rise ss) (numbers-positive ss) counted in
     record {

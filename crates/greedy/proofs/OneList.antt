@@ -28,8 +28,9 @@ use Rattle.words.proofs.Overlaps.{Counts, nonEmpty-counts, counts-some, overlap
 use Rattle.trays.specs.Slips.{slip, numbers}
 use Rattle.trays.specs.Aside.{kept, counted}
 use Rattle.trays.proofs.Kept.{kept-asc, in-kept, kept-proper}
-use Rattle.greedy.specs.Joins.{Join, join, arcs, stringOf, firstArc, plainFor, plainJoins}
-use Rattle.greedy.specs.Walk.{prefixesTo, sooner, walkFor, walkJoins}
+use Rattle.greedy.specs.Joins.{Join, join, arcs, stringOf, firstArc, plainFor}
+use Rattle.greedy.specs.Composing.{whole, joinsOf, walkOf}
+use Rattle.greedy.specs.Walk.{prefixesTo, sooner, walkFor}
 use Rattle.greedy.proofs.Takes.{sound-nil, refused-last, Cover, take-thin}
 use Rattle.greedy.proofs.Arcs.{Prior, firstArc-irr, firstArc-tr, firstArc-not, IsArc, arcs-sorted, in-arcs, arcs-in, byNumbers}
 use Rattle.greedy.proofs.Visits.{tie, tiesTo, ties, Tied, in-tie, in-tiesTo, in-ties, ties-in, walk-takes}
@@ -168,7 +169,7 @@ kept-ready counts ss M C a p =
       proper = kept-proper ss M;
     }
 
-pub walk-is-plain : (ss : List (List ℕ)) → walkJoins ss ≡ plainJoins ss
+pub walk-is-plain : (ss : List (List ℕ)) → walkOf (whole ss) ≡ joinsOf (whole ss)
 walk-is-plain ss =
     one-list counted ss (kept ss (numbers ss))
     (kept-ready counted ss (numbers ss) nonEmpty-counts (asc-upFrom 1 (length ss)) (λ k m. in-upFrom 1 (length ss) m .0))

@@ -8,32 +8,28 @@ use Rattle.words.specs.Words.{standsIn}
 use Rattle.trays.specs.Slips.{slipsOf, slip, numbers, total}
 use Rattle.trays.specs.Aside.{kept}
 use Rattle.trays.specs.Faults.{trayFault}
-use Rattle.greedy.specs.Joins.{plainJoins, saved}
-use Rattle.greedy.specs.Walk.{walkJoins}
-use Rattle.greedy.specs.Legends.{legendOf}
+use Rattle.greedy.specs.Joins.{saved}
+use Rattle.greedy.specs.Composing.{Composing, whole, keptOf, joinsOf, walkOf, legendOf, keptLetters}
 
 -- Document 01: a text holds a slip whose letters stand in it as one stretch. Here: it holds every slip of K.
 abbrev pub holdsAll : List (List ℕ) → List ℕ → List ℕ → Bool
 holdsAll ss [] t = true
 holdsAll ss (i ∷ is) t = standsIn (slip ss i) t && holdsAll ss is t
 
--- Document 01: kept letters is the sum of the kept slips' lengths.
-abbrev pub keptLetters : List (List ℕ) → ℕ
-keptLetters ss = total ss (kept ss (numbers ss))
-
 -- Document 01: a text's length + 2 × saved.
-abbrev pub bound : List (List ℕ) → List ℕ → ℕ
-bound ss t = length t + 2 * saved (plainJoins ss)
+abbrev pub bound : Composing → List ℕ → ℕ
+bound c t = length t + 2 * saved (joinsOf c)
 
-pub record Composed (ss : List (List ℕ)) : Type 0 where
+-- what is claimed of all that is composed
+pub record Greedy (c : Composing) : Type 0 where
   -- the walk and the plain rule make one list, join by join and in order
-  pub one-list : walkJoins ss ≡ plainJoins ss
+  pub one-list : walkOf c ≡ joinsOf c
   -- kept letters = saved + legend length
-  pub saving : keptLetters ss ≡ saved (plainJoins ss) + length (legendOf ss)
+  pub saving : keptLetters c ≡ saved (joinsOf c) + length (legendOf c)
   -- the legend holds every kept slip
-  pub legend-holds : holdsAll ss (kept ss (numbers ss)) (legendOf ss) ≡ true
+  pub legend-holds : holdsAll (c .slips) (keptOf c) (legendOf c) ≡ true
   -- any text that holds every kept slip saves at most twice as much
-  pub at-most-twice : (t : List ℕ) → holdsAll ss (kept ss (numbers ss)) t ≡ true → keptLetters ss ≤ bound ss t
+  pub at-most-twice : (t : List ℕ) → holdsAll (c .slips) (keptOf c) t ≡ true → keptLetters c ≤ bound c t
 
 abbrev pub Demand-3 : Type 0
-Demand-3 = (s es : List ℕ) → trayFault s es .number ≡ 0 → Composed (slipsOf s es)
+Demand-3 = (s es : List ℕ) → trayFault s es .number ≡ 0 → Greedy (whole (slipsOf s es))

@@ -79,10 +79,6 @@ takeArcs (a ∷ bs) js = takeArcs bs (takeArc a js)
 abbrev pub plainFor : (List ℕ → Bool) → List (List ℕ) → List ℕ → List Join
 plainFor counts ss K = takeArcs (inOrder (firstArc ss) (arcs counts ss K)) []
 
--- the plain rule over the kept slips of a tray
-abbrev pub plainJoins : List (List ℕ) → List Join
-plainJoins ss = plainFor counted ss (kept ss (numbers ss))
-
 abbrev pub saved : List Join → ℕ
 saved [] = 0
 saved (j ∷ js) = j .overlap + saved js

@@ -56,10 +56,6 @@ piecesFor counts ss M = let K = kept ss M in pieces (plainFor counts ss K) K
 abbrev pub legendFor : (List ℕ → Bool) → List (List ℕ) → List ℕ → List ℕ
 legendFor counts ss M = spelled ss (piecesFor counts ss M)
 
--- the legend of a tray
-abbrev pub legendOf : List (List ℕ) → List ℕ
-legendOf ss = legendFor counted ss (numbers ss)
-
 abbrev pub placeIn : List (List ℕ) → ℕ → ℕ → List Piece → ℕ
 placeIn ss i here [] = 0
 placeIn ss i here (p ∷ ps) =
@@ -74,7 +70,3 @@ abbrev pub placeFor : (List ℕ → Bool) → List (List ℕ) → List ℕ → �
 placeFor counts ss M i =
     elim (isAside ss M i)
     [ true ↦ lowest 1 (slip ss i) (legendFor counts ss M) | false ↦ placeIn ss i 1 (piecesFor counts ss M) ]
-
--- the place of a slip of a tray
-abbrev pub placeOf : List (List ℕ) → ℕ → ℕ
-placeOf ss i = placeFor counted ss (numbers ss) i

@@ -2,4 +2,5 @@
 pub mod Joins
 pub mod Walk
 pub mod Legends
+pub mod Composing
 pub mod Claims

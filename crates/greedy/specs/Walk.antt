@@ -53,7 +53,3 @@ walkFrom ss K (x ∷ xs) js = walkFrom ss K xs (visit ss K x K js)
 -- Document 01: visit each different non-empty beginning of kept slips.
 abbrev pub walkFor : (List ℕ → Bool) → List (List ℕ) → List ℕ → List Join
 walkFor counts ss K = walkFrom ss K (inOrder sooner (beginnings counts ss K)) []
-
--- the walk over the kept slips of a tray
-abbrev pub walkJoins : List (List ℕ) → List Join
-walkJoins ss = walkFor counted ss (kept ss (numbers ss))

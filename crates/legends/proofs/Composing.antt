@@ -12,7 +12,7 @@ use Rattle.trays.specs.declared.Refusal.{Refusal}
 use Rattle.trays.specs.Slips.{slipsOf, numbers}
 use Rattle.trays.specs.Faults.{written}
 use Rattle.trays.proofs.Rows.{written-all, written-none}
-use Rattle.greedy.specs.Joins.{plainJoins}
+use Rattle.greedy.specs.Composing.{whole, joinsOf}
 use Rattle.tables.specs.Tables.{table}
 use Rattle.layout.specs.Layout.{JOINS, PLACES}
 use Rattle.answers.specs.declared.Composed.{Composed}
@@ -23,7 +23,8 @@ use Rattle.answers.specs.declared.Join.{Join}
 use Rattle.answers.specs.declared.Place.{Place}
 use Rattle.legends.specs.declared.Counted.{Counted}
 use Rattle.legends.specs.steps.Made.{joinAt, placeAt}
-use Rattle.answers.specs.Records.{recordOf, placed, faultOf, ComposeSays}
+use Rattle.answers.specs.Records.{faultOf, ComposeSays}
+use Rattle.answers.specs.Records.{joinRecord, placeRecord}
 use Rattle.legends.specs.steps.Made.{StagedCounts}
 use Rattle.legends.proofs.Records.{joins-made, places-made}
 
@@ -40,16 +41,16 @@ module _ (s es w w′ l l′ : List ℕ) (js : List Join) (ps : List Place) (r :
   by-answer good bad = staged-tells s es w (length l) (length js) (length ps) (r .answer) (c .stages .answer-is) good bad
 
   module _ (a : Accepts s es w (length l) (length js) (length ps) (r .answer)) where
-    all-joins : r .answer .joins ≡ length (plainJoins ss)
+    all-joins : r .answer .joins ≡ length (joinsOf (whole ss))
     all-joins = ap (λ (x : Composed). x .joins) (a .answer-is)
 
     all-places : r .answer .slips ≡ length ss
     all-places = ap (λ (x : Composed). x .slips) (a .answer-is)
 
-    joins-staged : table w′ JOINS (3 * length (plainJoins ss)) ≡ flatJoins (plainJoins ss)
+    joins-staged : table w′ JOINS (3 * length (joinsOf (whole ss))) ≡ flatJoins (joinsOf (whole ss))
     joins-staged = ap (λ (n : ℕ). table w′ JOINS (3 * n)) (sym all-joins) ∙ c .stages .joins-are (ap (λ (x : Composed). x .number) (a .answer-is))
 
-    places-staged : table w′ PLACES (2 * length ss) ≡ flatPlaces ss
+    places-staged : table w′ PLACES (2 * length ss) ≡ flatPlaces (whole ss)
     places-staged = ap (λ (n : ℕ). table w′ PLACES (2 * n)) (sym all-places) ∙ c .stages .places-are (ap (λ (x : Composed). x .number) (a .answer-is))
 
   module _ (a : Refuses s es w (length l) (length js) (length ps) (r .answer)) where
@@ -77,20 +78,20 @@ module _ (s es w w′ l l′ : List ℕ) (js : List Join) (ps : List Place) (r :
       ))
       (λ a. let e = no-places a in (omega arith, (omega arith, omega arith)))
 
-  joins-stored : over (firsts (joinAt w′) (r .joins)) js ≡ written f (map recordOf (plainJoins ss)) js
+  joins-stored : over (firsts (joinAt w′) (r .joins)) js ≡ written f (map joinRecord (joinsOf (whole ss))) js
   joins-stored =
       by-answer
       (λ a. ap (λ (n : ℕ). over (firsts (joinAt w′) n) js) (c .joins-is ∙ all-joins a)
-      ∙ ap (λ (xs : List Join). over xs js) (joins-made w′ (plainJoins ss) (joins-staged a))
-      ∙ sym (written-all f (map recordOf (plainJoins ss)) js (a .silent)))
-      (λ a. ap (λ (n : ℕ). over (firsts (joinAt w′) n) js) (no-joins a) ∙ sym (written-none f (map recordOf (plainJoins ss)) js (omega (arith, a .speaks))))
+      ∙ ap (λ (xs : List Join). over xs js) (joins-made w′ (joinsOf (whole ss)) (joins-staged a))
+      ∙ sym (written-all f (map joinRecord (joinsOf (whole ss))) js (a .silent)))
+      (λ a. ap (λ (n : ℕ). over (firsts (joinAt w′) n) js) (no-joins a) ∙ sym (written-none f (map joinRecord (joinsOf (whole ss))) js (omega (arith, a .speaks))))
 
-  places-stored : over (firsts (placeAt w′) (r .places)) ps ≡ written f (map (placed ss) (numbers ss)) ps
+  places-stored : over (firsts (placeAt w′) (r .places)) ps ≡ written f (map (placeRecord (whole ss)) (numbers ss)) ps
   places-stored =
       by-answer
       (λ a. ap (λ (n : ℕ). over (firsts (placeAt w′) n) ps) (c .places-is ∙ all-places a)
-      ∙ ap (λ (xs : List Place). over xs ps) (places-made w′ ss (places-staged a)) ∙ sym (written-all f (map (placed ss) (numbers ss)) ps (a .silent)))
-      (λ a. ap (λ (n : ℕ). over (firsts (placeAt w′) n) ps) (no-places a) ∙ sym (written-none f (map (placed ss) (numbers ss)) ps (omega (arith, a .speaks))))
+      ∙ ap (λ (xs : List Place). over xs ps) (places-made w′ ss (places-staged a)) ∙ sym (written-all f (map (placeRecord (whole ss)) (numbers ss)) ps (a .silent)))
+      (λ a. ap (λ (n : ℕ). over (firsts (placeAt w′) n) ps) (no-places a) ∙ sym (written-none f (map (placeRecord (whole ss)) (numbers ss)) ps (omega (arith, a .speaks))))
 
   pub composing-says : (js′ : List Join) (ps′ : List Place) → js′ ≡ over (firsts (joinAt w′) (r .joins)) js →
       ps′ ≡ over (firsts (placeAt w′) (r .places)) ps → ComposeSays s es w w′ l l′ js js′ ps ps′ (r .answer)

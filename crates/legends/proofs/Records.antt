@@ -18,6 +18,7 @@ use Rattle.tables.specs.Tables.{table}
 use Rattle.tables.proofs.Tables.{table-at}
 use Rattle.layout.specs.Layout.{JOINS, PLACES}
 use Rattle.layout.specs.Tables.{cell}
+use Rattle.greedy.specs.Composing.{whole}
 use Rattle.answers.specs.Composing.{flatJoins, flatPlaces}
 use Rattle.composing.proofs.FlatPlaces.{flat-at}
 use Rattle.stores.specs.Firsts.{firsts}
@@ -26,7 +27,7 @@ use Rattle.stores.proofs.Firsts.{getD-map-upFrom, firsts-are}
 use Rattle.answers.specs.declared.Join.{Join}
 use Rattle.answers.specs.declared.Place.{Place}
 use Rattle.legends.specs.steps.Made.{joinAt, placeAt}
-use Rattle.answers.specs.Records.{recordOf, placed}
+use Rattle.answers.specs.Records.{joinRecord, placeRecord}
 
 -- records are equal where their fields are
 join-by : (a b c : ℕ) (x : Join) → a ≡ x .left → b ≡ x .right → c ≡ x .overlap → record { left = a; right = b; overlap = c } ≡ x
@@ -45,9 +46,9 @@ abbrev none : Join
 none = record { left = 0; right = 0; overlap = 0 }
 
 joins-flat : (js : List G.Join) (i : ℕ) → i < length js
-    → (getD (flatJoins js) (3 * i) 0 ≡ getD (map recordOf js) i none .left)
-    × ((getD (flatJoins js) (3 * i + 1) 0 ≡ getD (map recordOf js) i none .right)
-    × (getD (flatJoins js) (3 * i + 2) 0 ≡ getD (map recordOf js) i none .overlap))
+    → (getD (flatJoins js) (3 * i) 0 ≡ getD (map joinRecord js) i none .left)
+    × ((getD (flatJoins js) (3 * i + 1) 0 ≡ getD (map joinRecord js) i none .right)
+    × (getD (flatJoins js) (3 * i + 2) 0 ≡ getD (map joinRecord js) i none .overlap))
 joins-flat [] i h = absurd (omega arith)
 joins-flat (j ∷ js) zero h = (refl, (refl, refl))
 joins-flat (j ∷ js) (suc i) h =
@@ -58,17 +59,17 @@ joins-flat (j ∷ js) (suc i) h =
     (rw a (r .0), (rw b (r .1 .0), rw c (r .1 .1)))
 
 module _ (w : List ℕ) (js : List G.Join) (e : table w JOINS (3 * length js) ≡ flatJoins js) where
-  join-made : (i : ℕ) → i < length js → joinAt w i ≡ getD (map recordOf js) i none
+  join-made : (i : ℕ) → i < length js → joinAt w i ≡ getD (map joinRecord js) i none
   join-made i h =
       let is = cell-in w JOINS (3 * length js) (flatJoins js) e in
       let r = joins-flat js i h in
-      join-by _ _ _ (getD (map recordOf js) i none) (is (3 * i) (omega arith) ∙ r .0) (is (3 * i + 1) (omega arith) ∙ r .1 .0)
+      join-by _ _ _ (getD (map joinRecord js) i none) (is (3 * i) (omega arith) ∙ r .0) (is (3 * i + 1) (omega arith) ∙ r .1 .0)
       (is (3 * i + 2) (omega arith) ∙ r .1 .1)
 
-  pub joins-made : firsts (joinAt w) (length js) ≡ map recordOf js
+  pub joins-made : firsts (joinAt w) (length js) ≡ map joinRecord js
   joins-made =
-      ap (firsts (joinAt w)) (sym (length-map js recordOf))
-      ∙ firsts-are (joinAt w) none (map recordOf js) (λ i h. join-made i (omega (arith, length-map js recordOf)))
+      ap (firsts (joinAt w)) (sym (length-map js joinRecord))
+      ∙ firsts-are (joinAt w) none (map joinRecord js) (λ i h. join-made i (omega (arith, length-map js joinRecord)))
 
 -- the places, two numbers each
 mark-kept : (b : Bool) → eqb (cond b 0 1) 1 ≡ not b
@@ -78,20 +79,20 @@ mark-kept false = refl
 abbrev nowhere : Place
 nowhere = record { slip = 0; place = 0; kept = false }
 
-module _ (w : List ℕ) (ss : List (List ℕ)) (e : table w PLACES (2 * length ss) ≡ flatPlaces ss) where
-  place-made : (i : ℕ) → i < length ss → placeAt w i ≡ placed ss (suc i)
+module _ (w : List ℕ) (ss : List (List ℕ)) (e : table w PLACES (2 * length ss) ≡ flatPlaces (whole ss)) where
+  place-made : (i : ℕ) → i < length ss → placeAt w i ≡ placeRecord (whole ss) (suc i)
   place-made i h =
-      let is = cell-in w PLACES (2 * length ss) (flatPlaces ss) e in
+      let is = cell-in w PLACES (2 * length ss) (flatPlaces (whole ss)) e in
       let r = flat-at ss i h in
-      place-by _ _ _ (placed ss (suc i)) (add-one i) (is (2 * i) (omega arith) ∙ r .0)
+      place-by _ _ _ (placeRecord (whole ss) (suc i)) (add-one i) (is (2 * i) (omega arith) ∙ r .0)
       (ap (λ (m : ℕ). eqb m 1) (is (2 * i + 1) (omega arith) ∙ r .1) ∙ mark-kept (isAside ss (numbers ss) (suc i)))
 
-  pub places-made : firsts (placeAt w) (length ss) ≡ map (placed ss) (numbers ss)
+  pub places-made : firsts (placeAt w) (length ss) ≡ map (placeRecord (whole ss)) (numbers ss)
   places-made =
       ap (firsts (placeAt w)) (sym long)
-      ∙ firsts-are (placeAt w) nowhere (map (placed ss) (numbers ss))
+      ∙ firsts-are (placeAt w) nowhere (map (placeRecord (whole ss)) (numbers ss))
       (λ i h. let l : i < length ss = omega (arith, long) in
-      place-made i l ∙ sym (getD-map-upFrom (placed ss) nowhere 1 (length ss) i l ∙ ap (placed ss) (one-add i)))
+      place-made i l ∙ sym (getD-map-upFrom (placeRecord (whole ss)) nowhere 1 (length ss) i l ∙ ap (placeRecord (whole ss)) (one-add i)))
     where
-      long : length (map (placed ss) (numbers ss)) ≡ length ss
-      long = length-map (numbers ss) (placed ss) ∙ length-upFrom 1 (length ss)
+      long : length (map (placeRecord (whole ss)) (numbers ss)) ≡ length ss
+      long = length-map (numbers ss) (placeRecord (whole ss)) ∙ length-upFrom 1 (length ss)

@@ -19,7 +19,8 @@ use Rattle.trays.proofs.Rows.{by-number}
 use Rattle.matching.specs.Occurrences.{found, occurrences}
 use Rattle.answers.specs.declared.Search.{Search}
 use Rattle.answers.specs.Finding as F
-use Rattle.answers.specs.Finding.{textRows, listRow, outcomeOf, refusedBy, flatFound}
+use Rattle.answers.specs.Finding.{textRows, listRow, flatFound}
+use Rattle.answers.specs.Finding.{searchOutcome, searchRefused}
 use Rattle.answers.specs.Finding.{FindFlat}
 use Rattle.searching.proofs.Answering.{answer-found, answer-refused}
 use Rattle.sheets.specs.Sheets.{detailWidth, refusedLine, refusedSize, findLines, findSheetOf, maxFound}
@@ -54,12 +55,12 @@ module _ (s es t w f o : List ℕ) (room : TextRoom w f o) where
       ∙ ap (λ (m : ℕ). firstRow (trayRows s es ++ (textRows t ++ (listRow ss t m ∷ [])))) k
 
   module _ (w′ f′ : List ℕ) (r : Search) (a : FindFlat s es t w w′ f f′ r) where
-    found-as : textFault s es t .number ≡ 0 → r ≡ outcomeOf ss t
+    found-as : textFault s es t .number ≡ 0 → r ≡ searchOutcome ss t
     found-as h = a .answered .answer-is ∙ answer-found s es t (length w) (length f / 2) (ap (λ (g : Refusal). g .number) own-fault ∙ h)
 
-    refused-by : 1 ≤ textFault s es t .number → r ≡ refusedBy (textFault s es t)
+    refused-by : 1 ≤ textFault s es t .number → r ≡ searchRefused (textFault s es t)
     refused-by h =
-        a .answered .answer-is ∙ answer-refused s es t (length w) (length f / 2) (rw own-fault h) ∙ ap refusedBy own-fault
+        a .answered .answer-is ∙ answer-refused s es t (length w) (length f / 2) (rw own-fault h) ∙ ap searchRefused own-fault
 
     -- turned back: the line of the refusal
     module _ (z : r .number ≡ 0 → ⊥) where
@@ -95,7 +96,7 @@ module _ (s es t w f o : List ℕ) (room : TextRoom w f o) where
           no : (n : ℕ) → 1 ≤ n → n ≡ 0 → ⊥
           no n x y = omega arith
 
-      answer : r ≡ outcomeOf ss t
+      answer : r ≡ searchOutcome ss t
       answer = found-as silent
 
       tells : TextAccepted s es t

@@ -21,8 +21,7 @@ use Rattle.trays.specs.Limits.{maxSlips, workNeed}
 use Rattle.trays.specs.Slips.{slipsOf}
 use Rattle.trays.specs.Faults.{refusal, accepted, row, firstRow, written, trayRows, trayFault}
 use Rattle.trays.proofs.Rows.{or-zero, or-some, rows-append}
-use Rattle.greedy.specs.Joins.{plainJoins}
-use Rattle.greedy.specs.Legends.{legendOf}
+use Rattle.greedy.specs.Composing.{whole, joinsOf, legendOf}
 use Rattle.layout.specs.Layout.{JOINS, PLACES}
 use Rattle.answers.specs.declared.Composed.{Composed}
 use Rattle.answers.specs.WorkArea.{workRow}
@@ -59,10 +58,10 @@ module _ (s es w l o : List ℕ) (room : TrayRoom w l o) where
   ss = slipsOf s es
 
   abbrev need : ℕ
-  need = length (legendOf ss)
+  need = length (legendOf (whole ss))
 
   abbrev joins : ℕ
-  joins = length (plainJoins ss)
+  joins = length (joinsOf (whole ss))
 
   abbrev lastRows : List Refusal
   lastRows =
@@ -86,7 +85,7 @@ module _ (s es w l o : List ℕ) (room : TrayRoom w l o) where
   speaks p = rows-append (trayRows s es) lastRows ∙ or-some (firstRow (trayRows s es)) (firstRow lastRows) p
 
   module _ (w′ l′ : List ℕ) (r : Composed) (st : Staged s es w w′ l l′ maxSlips maxSlips r) where
-    pub tray-cases : {P : Type 0} → (trayFault s es .number ≡ 0 → r ≡ outcomeOf ss → l′ ≡ over (legendOf ss) l → P) →
+    pub tray-cases : {P : Type 0} → (trayFault s es .number ≡ 0 → r ≡ outcomeOf (whole ss) → l′ ≡ over (legendOf (whole ss)) l → P) →
         ((n : ℕ) → trayFault s es .number ≡ suc n → r ≡ refusedBy (trayFault s es) → P) → P
     unfolding composedOf
     tray-cases {P} good bad = go (trayFault s es .number) refl
@@ -127,13 +126,13 @@ module _ (s es w l o : List ℕ) (room : TrayRoom w l o) where
           no : (n : ℕ) → suc n ≡ 0 → ⊥
           no n q = omega arith
 
-      answer : r ≡ outcomeOf ss
+      answer : r ≡ outcomeOf (whole ss)
       answer = tray-cases (λ h e t. e) (λ n h e. absurd (no n h tray))
         where
           no : (n : ℕ) → trayFault s es .number ≡ suc n → trayFault s es .number ≡ 0 → ⊥
           no n p q = omega arith
 
-      laid : l′ ≡ over (legendOf ss) l
+      laid : l′ ≡ over (legendOf (whole ss)) l
       laid = tray-cases (λ h e t. t) (λ n h e. absurd (no n h tray))
         where
           no : (n : ℕ) → trayFault s es .number ≡ suc n → trayFault s es .number ≡ 0 → ⊥
@@ -142,7 +141,7 @@ module _ (s es w l o : List ℕ) (room : TrayRoom w l o) where
       pub counts : Counts w′ l′ r
       counts =
           let F = compose-fits s es tray in
-          let m : length l′ ≡ length l = ap length laid ∙ length-over (legendOf ss) l (omega (arith, room .legend, F .legend)) in
+          let m : length l′ ≡ length l = ap length laid ∙ length-over (legendOf (whole ss)) l (omega (arith, room .legend, F .legend)) in
           record {
             joins-few = rw answer (omega (arith, F .count));
             slips-few = rw answer (F .slips);
@@ -150,20 +149,20 @@ module _ (s es w l o : List ℕ) (room : TrayRoom w l o) where
             work = omega (arith, room .work, st .work-is .same);
           }
 
-      joins-here : take (JOINS + 3 * r .joins - JOINS) (drop JOINS w′) ≡ flatJoins (plainJoins ss)
+      joins-here : take (JOINS + 3 * r .joins - JOINS) (drop JOINS w′) ≡ flatJoins (joinsOf (whole ss))
       unfolding table
       joins-here =
           let e : JOINS + 3 * r .joins - JOINS ≡ 3 * r .joins = omega arith in
           rw e (st .joins-are z)
 
-      places-here : take (PLACES + 2 * r .slips - PLACES) (drop PLACES w′) ≡ flatPlaces ss
+      places-here : take (PLACES + 2 * r .slips - PLACES) (drop PLACES w′) ≡ flatPlaces (whole ss)
       unfolding table
       places-here =
           let e : PLACES + 2 * r .slips - PLACES ≡ 2 * r .slips = omega arith in
           rw e (st .places-are z)
 
-      legend-here : take (r .legend) l′ ≡ legendOf ss
-      legend-here = rw (answer, laid) (take-append-seam (legendOf ss) (drop (length (legendOf ss)) l))
+      legend-here : take (r .legend) l′ ≡ legendOf (whole ss)
+      legend-here = rw (answer, laid) (take-append-seam (legendOf (whole ss)) (drop (length (legendOf (whole ss))) l))
 
       pub legend-count : r .legend ≡ length (take (r .legend) l′)
       legend-count = rw legend-here (ap (λ (c : Composed). c .legend) answer)

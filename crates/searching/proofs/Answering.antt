@@ -14,23 +14,24 @@ use Rattle.matching.specs.Occurrences.{occurrences}
 use Rattle.answers.specs.WorkArea.{WorkKept}
 use Rattle.answers.specs.declared.Search.{Search}
 use Rattle.searching.specs.declared.Begun.{Begun}
-use Rattle.answers.specs.Finding.{findBefore, findFault, outcomeOf, refusedBy, searchOf, Answered}
+use Rattle.answers.specs.Finding.{findBefore, findFault, searchOf, Answered}
+use Rattle.answers.specs.Finding.{searchOutcome, searchRefused}
 use Rattle.searching.specs.steps.Searching.{Clear, Left, turnedBack, CoreSays}
 use Rattle.searching.proofs.Checks.{fault-before}
 
 -- the two cases of the answer
 module _ (s es t : List ℕ) (w k : ℕ) where
-  pub answer-found : findFault s es t w k .number ≡ 0 → searchOf s es t w k ≡ outcomeOf (slipsOf s es) t
+  pub answer-found : findFault s es t w k .number ≡ 0 → searchOf s es t w k ≡ searchOutcome (slipsOf s es) t
   unfolding searchOf
-  answer-found z = ap {B = Search} (λ (m : ℕ). elim m [ zero ↦ outcomeOf (slipsOf s es) t | suc n ↦ refusedBy (findFault s es t w k) ]) z
+  answer-found z = ap {B = Search} (λ (m : ℕ). elim m [ zero ↦ searchOutcome (slipsOf s es) t | suc n ↦ searchRefused (findFault s es t w k) ]) z
 
-  pub answer-refused : 1 ≤ findFault s es t w k .number → searchOf s es t w k ≡ refusedBy (findFault s es t w k)
+  pub answer-refused : 1 ≤ findFault s es t w k .number → searchOf s es t w k ≡ searchRefused (findFault s es t w k)
   unfolding searchOf
   answer-refused h = go (findFault s es t w k .number) refl
     where
-      go : (n : ℕ) → findFault s es t w k .number ≡ n → searchOf s es t w k ≡ refusedBy (findFault s es t w k)
+      go : (n : ℕ) → findFault s es t w k .number ≡ n → searchOf s es t w k ≡ searchRefused (findFault s es t w k)
       go zero e = absurd (omega arith)
-      go (suc n) e = ap {B = Search} (λ (m : ℕ). elim m [ zero ↦ outcomeOf (slipsOf s es) t | suc i ↦ refusedBy (findFault s es t w k) ]) e
+      go (suc n) e = ap {B = Search} (λ (m : ℕ). elim m [ zero ↦ searchOutcome (slipsOf s es) t | suc i ↦ searchRefused (findFault s es t w k) ]) e
 
 -- a call that is turned back, before anything is stored
 pub core-refused : {s es t w w′ : List ℕ} {room : ℕ} (f : Refusal) → 1 ≤ f .number → findFault s es t (length w) room ≡ f
@@ -38,7 +39,7 @@ pub core-refused : {s es t w w′ : List ℕ} {room : ℕ} (f : Refusal) → 1 �
 core-refused {s} {es} {t} {w} {w′} {room} f h e k =
     let l : 1 ≤ findFault s es t (length w) room .number = rw e h in
     record {
-      answered = record { answer-is = sym (answer-refused s es t (length w) room l ∙ ap refusedBy e); few-moves = omega arith; work-is = k };
+      answered = record { answer-is = sym (answer-refused s es t (length w) room l ∙ ap searchRefused e); few-moves = omega arith; work-is = k };
       count-is = refl;
       fits = omega arith;
       enough = record { upto = omega arith; scan = λ n. absurd (omega arith) };

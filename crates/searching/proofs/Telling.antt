@@ -21,7 +21,7 @@ use Rattle.scanning.specs.Scanning.{SCAN, Standing, Ahead, Reached, Reportable,
 use Rattle.scanning.proofs.Scans.{reportable-found}
 use Rattle.scanning.proofs.Keeping.{standing-kept, standing-keeps}
 use Rattle.answers.specs.declared.Found.{Found}
-use Rattle.answers.specs.Finding.{recordOf}
+use Rattle.answers.specs.Finding.{foundRecord}
 use Rattle.searching.specs.steps.Searching.{scanAt, Ready, Next, Enough, Left}
 
 module _ {s es t : List ℕ} {n count : ℕ} {w : List ℕ} {x y : Scan} (q : Reached s es t n count w x y) where
@@ -65,7 +65,7 @@ module _ {s es t w : List ℕ} {i : ℕ} (R : Ready s es t i w) where
           let scan-is : scanIn w′ (i + 1) ≡ z = ap (scanIn w′) (sym (p .done ∙ ap (λ (d : ℕ). d + 1) done-is)) ∙ k .scan-is in
           let stands : Standing s es t (length es) nodes w′ z = standing-kept (kept-lower SCAN (omega arith) (k .below)) (p .standing) in
           record {
-            is = sym (ap recordOf (ap (λ (d : ℕ). getD os d (O.found 0 0)) (sym done-is) ∙ reportable-found ready-reports));
+            is = sym (ap foundRecord (ap (λ (d : ℕ). getD os d (O.found 0 0)) (sym done-is) ∙ reportable-found ready-reports));
             scan = subst (λ (c : ℕ). Standing s es t (length es) c w′ (scanIn w′ (i + 1))) (sym same-count)
                 (subst (λ (v : Scan). Standing s es t (length es) nodes w′ v) (sym scan-is) stands);
             same = k .below .same;

@@ -25,7 +25,8 @@ use Rattle.trays.specs.Aside.{kept, counted}
 use Rattle.trays.specs.Faults.{trayFault}
 use Rattle.trays.proofs.Accepted.{accepted-tells, slips-count}
 use Rattle.numbering.proofs.Spans.{accepted-spanned}
-use Rattle.greedy.specs.Joins.{Join, plainJoins}
+use Rattle.greedy.specs.Joins.{Join}
+use Rattle.greedy.specs.Composing.{whole, joinsOf}
 use Rattle.greedy.proofs.Chains.{Chain, whole, Arc}
 use Rattle.greedy.proofs.Letters.{weight}
 use Rattle.greedy.proofs.Demand3.{composed}
@@ -68,7 +69,7 @@ module _ (s es : List ℕ) (acc : trayFault s es .number ≡ 0) where
         omega (arith, o, overlapFor-fits counted (slip ss (j .left)) (slip ss (j .right)), accepted-spanned s es acc .short (j .right) p b),
       )
 
-  joins-fewer : length (plainJoins ss) ≤ maxSlips - 1
+  joins-fewer : length (joinsOf (whole ss)) ≤ maxSlips - 1
   joins-fewer =
       let (Cs, R) = joins-rep s es acc in
       omega (arith, R .count, fewer Cs (maxSlips - 1) (omega (arith, chains-fewer Cs, R .all (λ i. 1), ones K, kept-few s es acc)))
@@ -84,7 +85,7 @@ module _ (s es : List ℕ) (acc : trayFault s es .number ≡ 0) where
         legend = legend-small s es acc;
         lengths = λ i p l. accepted-spanned s es acc .short i p (omega arith);
         places = λ i p l. omega (arith, legend-small s es acc, place-most s es acc i p (omega arith));
-        joins = all-in JoinFits (plainJoins ss) (λ j m. join-fits j (all-at (Arc (weight counted ss) K) (plainJoins ss) j (joins-rep s es acc .1 .arcs) m));
+        joins = all-in JoinFits (joinsOf (whole ss)) (λ j m. join-fits j (all-at (Arc (weight counted ss) K) (joinsOf (whole ss)) j (joins-rep s es acc .1 .arcs) m));
         count = joins-fewer;
       }
 

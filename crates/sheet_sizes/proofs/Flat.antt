@@ -17,8 +17,8 @@ use Rattle.trays.specs.Aside.{isAside}
 use Rattle.trays.specs.Faults.{trayFault}
 use Rattle.trays.proofs.Accepted.{slips-count}
 use Rattle.numbering.proofs.Spans.{accepted-spanned}
-use Rattle.greedy.specs.Joins.{Join, join, plainJoins}
-use Rattle.greedy.specs.Legends.{legendOf, placeOf}
+use Rattle.greedy.specs.Joins.{Join, join}
+use Rattle.greedy.specs.Composing.{whole, joinsOf, legendOf, placeOf}
 use Rattle.matching.specs.Moves.{moves}
 use Rattle.matching.specs.Occurrences.{Found, found, occurrences}
 use Rattle.answers.specs.Composing.{outcomeOf, flatJoins, flatPlaces}
@@ -101,34 +101,34 @@ sign-flat true = refl
 sign-flat false = refl
 
 pub place-at : (ss : List (List ℕ)) (i : ℕ) → i < length ss →
-    (getD (flatPlaces ss) (2 * i) 0 ≡ placeOf ss (suc i)) × (getD (flatPlaces ss) (2 * i + 1) 0 ≡ cond (isAside ss (numbers ss) (suc i)) 0 1)
+    (getD (flatPlaces (whole ss)) (2 * i) 0 ≡ placeOf (whole ss) (suc i)) × (getD (flatPlaces (whole ss)) (2 * i + 1) 0 ≡ cond (isAside ss (numbers ss) (suc i)) 0 1)
 place-at ss i h =
     let e : getD (numbers ss) i 0 ≡ suc i = upFrom-at 1 (length ss) i h ∙ omega arith in
-    rw e at (two-at 0 (placeOf ss) (λ k. cond (isAside ss (numbers ss) k) 0 1) (numbers ss) i (rw (length-upFrom 1 (length ss)) h))
+    rw e at (two-at 0 (placeOf (whole ss)) (λ k. cond (isAside ss (numbers ss) k) 0 1) (numbers ss) i (rw (length-upFrom 1 (length ss)) h))
 
 module _ (s es : List ℕ) (acc : trayFault s es .number ≡ 0) where
   abbrev ss : List (List ℕ)
   ss = slipsOf s es
 
-  slip-flat : (i : ℕ) → i < length es → slipLineAt es (flatPlaces ss) i ≡ slipLineOf ss (suc i)
+  slip-flat : (i : ℕ) → i < length es → slipLineAt es (flatPlaces (whole ss)) i ≡ slipLineOf ss (suc i)
   slip-flat i h =
       let n : endOf es (suc i) - startOf es (suc i) ≡ length (slip ss (suc i)) = omega (arith, accepted-spanned s es acc .long (suc i) (omega arith) h) in
       let r = place-at ss i (rw (slips-count s es) h) in
       rw (add-one i, n, r .0, r .1, sign-flat (isAside ss (numbers ss) (suc i)))
 
-  slips-flat : lines (slipLineAt es (flatPlaces ss)) (length es) ≡ each (slipLineOf ss) (numbers ss)
+  slips-flat : lines (slipLineAt es (flatPlaces (whole ss))) (length es) ≡ each (slipLineOf ss) (numbers ss)
   slips-flat =
       let n : length (numbers ss) ≡ length es = length-upFrom 1 (length ss) ∙ slips-count s es in
-      ap (lines (slipLineAt es (flatPlaces ss))) (sym n)
-      ∙ lines-each 0 (slipLineAt es (flatPlaces ss)) (slipLineOf ss) (numbers ss)
+      ap (lines (slipLineAt es (flatPlaces (whole ss)))) (sym n)
+      ∙ lines-each 0 (slipLineAt es (flatPlaces (whole ss))) (slipLineOf ss) (numbers ss)
       (λ i h.
       let k : getD (numbers ss) i 0 ≡ suc i = upFrom-at 1 (length ss) i (omega (arith, length-upFrom 1 (length ss))) ∙ omega arith in
       slip-flat i (omega arith) ∙ ap (slipLineOf ss) (sym k))
 
   -- what compose_lines writes, over the numbers that composing leaves
-  pub compose-lines-are : composeLines (outcomeOf ss) es (flatJoins (plainJoins ss)) (flatPlaces ss) (legendOf ss) ≡ composeSheetOf ss
+  pub compose-lines-are : composeLines (outcomeOf (whole ss)) es (flatJoins (joinsOf (whole ss))) (flatPlaces (whole ss)) (legendOf (whole ss)) ≡ composeSheetOf ss
   unfolding composeSheetOf
-  compose-lines-are = rw (slips-flat, joins-flat (plainJoins ss))
+  compose-lines-are = rw (slips-flat, joins-flat (joinsOf (whole ss)))
 
 -- what find_lines writes, over the numbers of the occurrences
 pub find-lines-are : (ss : List (List ℕ)) (t : List ℕ) →

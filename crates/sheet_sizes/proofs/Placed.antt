@@ -27,7 +27,8 @@ use Rattle.trays.proofs.Accepted.{accepted-tells, slips-count, span-rises}
 use Rattle.trays.proofs.Kept.{kept-in}
 use Rattle.numbering.proofs.Spans.{accepted-spanned}
 use Rattle.greedy.specs.Joins.{plainFor}
-use Rattle.greedy.specs.Legends.{legendOf, piecesFor, lowest, placeIn, placeOf, placeFor}
+use Rattle.greedy.specs.Legends.{piecesFor, lowest, placeIn, placeFor}
+use Rattle.greedy.specs.Composing.{whole, legendOf, placeOf}
 use Rattle.greedy.proofs.Chains.{Chain, Rep}
 use Rattle.greedy.proofs.Letters.{weight, laid-at}
 use Rattle.greedy.proofs.Bound.{kept-rep}
@@ -103,20 +104,20 @@ module _ (s es : List ℕ) (acc : trayFault s es .number ≡ 0) where
 
   laid : (i : ℕ) → In i K →
       (1 ≤ placeIn ss i 1 (piecesFor counted ss (numbers ss))) ×
-      (begins (slip ss i) (drop (placeIn ss i 1 (piecesFor counted ss (numbers ss)) - 1) (legendOf ss)) ≡ true)
+      (begins (slip ss i) (drop (placeIn ss i 1 (piecesFor counted ss (numbers ss)) - 1) (legendOf (whole ss))) ≡ true)
   laid i m = laid-at counted ss (joins-rep .1) i (in-held i K m)
 
-  pub legend-every : (i : ℕ) → 1 ≤ i → i ≤ length es → standsIn (slip ss i) (legendOf ss) ≡ true
+  pub legend-every : (i : ℕ) → 1 ≤ i → i ≤ length es → standsIn (slip ss i) (legendOf (whole ss)) ≡ true
   legend-every i p l =
       let (k, m, t) = aside-held (left i) i p l (omega arith) in
-      stands-trans (slip ss i) (slip ss k) (legendOf ss) t
-      (stands-drop (placeIn ss k 1 (piecesFor counted ss (numbers ss)) - 1) (slip ss k) (legendOf ss) (laid k m .1))
+      stands-trans (slip ss i) (slip ss k) (legendOf (whole ss)) t
+      (stands-drop (placeIn ss k 1 (piecesFor counted ss (numbers ss)) - 1) (slip ss k) (legendOf (whole ss)) (laid k m .1))
 
-  pub place-most : (i : ℕ) → 1 ≤ i → i ≤ length es → placeOf ss i ≤ length (legendOf ss)
+  pub place-most : (i : ℕ) → 1 ≤ i → i ≤ length es → placeOf (whole ss) i ≤ length (legendOf (whole ss))
   place-most i p l =
       by-test (isAside ss (numbers ss) i)
-      (λ e. rw (e, placeFor) (omega (arith, lowest-most 1 (slip ss i) (legendOf ss) (legend-every i p l) (some i p l))))
+      (λ e. rw (e, placeFor) (omega (arith, lowest-most 1 (slip ss i) (legendOf (whole ss)) (legend-every i p l) (some i p l))))
       (λ e.
       let r = laid i (kept-in ss (numbers ss) (upFrom-in 1 (length ss) i p (omega (arith, slips-count s es))) e) in
       let k = placeIn ss i 1 (piecesFor counted ss (numbers ss)) - 1 in
-      rw (e, placeFor) (omega (arith, r .0, some i p l, begins-length (slip ss i) (drop k (legendOf ss)) (r .1), length-drop k (legendOf ss))))
+      rw (e, placeFor) (omega (arith, r .0, some i p l, begins-length (slip ss i) (drop k (legendOf (whole ss))) (r .1), length-drop k (legendOf (whole ss)))))

@@ -20,8 +20,7 @@ use Rattle.trays.proofs.Rows.{or-zero, or-some, by-number, rows-append}
 use Rattle.trays.proofs.Accepted.{slips-count}
 use Rattle.files.specs.Lines.{lf, onFirst, linesOf, isLaidOut, slipField, lengthField, letters}
 use Rattle.files.specs.Faults.{lineFault, linesFault, readFault}
-use Rattle.greedy.specs.Joins.{plainJoins}
-use Rattle.greedy.specs.Legends.{legendOf}
+use Rattle.greedy.specs.Composing.{whole, joinsOf, legendOf}
 use Rattle.answers.specs.WorkArea.{workRow}
 use Rattle.answers.specs.Composing.{composeFault}
 use Rattle.sheets.specs.Sheets.{detailWidth}
@@ -102,8 +101,8 @@ pub compose-refusal-fits : (s es : List ℕ) (w l j p : ℕ) → RefusalFits (co
 unfolding composeFault trayFault
 compose-refusal-fits s es w l j p =
     let ss = slipsOf s es in
-    let need = length (legendOf ss) in
-    let joins = length (plainJoins ss) in
+    let need = length (legendOf (whole ss)) in
+    let joins = length (joinsOf (whole ss)) in
     let r8 = row 8 (ltb l need) need in
     let r9 = row 9 (ltb j joins || ltb p (length ss)) joins in
     rw (rows-append (trayRows s es) (workRow w ∷ (r8 ∷ (r9 ∷ []))))

@@ -21,8 +21,8 @@ use Rattle.trays.specs.Aside.{isAside}
 use Rattle.trays.specs.Faults.{trayFault}
 use Rattle.trays.proofs.Accepted.{slips-count, span-rises}
 use Rattle.numbering.proofs.Spans.{accepted-spanned}
-use Rattle.greedy.specs.Joins.{join, plainJoins}
-use Rattle.greedy.specs.Legends.{legendOf, placeOf}
+use Rattle.greedy.specs.Joins.{join}
+use Rattle.greedy.specs.Composing.{whole, joinsOf, legendOf, placeOf}
 use Rattle.matching.specs.Moves.{moves}
 use Rattle.matching.specs.Occurrences.{found, occurrences}
 use Rattle.answers.specs.declared.Composed.{Composed}
@@ -114,7 +114,7 @@ module _ (s es : List ℕ) (acc : trayFault s es .number ≡ 0) where
   abbrev ss : List (List ℕ)
   ss = slipsOf s es
 
-  slips-fit : SlipsFit es (flatPlaces ss)
+  slips-fit : SlipsFit es (flatPlaces (whole ss))
   slips-fit =
       let F = compose-fits s es acc in
       let n : length ss ≡ length es = slips-count s es in
@@ -123,19 +123,19 @@ module _ (s es : List ℕ) (acc : trayFault s es .number ≡ 0) where
         rise = λ i h. omega (arith, span-rises s es acc (suc i) (omega arith) h);
         small = λ i h. omega (arith, accepted-spanned s es acc .fits (suc i) h);
         placed = λ i h. omega (arith, place-at ss i (omega arith) .0, F .places (suc i) (omega arith) (omega arith));
-        places = omega (arith, two-length 0 (placeOf ss) (λ k. cond (isAside ss (numbers ss) k) 0 1) (numbers ss), length-upFrom 1 (length ss));
+        places = omega (arith, two-length 0 (placeOf (whole ss)) (λ k. cond (isAside ss (numbers ss) k) 0 1) (numbers ss), length-upFrom 1 (length ss));
       }
 
-  joins-fit : JoinsFit (flatJoins (plainJoins ss)) (length (plainJoins ss))
+  joins-fit : JoinsFit (flatJoins (joinsOf (whole ss))) (length (joinsOf (whole ss)))
   joins-fit =
-      let js = plainJoins ss in
+      let js = joinsOf (whole ss) in
       let n : length (flatJoins js) ≡ 3 * length js = three-length (join 0 0 0) (λ j. j .left) (λ j. j .right) (λ j. j .overlap) js in
       let a : All (λ x. x < 10 ^ 4) (flatJoins js) =
       all-each JoinFits (λ x. x < 10 ^ 4) (λ j. j .left ∷ (j .right ∷ (j .overlap ∷ [])))
       (λ j f. (omega (arith, f .0), (omega (arith, f .1), (omega (arith, f .2), tt)))) js (compose-fits s es acc .joins) in
       record { small = λ i h. all-getD (λ x. x < 10 ^ 4) (flatJoins js) a i (omega arith); numbers = omega arith }
 
-  pub compose-asks : (room : ℕ) → composeRoom ≤ room → ComposeAsks (outcomeOf ss) es (flatJoins (plainJoins ss)) (flatPlaces ss) (legendOf ss) room
+  pub compose-asks : (room : ℕ) → composeRoom ≤ room → ComposeAsks (outcomeOf (whole ss)) es (flatJoins (joinsOf (whole ss))) (flatPlaces (whole ss)) (legendOf (whole ss)) room
   compose-asks room h =
       let F = compose-fits s es acc in
       record {

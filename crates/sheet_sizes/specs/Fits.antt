@@ -10,9 +10,8 @@ use Rattle.trays.specs.declared.Refusal.{Refusal}
 use Rattle.trays.specs.Limits.{maxSlips, maxSlip, maxLetters, maxText}
 use Rattle.trays.specs.Slips.{slip, numbers}
 use Rattle.trays.specs.Aside.{kept}
-use Rattle.greedy.specs.Joins.{Join, plainJoins, saved}
-use Rattle.greedy.specs.Legends.{legendOf, placeOf}
-use Rattle.greedy.specs.Claims.{keptLetters}
+use Rattle.greedy.specs.Joins.{Join, saved}
+use Rattle.greedy.specs.Composing.{whole, joinsOf, legendOf, placeOf, keptLetters}
 use Rattle.matching.specs.Moves.{moves}
 use Rattle.matching.specs.Occurrences.{Found, occurrences}
 use Rattle.sheets.specs.Sheets.{detailWidth}
@@ -23,13 +22,13 @@ JoinFits j = (j .left ≤ maxSlips) × (j .right ≤ maxSlips) × (j .overlap �
 pub record ComposeFits (ss : List (List ℕ)) : Type 0 where
   pub slips : length ss ≤ maxSlips
   pub kept-slips : length (kept ss (numbers ss)) ≤ maxSlips
-  pub letters : keptLetters ss ≤ maxLetters
-  pub saved-letters : saved (plainJoins ss) ≤ maxLetters
-  pub legend : length (legendOf ss) ≤ maxLetters
+  pub letters : keptLetters (whole ss) ≤ maxLetters
+  pub saved-letters : saved (joinsOf (whole ss)) ≤ maxLetters
+  pub legend : length (legendOf (whole ss)) ≤ maxLetters
   pub lengths : (i : ℕ) → 1 ≤ i → i ≤ length ss → length (slip ss i) ≤ maxSlip
-  pub places : (i : ℕ) → 1 ≤ i → i ≤ length ss → placeOf ss i ≤ maxLetters
-  pub joins : All JoinFits (plainJoins ss)
-  pub count : length (plainJoins ss) ≤ maxSlips - 1
+  pub places : (i : ℕ) → 1 ≤ i → i ≤ length ss → placeOf (whole ss) i ≤ maxLetters
+  pub joins : All JoinFits (joinsOf (whole ss))
+  pub count : length (joinsOf (whole ss)) ≤ maxSlips - 1
 
 abbrev pub OccurrenceFits : Found → Type 0
 OccurrenceFits f = (f .end ≤ maxText) × (f .which ≤ maxSlips)

@@ -23,9 +23,8 @@ use Rattle.trays.specs.Limits.{maxSlips, maxLetters}
 use Rattle.trays.specs.Slips.{slip, numbers, startOf, endOf}
 use Rattle.trays.specs.Aside.{isAside, kept}
 use Rattle.files.specs.Lines.{lf, blank}
-use Rattle.greedy.specs.Joins.{plainJoins, saved}
-use Rattle.greedy.specs.Legends.{legendOf, placeOf}
-use Rattle.greedy.specs.Claims.{keptLetters}
+use Rattle.greedy.specs.Joins.{saved}
+use Rattle.greedy.specs.Composing.{whole, joinsOf, legendOf, placeOf, keptLetters}
 use Rattle.matching.specs.Moves.{moves}
 use Rattle.matching.specs.Occurrences.{occurrences}
 use Rattle.answers.specs.declared.Composed.{Composed}
@@ -114,14 +113,14 @@ refusedSize = 7 + 4 + detailWidth + 1
 
 -- the whole sheets, from the slips alone
 abbrev pub slipLineOf : List (List ℕ) → ℕ → List ℕ
-slipLineOf ss i = slipLine i (length (slip ss i)) (placeOf ss i) (cond (isAside ss (numbers ss) i) asideSign keptSign)
+slipLineOf ss i = slipLine i (length (slip ss i)) (placeOf (whole ss) i) (cond (isAside ss (numbers ss) i) asideSign keptSign)
 
 -- Then the legend and LF; for the empty tray that line is blank.
 unfoldable pub composeSheetOf : List (List ℕ) → List ℕ
 composeSheetOf ss =
-    let js = plainJoins ss in
-    let t = legendOf ss in
-    trayLine (length ss) (length (kept ss (numbers ss))) (keptLetters ss) (saved js) (length t)
+    let js = joinsOf (whole ss) in
+    let t = legendOf (whole ss) in
+    trayLine (length ss) (length (kept ss (numbers ss))) (keptLetters (whole ss)) (saved js) (length t)
     ++ (each (slipLineOf ss) (numbers ss) ++ (each (λ j. joinLine (j .left) (j .right) (j .overlap)) js ++ (t ++ (lf ∷ []))))
 
 unfoldable pub findSheetOf : List (List ℕ) → List ℕ → List ℕ

@@ -16,9 +16,9 @@ use Rattle.trays.specs.Limits.{maxSlips, workNeed}
 use Rattle.trays.specs.Slips.{slipsOf, numbers}
 use Rattle.trays.specs.Aside.{kept, counted}
 use Rattle.trays.specs.Faults.{trayFault, written}
-use Rattle.greedy.specs.Joins.{plainJoins, saved}
-use Rattle.greedy.specs.Legends.{Piece, legendOf, piecesFor}
-use Rattle.greedy.specs.Claims.{keptLetters}
+use Rattle.greedy.specs.Joins.{saved}
+use Rattle.greedy.specs.Composing.{whole, joinsOf, legendOf, keptLetters}
+use Rattle.greedy.specs.Legends.{Piece, piecesFor}
 use Rattle.laying.specs.Laying.{staged}
 use Rattle.laying.specs.Chains.{piecesBy, PiecesAsk}
 use Rattle.layout.specs.Layout.{KEPT, JOINS, PLACES}
@@ -44,7 +44,7 @@ pub record Walked (s es w : List ℕ) (k j : ℕ) : Type 0 where
   pub tray : trayFault s es .number ≡ 0
   pub kept-is : keptIn w k ≡ kept (slipsOf s es) (numbers (slipsOf s es))
   pub few-kept : k ≤ maxSlips
-  pub joins-are : joinsIn w j ≡ plainJoins (slipsOf s es)
+  pub joins-are : joinsIn w j ≡ joinsOf (whole (slipsOf s es))
   pub few-joins : j ≤ maxSlips
 
 pub record Joined (s es w : List ℕ) (k j : ℕ) (left right overs : List ℕ) : Type 0 where
@@ -71,9 +71,9 @@ pub record Pieces (s es : List ℕ) (k : ℕ) (xs : List ℕ) : Type 0 where
 
 -- what is counted before anything is written
 pub record CountsAre (s es : List ℕ) (c : Counts) : Type 0 where
-  pub letters-are : c .letters ≡ keptLetters (slipsOf s es)
-  pub saved-are : c .saved ≡ saved (plainJoins (slipsOf s es))
-  pub need-is : c .need ≡ length (legendOf (slipsOf s es))
+  pub letters-are : c .letters ≡ keptLetters (whole (slipsOf s es))
+  pub saved-are : c .saved ≡ saved (joinsOf (whole (slipsOf s es)))
+  pub need-is : c .need ≡ length (legendOf (whole (slipsOf s es)))
 
 -- the answer made of the counts
 abbrev pub outcomeBy : ℕ → ℕ → Counts → ℕ → Composed
@@ -91,34 +91,34 @@ pub record OutcomeAsks (slips k : ℕ) (c : Counts) (j : ℕ) : Type 0 where
 pub record WritingAsks (s es w l xs : List ℕ) (k need : ℕ) : Type 0 where
   pub room : workNeed ≤ length w
   pub tray : trayFault s es .number ≡ 0
-  pub need-is : need ≡ length (legendOf (slipsOf s es))
+  pub need-is : need ≡ length (legendOf (whole (slipsOf s es)))
   pub space : need ≤ length l
   pub pieces : Pieces s es k xs
 
 pub record PlacingAsks (s es w t : List ℕ) (xs : List ℕ) (k : ℕ) : Type 0 where
   pub room : workNeed ≤ length w
   pub tray : trayFault s es .number ≡ 0
-  pub legend-is : t ≡ legendOf (slipsOf s es)
+  pub legend-is : t ≡ legendOf (whole (slipsOf s es))
   pub pieces : Pieces s es k xs
 
 pub record Placed (s es w w′ : List ℕ) : Type 0 where
   pub below : Kept PLACES w w′
-  pub places-are : table w′ PLACES (2 * length es) ≡ flatPlaces (slipsOf s es)
+  pub places-are : table w′ PLACES (2 * length es) ≡ flatPlaces (whole (slipsOf s es))
 
 pub record Written (s es w w′ l l′ : List ℕ) : Type 0 where
-  pub legend-is : l′ ≡ over (legendOf (slipsOf s es)) l
+  pub legend-is : l′ ≡ over (legendOf (whole (slipsOf s es))) l
   pub placed : Placed s es w w′
 
 pub record Finished (s es w w′ l l′ : List ℕ) (j p : ℕ) (r : Composed) : Type 0 where
   pub answer-is : r ≡ composedOf s es (length w) (length l) j p
-  pub legend-is : l′ ≡ written (composeFault s es (length w) (length l) j p) (legendOf (slipsOf s es)) l
+  pub legend-is : l′ ≡ written (composeFault s es (length w) (length l) j p) (legendOf (whole (slipsOf s es))) l
   pub same : length w′ ≡ length w
-  pub joins-are : r .number ≡ 0 → table w′ JOINS (3 * r .joins) ≡ flatJoins (plainJoins (slipsOf s es))
-  pub places-are : r .number ≡ 0 → table w′ PLACES (2 * r .slips) ≡ flatPlaces (slipsOf s es)
+  pub joins-are : r .number ≡ 0 → table w′ JOINS (3 * r .joins) ≡ flatJoins (joinsOf (whole (slipsOf s es)))
+  pub places-are : r .number ≡ 0 → table w′ PLACES (2 * r .slips) ≡ flatPlaces (whole (slipsOf s es))
 
 pub record Staged (s es w w′ l l′ : List ℕ) (j p : ℕ) (r : Composed) : Type 0 where
   pub answer-is : r ≡ composedOf s es (length w) (length l) j p
-  pub legend-is : l′ ≡ written (composeFault s es (length w) (length l) j p) (legendOf (slipsOf s es)) l
+  pub legend-is : l′ ≡ written (composeFault s es (length w) (length l) j p) (legendOf (whole (slipsOf s es))) l
   pub work-is : WorkKept (beforeC s es (length w)) w w′
-  pub joins-are : r .number ≡ 0 → table w′ JOINS (3 * r .joins) ≡ flatJoins (plainJoins (slipsOf s es))
-  pub places-are : r .number ≡ 0 → table w′ PLACES (2 * r .slips) ≡ flatPlaces (slipsOf s es)
+  pub joins-are : r .number ≡ 0 → table w′ JOINS (3 * r .joins) ≡ flatJoins (joinsOf (whole (slipsOf s es)))
+  pub places-are : r .number ≡ 0 → table w′ PLACES (2 * r .slips) ≡ flatPlaces (whole (slipsOf s es))

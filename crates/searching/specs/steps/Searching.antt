@@ -21,7 +21,8 @@ use Rattle.outputs.specs.Outputs.{Told}
 use Rattle.scanning.specs.Scanning.{SCAN, Standing, scanIn}
 use Rattle.answers.specs.declared.Found.{Found}
 use Rattle.searching.specs.declared.Begun.{Begun}
-use Rattle.answers.specs.Finding.{findBefore, refusedBy, recordOf, Answered}
+use Rattle.answers.specs.Finding.{findBefore, Answered}
+use Rattle.answers.specs.Finding.{searchRefused, foundRecord}
 
 pub record Clear (s es t w : List ℕ) : Type 0 where
   pub silent : findBefore s es t (length w) .number ≡ 0
@@ -35,7 +36,7 @@ abbrev pub scanAt : List ℕ → List ℕ → List ℕ → ℕ → List ℕ → 
 scanAt s es t i w = Standing s es t (length es) (cell w SCAN 0) w (scanIn w i)
 
 abbrev pub foundAt : List ℕ → List ℕ → List ℕ → ℕ → Found
-foundAt s es t i = recordOf (getD (occurrences (slipsOf s es) t) i (O.found 0 0))
+foundAt s es t i = foundRecord (getD (occurrences (slipsOf s es) t) i (O.found 0 0))
 
 pub record Ready (s es t : List ℕ) (i : ℕ) (w : List ℕ) : Type 0 where
   pub scan : scanAt s es t i w
@@ -55,7 +56,7 @@ pub record Left (s es t : List ℕ) (n : ℕ) (w w′ : List ℕ) : Type 0 where
   pub none : n ≡ 0 → w′ ≡ w
 
 abbrev pub turnedBack : Refusal → Begun
-turnedBack f = record { answer = refusedBy f; count = 0 }
+turnedBack f = record { answer = searchRefused f; count = 0 }
 
 pub record CoreSays (s es t w w′ : List ℕ) (room : ℕ) (r : Begun) : Type 0 where
   pub answered : Answered s es t w w′ room (r .answer)
