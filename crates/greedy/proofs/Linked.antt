@@ -1,6 +1,5 @@
 -- Joins followed from a first slip.
 --   Apart a b      == the joins a and b have different left slips and different right slips
---   Linked js      == the slips joined have numbers from 1, and the joins are apart from each other
 --   without i js   == the joins but the one from slip i
 -- A slip without a left neighbour is no slip's right neighbour, so following the joins from it never comes back: it goes on as without the
 -- join from that slip, and ends after at most as many steps as there are joins. A join from an end w to a first slip r leads on from w to the
@@ -20,13 +19,7 @@ use Rattle.words.proofs.Tests.{tell}
 use Rattle.words.proofs.Members.{In, by-in, Asc, those-yes, those-no, in-those, asc-those, asc-append}
 use Rattle.greedy.specs.Joins.{Join, join, rightOf, leftOf, lastFrom, lastOf}
 use Rattle.greedy.proofs.Takes.{by-zero, rightOf-append, leftOf-append, last-stop, last-go, lastFrom-append}
-
-abbrev pub Apart : Join → Join → Type 0
-Apart a b = (a .left ≡ b .left → ⊥) × (a .right ≡ b .right → ⊥)
-
-pub record Linked (js : List Join) : Type 0 where
-  pub real : (j : Join) → In j js → (1 ≤ j .left) × (1 ≤ j .right)
-  pub apart : Asc Apart js
+pub use Rattle.greedy.specs.steps.Linked.{Apart, Linked}
 
 pub linked-none : Linked []
 linked-none = record { real = λ j m. absurd (List·Memᴰ·not-nil m); apart = tt }

@@ -1,10 +1,7 @@
 -- Tables of chain ends: the last slip of a chain by its first, and the first by its last.
---   Threads js lasts firsts    == lasts i is the last slip of the chain that i begins, firsts e the first of the chain that e ends
---   putAt f at v               == the table f with v at the place at
 -- When w, the end of a chain, is joined to r, the first slip of another, the first of w's chain gets the last of r's as its last, and that
 -- one the first of w's as its first. No other end changes.
 use mathlib.Core.Path.{_≡_, refl, sym, ap, _∙_}
-use mathlib.Core.Bool.{cond}
 use mathlib.Core.List.{List, [], _∷_, _++_}
 use Prim.Native.Nat.{ℕ, _≤_}
 use native.Mathlib.Decide.{ℕ-discrete}
@@ -13,17 +10,10 @@ use lib.Dec.{eqb}
 use borrow.Author.Tests.{eq-eqb, ne-eqb}
 use Rattle.greedy.specs.Joins.{Join, join, rightOf, leftOf, lastOf}
 use Rattle.greedy.proofs.Linked.{Linked, left-joined, left-other, right-joined, right-other, last-joined, last-other}
-
-pub record Threads (js : List Join) (lasts firsts : ℕ → ℕ) : Type 0 where
-  pub last-is : (i : ℕ) → leftOf i js ≡ 0 → lastOf i js ≡ lasts i
-  pub back : (i : ℕ) → leftOf i js ≡ 0 → firsts (lasts i) ≡ i
-  pub first-is : (e : ℕ) → rightOf e js ≡ 0 → (leftOf (firsts e) js ≡ 0) × (lasts (firsts e) ≡ e)
+pub use Rattle.greedy.specs.steps.Linked.{Threads, putAt}
 
 pub threads-none : Threads [] (λ i. i) (λ i. i)
 threads-none = record { last-is = λ i z. refl; back = λ i z. refl; first-is = λ e z. (refl, refl) }
-
-abbrev pub putAt : (ℕ → ℕ) → ℕ → ℕ → ℕ → ℕ
-putAt f at v i = cond (eqb i at) v (f i)
 
 put-same : (f : ℕ → ℕ) (at v i : ℕ) → i ≡ at → putAt f at v i ≡ v
 put-same f at v i e = rw (eq-eqb i at e)

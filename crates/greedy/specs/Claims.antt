@@ -5,7 +5,7 @@ use mathlib.Core.List.{List, [], _∷_}
 use Prim.Native.Nat.{ℕ, _+_, _*_, _≤_}
 use lib.ListN.{length}
 use Rattle.words.specs.Words.{standsIn}
-use Rattle.trays.specs.Slips.{slipsOf, slip, numbers, total}
+use Rattle.trays.specs.Slips.{slipsOf, slip}
 use Rattle.trays.specs.Aside.{kept}
 use Rattle.trays.specs.Faults.{trayFault}
 use Rattle.greedy.specs.Joins.{saved}

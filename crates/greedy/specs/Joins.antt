@@ -13,8 +13,8 @@ use lib.Dec.{eqb, ltb}
 use lib.ListN.{length, take}
 use Rattle.words.specs.Lists.{each, inOrder}
 use Rattle.words.specs.Words.{same, before, overlapFor}
-use Rattle.trays.specs.Slips.{slip, numbers}
-use Rattle.trays.specs.Aside.{kept, counted}
+use Rattle.trays.specs.Slips.{slip}
+use Rattle.trays.specs.Aside.{kept}
 
 -- Document 01: a record of a join has left slip, right slip and overlap.
 pub record Join : Type 0 where

@@ -7,14 +7,14 @@
 --   placeIn ss i p ps     == where slip i is laid, if the pieces ps are laid from place p on; 0 if it is not among them
 --   lowest p x t          == the lowest place at which x stands in t, counted from p
 --   placeFor counts ss M i == the place of slip i
-use mathlib.Core.Bool.{Bool, true, false, cond}
+use mathlib.Core.Bool.{Bool, true, false}
 use mathlib.Core.List.{List, [], _∷_}
 use Prim.Native.Nat.{ℕ, zero, suc, _+_, _-_}
 use lib.Dec.{eqb}
 use lib.ListN.{length, drop}
 use Rattle.words.specs.Lists.{each}
 use Rattle.words.specs.Words.{begins}
-use Rattle.trays.specs.Slips.{slip, numbers}
+use Rattle.trays.specs.Slips.{slip}
 use Rattle.trays.specs.Aside.{isAside, kept, counted}
 use Rattle.greedy.specs.Joins.{Join, rightOf, leftOf, plainFor}
 

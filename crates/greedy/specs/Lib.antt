@@ -4,3 +4,4 @@ pub mod Walk
 pub mod Legends
 pub mod Composing
 pub mod Claims
+pub mod steps

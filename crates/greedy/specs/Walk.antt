@@ -11,8 +11,8 @@ use lib.Dec.{eqb, ltb, leb}
 use lib.ListN.{length, take}
 use Rattle.words.specs.Lists.{each, those, inOrder, headOr, tailOf}
 use Rattle.words.specs.Words.{begins, before, endsProperly}
-use Rattle.trays.specs.Slips.{slip, numbers}
-use Rattle.trays.specs.Aside.{kept, counted}
+use Rattle.trays.specs.Slips.{slip}
+use Rattle.trays.specs.Aside.{kept}
 use Rattle.greedy.specs.Joins.{Join, join, rightOf, leftOf, lastOf}
 
 -- the beginnings of s of n letters, n - 1 letters, .. 1 letter

@@ -9,7 +9,7 @@ use mathlib.Core.Path.{_≡_}
 use mathlib.Core.List.{List}
 use Prim.Native.Nat.{ℕ, suc, _≤_, _<_}
 use lib.ListN.{length, getD}
-use Rattle.words.proofs.Members.{In, Asc}
+use Rattle.words.specs.Members.{In, Asc}
 use Rattle.trays.specs.Limits.{maxSlips, maxSlip, maxLetters, workNeed}
 use Rattle.trays.specs.Slips.{slipsOf}
 use Rattle.trays.specs.Faults.{trayFault}

@@ -14,7 +14,7 @@ use Prim.Native.Nat.{ℕ, suc, _+_, _-_, _*_, _≤_, _<_}
 use lib.ListN.{length, getD, take}
 use Rattle.words.specs.Lists.{those, tailOf}
 use Rattle.words.specs.Words.{same, begins, endsProperly}
-use Rattle.words.proofs.Members.{In}
+use Rattle.words.specs.Members.{In}
 use Rattle.trays.specs.Slips.{slip, startOf, endOf}
 use Rattle.tables.specs.Tables.{table}
 use Rattle.matching.specs.Moves.{beginsSome, longestEnding}

@@ -1,5 +1,4 @@
 -- What ends at a place of a text, read off the state there.
---   endingOf ss M t   == the members of M whose slips end the text t, in the order of report
 --   ownersOf ss M x   == the members of M whose slip is x, ascending if M is
 -- A pattern that ends the text is a node, so it ends the state, which is the longest ending that begins a pattern. What ends a state is
 -- the state itself, longest, or ends its failure: so the slips that end a text are those of the state, then those of its failure, and
@@ -25,9 +24,7 @@ use Rattle.matching.specs.Moves.{beginsSome, longestEnding}
 use Rattle.matching.specs.Occurrences.{firstHere, endingAt}
 use Rattle.matching.proofs.Endings.{End, whole, below, by-end, end-trans, end-length, end-ends, ends-end, ends-cons, endsProperly-cons}
 use Rattle.matching.proofs.States.{fail, longest-end, longest-most}
-
-abbrev pub endingOf : List (List ℕ) → List ℕ → List ℕ → List ℕ
-endingOf ss M t = inOrder (firstHere ss) (those (λ i. ends (slip ss i) t) M)
+pub use Rattle.matching.specs.Occurrences.{endingOf}
 
 abbrev pub ownersOf : List (List ℕ) → List ℕ → List ℕ → List ℕ
 ownersOf ss M x = those (λ i. same (slip ss i) x) M

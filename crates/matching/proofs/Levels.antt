@@ -1,6 +1,5 @@
 -- The nodes of one length, read off the strings in dictionary order.
 --   NotAfter x y   == x does not stand behind y in dictionary order
---   level d p xs   == of the strings xs, before which stands p, the prefixes of d letters, each once
 -- Strings with a common prefix stand together in dictionary order. So a prefix of d letters is new exactly where a string has at least d
 -- letters and fewer than d in common with the string before it, and the prefixes found so ascend.
 use mathlib.Core.Path.{_≡_, refl, sym, ap, _∙_}
@@ -19,6 +18,7 @@ use Rattle.words.proofs.Tests.{tell, neither, and-intro}
 use Rattle.words.proofs.Members.{In, by-in, Asc}
 use Rattle.words.proofs.Orders.{up, lex-irr, lex-first, lex-then, before-tr, before-con}
 use Rattle.words.proofs.CommonPrefix.{common-same, common-take}
+pub use Rattle.matching.specs.steps.Levels.{level}
 
 abbrev pub NotAfter : List ℕ → List ℕ → Type 0
 NotAfter x y = before y x ≡ false
@@ -70,10 +70,6 @@ before-take (suc d) (a ∷ x) (b ∷ y) h c l =
 
 pub take-common : (d : ℕ) (x y : List ℕ) → d ≤ common x y → take d x ≡ take d y
 take-common d x y h = sym (take-take d (common x y) x h) ∙ ap (take d) (common-take x y) ∙ take-take d (common x y) y h
-
-abbrev pub level : ℕ → List ℕ → List (List ℕ) → List (List ℕ)
-level d p [] = []
-level d p (x ∷ xs) = elim (ltb (common p x) d && leb d (length x)) [ true ↦ take d x ∷ level d x xs | false ↦ level d x xs ]
 
 module _ (d : ℕ) where
   pub level-new : (p x : List ℕ) (xs : List (List ℕ)) → common p x < d → d ≤ length x → level d p (x ∷ xs) ≡ take d x ∷ level d x xs

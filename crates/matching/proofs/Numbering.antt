@@ -1,9 +1,7 @@
 -- The numbers of all nodes: by length, then in dictionary order.
 --   zs               == the patterns in dictionary order
 --   lower x y        == x has a smaller number than y: fewer letters, or as many and before it
---   levelsUp D zs    == the prefixes of 1 .. D letters, shortest first: the nodes 1, 2, ..
 --   levelsDown D zs  == the same, longest first
---   nodeAt c r zs    == the number of the prefix of c + 1 letters of the string of rank r
 -- Each length's prefixes ascend, and the lengths ascend. So the nodes, the empty string first, ascend by `lower` and have every prefix.
 use mathlib.Core.Path.{_≡_, sym, subst, _∙_}
 use mathlib.Core.Bool.{Bool, true, _&&_, _||_}
@@ -26,6 +24,7 @@ use Rattle.words.proofs.Picks.{asc-turn}
 pub use Rattle.matching.specs.Nodes.{lower}
 use Rattle.matching.proofs.Levels.{NotAfter, Before, notAfter-nil, level, level-asc, level-length, level-some, in-level}
 use Rattle.matching.proofs.Ranks.{level-node, rank-some, rank-fits}
+pub use Rattle.matching.specs.steps.Levels.{levelsUp, nodeAt}
 
 -- longest first: the walk's order of visits
 abbrev pub higher : List ℕ → List ℕ → Bool
@@ -42,10 +41,6 @@ lower-shorter x y h = lex-first up (length x) (length y) (before x y) (lt-ltb (l
 
 pub higher-longer : (x y : List ℕ) → length y < length x → Less higher x y
 higher-longer x y h = lex-first down (length x) (length y) (before x y) (lt-ltb (length y) (length x) h)
-
-abbrev pub levelsUp : ℕ → List (List ℕ) → List (List ℕ)
-levelsUp zero zs = []
-levelsUp (suc c) zs = levelsUp c zs ++ level (suc c) [] zs
 
 abbrev pub levelsDown : ℕ → List (List ℕ) → List (List ℕ)
 levelsDown zero zs = []
@@ -147,12 +142,9 @@ module _ (zs : List (List ℕ)) where
   nodes-at D c zero h k l = absurd (omega arith)
   nodes-at D c (suc j) h k l = rw (add-suc (length (levelsUp c zs)) j) (levelsUp-at D c j h l)
 
-  abbrev pub nodeAt : ℕ → ℕ → ℕ
-  nodeAt c r = length (levelsUp c zs) + length (level (suc c) [] (take (suc r) zs))
-
   pub nodeAt-is :
       (D c r : ℕ) → c < D → r < length zs → c < length (getD zs r [])
-      → getD ([] ∷ levelsUp D zs) (nodeAt c r) [] ≡ take (suc c) (getD zs r [])
+      → getD ([] ∷ levelsUp D zs) (nodeAt zs c r) [] ≡ take (suc c) (getD zs r [])
   nodeAt-is D c r h l k =
       nodes-at D c (length (level (suc c) [] (take (suc r) zs))) h (rank-some (suc c) zs r l (omega arith) k) (rank-fits (suc c) zs (suc r))
       ∙ level-node (suc c) zs r l k

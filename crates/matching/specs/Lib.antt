@@ -2,3 +2,4 @@
 pub mod Moves
 pub mod Occurrences
 pub mod Nodes
+pub mod steps

@@ -30,3 +30,7 @@ endingAt ss t = inOrder (firstHere ss) (those (λ i. ends (slip ss i) t) (number
 -- Document 01, finding: by end place, then longer slip first, then lower number.
 abbrev pub occurrences : List (List ℕ) → List ℕ → List Found
 occurrences ss t = each (λ e. map (found e) (endingAt ss (take e t))) (upFrom 1 (length t))
+
+-- the members of M whose slips end the text t, in the order of report
+abbrev pub endingOf : List (List ℕ) → List ℕ → List ℕ → List ℕ
+endingOf ss M t = inOrder (firstHere ss) (those (λ i. ends (slip ss i) t) M)

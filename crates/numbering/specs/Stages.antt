@@ -16,8 +16,8 @@ use lib.ListN.{length, getD, take}
 use Rattle.trays.specs.Limits.{maxSlips, maxSlip, maxLetters, workNeed}
 use Rattle.trays.specs.Slips.{slip, slipsOf, startOf}
 use Rattle.tables.specs.Tables.{table, Put, Only}
-use Rattle.matching.proofs.Levels.{level}
-use Rattle.matching.proofs.Numbering.{levelsUp, nodeAt}
+use Rattle.matching.specs.steps.Levels.{level}
+use Rattle.matching.specs.steps.Levels.{levelsUp, nodeAt}
 use Rattle.layout.specs.Layout.{ORDER, COMMON, LEVEL, AT, OWN}
 use Rattle.layout.specs.Tables.{cell, patterns, Owned}
 use Rattle.numbering.specs.Numbering.{Sorted, NodeCells}

@@ -16,7 +16,7 @@ use lib.ListN.{length}
 use Rattle.words.specs.Lists.{tailOf}
 use Rattle.trays.specs.Slips.{slipsOf}
 use Rattle.matching.specs.Nodes.{nodes, string, IsNode, Num}
-use Rattle.matching.proofs.Finds.{endingOf}
+use Rattle.matching.specs.Occurrences.{endingOf}
 use Rattle.layout.specs.Layout.{OUT, TALLY}
 use Rattle.layout.specs.Tables.{cell, members, patterns, owners}
 use Rattle.layout.specs.Numbered.{patternsIn, Headed, Kept}

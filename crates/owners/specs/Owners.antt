@@ -14,7 +14,7 @@ use mathlib.Core.Path.{_≡_}
 use mathlib.Core.List.{List}
 use Prim.Native.Nat.{ℕ, _+_, _-_, _≤_, _<_}
 use lib.ListN.{length, getD, drop}
-use Rattle.words.proofs.Members.{In}
+use Rattle.words.specs.Members.{In}
 use Rattle.trays.specs.Limits.{maxSlips}
 use Rattle.trays.specs.Slips.{slipsOf, startOf, endOf}
 use Rattle.trays.specs.Aside.{kept}

@@ -15,13 +15,13 @@ use mathlib.Core.List.{List, [], _∷_, _++_, map}
 use Prim.Native.Nat.{ℕ, suc, _+_, _-_, _*_, _≤_, _<_}
 use lib.ListN.{length, take, drop}
 use Rattle.words.specs.Lists.{each, upFrom}
-use Rattle.words.proofs.Members.{In}
+use Rattle.words.specs.Members.{In}
 use Rattle.trays.specs.Limits.{maxText}
 use Rattle.trays.specs.Slips.{slipsOf, numbers}
 use Rattle.matching.specs.Moves.{longestEnding, moves}
 use Rattle.matching.specs.Nodes.{string, IsNode, Num}
 use Rattle.matching.specs.Occurrences.{Found, found, endingAt, occurrences}
-use Rattle.matching.proofs.Finds.{endingOf}
+use Rattle.matching.specs.Occurrences.{endingOf}
 use Rattle.layout.specs.Layout.{TWIN, OUT}
 use Rattle.layout.specs.Tables.{cell, members, patterns, Linked}
 use Rattle.layout.specs.Numbered.{patternsIn, Kept}

@@ -11,8 +11,8 @@ use lib.ListN.{length, getD}
 use Rattle.words.specs.Lists.{those}
 use Rattle.trays.specs.Limits.{maxSlips}
 use Rattle.greedy.specs.Joins.{Join, rightOf}
-use Rattle.greedy.proofs.Linked.{Linked}
-use Rattle.greedy.proofs.Threads.{Threads}
+use Rattle.greedy.specs.steps.Linked.{Linked}
+use Rattle.greedy.specs.steps.Linked.{Threads}
 use Rattle.layout.specs.Staging.{Neighbours}
 
 abbrev pub endsIn : List ℕ → ℕ → ℕ

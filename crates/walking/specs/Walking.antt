@@ -19,7 +19,7 @@ use Rattle.trays.specs.Aside.{kept, counted}
 use Rattle.tables.specs.Tables.{Cells, Only}
 use Rattle.greedy.specs.Joins.{Join, join, rightOf, plainFor}
 use Rattle.greedy.specs.Walk.{walkFrom}
-use Rattle.greedy.proofs.Threads.{putAt}
+use Rattle.greedy.specs.steps.Linked.{putAt}
 use Rattle.matching.specs.Nodes.{string}
 use Rattle.layout.specs.Layout.{LEVEL, STARTS, STARTS-NEXT, ENDS, ENDS-NEXT, JOINS}
 use Rattle.layout.specs.Tables.{cell, members, StartsIs, EndsIs}

@@ -7,7 +7,7 @@ ghost use lib.ListN.{length, set};
 ghost use Rattle.words.specs.Lists.{upFrom};
 ghost use Rattle.trays.specs.Limits.{maxSlips};
 ghost use Rattle.greedy.specs.Joins.{join};
-ghost use Rattle.greedy.proofs.Scans as S;
+ghost use Rattle.greedy.specs.steps.Scans as S;
 ghost use Rattle.layout.specs.Staging.{joinsIn};
 ghost use Rattle.walking.specs.Runs as R;
 ghost use Rattle.walking.specs.Walking as W;

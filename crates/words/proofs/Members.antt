@@ -1,8 +1,5 @@
 -- Membership and order in lists, and what the vocabulary of lists has for members.
---   In a xs        == a is a member of xs
---   Asc R xs       == each member of xs stands in R to every later one
 --   Sorts R xs ys  == ys is ascending by R and has the members of xs
---   Less lt        == the test lt as a relation
 -- Each law is one induction over the list; a test is decided by `tell`, and the two clauses `those-yes`, `those-no` open `those` at its head.
 use mathlib.Core.Path.{_≡_, refl, sym, ap₂, _∙_}
 use mathlib.Core.Bool.{Bool, true, false}
@@ -14,13 +11,7 @@ use native.Mathlib.Decide.{ℕ-discrete}
 use native.Mathlib.Omega.{arith}
 use Rattle.words.specs.Lists.{each, those, any, upFrom, insert, inOrder}
 use Rattle.words.proofs.Tests.{tell, either, or-left, or-right, not-both}
-
-abbrev pub In : {A : Type 0} → A → List A → Type 0
-In a xs = List·Memᴰ a xs
-
-abbrev pub Asc : {A : Type 0} → (A → A → Type 0) → List A → Type 0
-Asc R [] = Unit {0}
-Asc R (x ∷ xs) = ((y : _) → In y xs → R x y) × Asc R xs
+pub use Rattle.words.specs.Members.{In, Asc, Less}
 
 pub record Sorts {A : Type 0} (R : A → A → Type 0) (xs ys : List A) : Type 0 where
   pub asc : Asc R ys
@@ -156,9 +147,6 @@ module _ {A : Type 0} (R : A → A → Type 0) (irr : (a : A) → R a a → ⊥)
       ap₂ _∷_ e (asc-one xs ys (p .1) (q .1) there here)
 
 -- insert, inOrder: for any test that is transitive and connected
-abbrev pub Less : {A : Type 0} → (A → A → Bool) → A → A → Type 0
-Less lt a b = lt a b ≡ true
-
 module _ {A : Type 0} (lt : A → A → Bool) (tr : (a b c : A) → Less lt a b → Less lt b c → Less lt a c)
     (con : (a b : A) → lt a b ≡ false → lt b a ≡ false → a ≡ b) where
   pub insert-sorts : (x : A) (ys : List A) → Asc (Less lt) ys → Sorts (Less lt) (x ∷ ys) (insert lt x ys)

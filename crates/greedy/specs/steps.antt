@@ -1,0 +1,3 @@
+-- What only loops and their proofs need.
+pub mod Linked
+pub mod Scans
