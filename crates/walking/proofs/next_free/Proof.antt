@@ -1,4 +1,4 @@
--- Invariant: every slip of the list from `from` up to l has a right neighbour, so the slips without one are those from l on.
+-- Invariant: every slip of the list from `from` up to l has a right neighbour, so those that have none are found from l on.
 use lib.ListN.{length}
 use Rattle.walking.specs.Runs.{endersFrom}
 use Rattle.walking.proofs.FreeLoop.{Searching, free-start, free-real, free-within, free-found, free-turn, free-less, free-none}
