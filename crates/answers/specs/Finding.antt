@@ -54,10 +54,10 @@ searchOf s es t w k =
     let f = findFault s es t w k in
     elim (f .number) [ zero ↦ searchOutcome (slipsOf s es) t | suc n ↦ searchRefused f ]
 
-abbrev pub foundRecord : O.Found → Found
+abbrev pub foundRecord : O.Occurrence → Found
 foundRecord f = record { end = f .end; slip = f .which }
 
-abbrev pub flatFound : List O.Found → List ℕ
+abbrev pub flatFound : List O.Occurrence → List ℕ
 flatFound fs = each (λ f. f .end ∷ (f .which ∷ [])) fs
 
 pub record Answered (s es t w w′ : List ℕ) (k : ℕ) (r : Search) : Type 0 where

@@ -18,29 +18,29 @@ use Rattle.trays.specs.Faults.{trayFault}
 use Rattle.greedy.specs.Joins.{Join, join, saved}
 use Rattle.greedy.specs.Composing.{whole, joinsOf, walkOf, legendOf, placeOf, keptLetters}
 use Rattle.matching.specs.Moves.{moves}
-use Rattle.matching.specs.Occurrences.{Found, found, occurrences}
+use Rattle.matching.specs.Occurrences.{Occurrence, occurrence, occurrences}
 
 -- K kept, S set aside
 pub data Mark : Type 0 where
   K S : Mark
 
 -- a slip line: number, length, place, mark
-pub record Line : Type 0 where
+pub record SheetLine : Type 0 where
   pub number : ℕ
   pub letters : ℕ
   pub place : ℕ
   pub mark : Mark
 
-abbrev pub line : ℕ → ℕ → ℕ → Mark → Line
+abbrev pub line : ℕ → ℕ → ℕ → Mark → SheetLine
 line i n p m = record { number = i; letters = n; place = p; mark = m }
 
-abbrev pub lineOf : List (List ℕ) → ℕ → Line
+abbrev pub lineOf : List (List ℕ) → ℕ → SheetLine
 lineOf ss i = line i (length (slip ss i)) (placeOf (whole ss) i) (elim (isAside ss (numbers ss) i) [ true ↦ S | false ↦ K ])
 
 pub record Sheet : Type 0 where
   -- slips, kept, kept letters, saved, legend length
   pub header : List ℕ
-  pub lines : List Line
+  pub lines : List SheetLine
   pub by-plain-rule : List Join
   pub by-walk : List Join
   pub legend : List ℕ
@@ -66,7 +66,7 @@ pub data Told : Type 0 where
   sheet : Sheet → Told
   pair : Pair → Told
   -- the moves and the occurrences
-  finds : ℕ → List Found → Told
+  finds : ℕ → List Occurrence → Told
 
 abbrev pub answer : List ℕ → List ℕ → Asked → Told
 answer s es composing = sheet (sheetOf (slipsOf s es))
@@ -83,7 +83,7 @@ abbrev pub specimen : String → List ℕ → Asked → Told → Specimen
 specimen s es q a = record { letters = s; ends = es; asked = q; told = a }
 
 -- a tray composed: header, slip lines, joins (one list for both rules), legend
-abbrev pub composes : String → List ℕ → List ℕ → List Line → List Join → String → Specimen
+abbrev pub composes : String → List ℕ → List ℕ → List SheetLine → List Join → String → Specimen
 composes s es h ls js t =
     specimen s es composing (sheet (record { header = h; lines = ls; by-plain-rule = js; by-walk = js; legend = word t }))
 
@@ -133,5 +133,5 @@ starred =
     (join 1 3 4 ∷ join 5 1 3 ∷ join 3 4 2 ∷ [])
     "SIMPCAESAVGPIVS"
     -- the `find` sheet
-    ∷ specimen composeLetters composeEnds (finding-in "IMPCAESAVG") (finds 11 (found 7 1 ∷ found 7 2 ∷ found 10 3 ∷ []))
+    ∷ specimen composeLetters composeEnds (finding-in "IMPCAESAVG") (finds 11 (occurrence 7 1 ∷ occurrence 7 2 ∷ occurrence 10 3 ∷ []))
     ∷ []

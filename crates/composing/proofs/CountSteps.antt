@@ -17,7 +17,7 @@ use Rattle.greedy.proofs.Demand3.{composed}
 use Rattle.layout.specs.Layout.{KEPT, JOINS}
 use Rattle.layout.specs.Tables.{cell}
 use Rattle.layout.specs.Staging.{keptIn, joinIn, joinsIn}
-use Rattle.composing.specs.steps.Composing.{thirds, KeptReal, Walked, CountsAre}
+use Rattle.composing.specs.steps.Composing.{thirds, KeptReal, AfterWalk, LetterCountsAre}
 use Rattle.composing.proofs.PiecesFit.{kept-real}
 
 -- a member of a list at a place
@@ -50,7 +50,7 @@ keptPart w = take (KEPT + 200 - KEPT) (drop KEPT w)
 abbrev joinsPart : List ℕ → List ℕ
 joinsPart w = take (JOINS + 600 - JOINS) (drop JOINS w)
 
-module _ (s es w : List ℕ) (k j : ℕ) (a : Walked s es w k j) where
+module _ (s es w : List ℕ) (k j : ℕ) (a : AfterWalk s es w k j) where
   pub kept-part : keptPart w ≡ table w KEPT maxSlips
   kept-part = part-table w KEPT maxSlips (KEPT + 200) refl
 
@@ -94,7 +94,7 @@ module _ (s es w : List ℕ) (k j : ℕ) (a : Walked s es w k j) where
     pub saved-fits : m ≤ n
     saved-fits = omega (arith, letters-are, saved-are, composed (slipsOf s es) .saving)
 
-    pub counts-are : CountsAre s es (record { letters = n; saved = m; need = n - m })
+    pub counts-are : LetterCountsAre s es (record { letters = n; saved = m; need = n - m })
     counts-are =
         record {
           letters-are = letters-are;

@@ -29,9 +29,9 @@ use Rattle.laying.proofs.NeighbourPieces.{pieces-by}
 use Rattle.layout.specs.Layout.{KEPT, JOINS}
 use Rattle.layout.specs.Staging.{joinIn, joinsIn}
 use Rattle.answers.specs.declared.Composed.{Composed}
-use Rattle.composing.specs.declared.Counts.{Counts}
+use Rattle.composing.specs.declared.LetterCounts.{LetterCounts}
 use Rattle.answers.specs.Composing.{refusedBy}
-use Rattle.composing.specs.steps.Composing.{Walked, Joined, piecesHere, StageAsks, PiecesStaged, CountsAre, WritingAsks, Written, Finished, OutcomeAsks, outcomeBy}
+use Rattle.composing.specs.steps.Composing.{AfterWalk, Joined, piecesHere, StageAsks, PiecesStaged, LetterCountsAre, WritingAsks, Written, Finished, OutcomeAsks, outcomeBy}
 use Rattle.composing.proofs.PiecesFit.{kept-real, kept-few, kept-small, legend-small, pieces-count}
 use Rattle.composing.proofs.CountSteps.{kept-part, kept-asks}
 use Rattle.composing.proofs.FinishSteps.{legend-short, lists-short, nothing-short, answer-composed, turned-back, flat-table}
@@ -51,7 +51,7 @@ module _ (s es w : List ℕ) (k j : ℕ) (left right overs : List ℕ) (a : Join
   abbrev K : List ℕ
   K = kept ss (numbers ss)
 
-  walked : Walked s es w k j
+  walked : AfterWalk s es w k j
   walked = a .walked
 
   few-ends : length es ≤ maxSlips
@@ -102,7 +102,7 @@ module _ (s es w : List ℕ) (k j : ℕ) (left right overs : List ℕ) (a : Join
             };
       }
 
-  module _ (c : Counts) (h : CountsAre s es c) where
+  module _ (c : LetterCounts) (h : LetterCountsAre s es c) where
     pub small-need : c .need < 2 ^ 32
     small-need = omega (arith, h .need-is, legend-small s es (walked .tray))
 

@@ -20,7 +20,7 @@ use Rattle.laying.specs.Places.{placedBy, asideBy, PlacesAsk}
 use Rattle.laying.proofs.PlacesAre.{placed-length, aside-length}
 use Rattle.layout.specs.Layout.{KEPT, PLACES}
 use Rattle.answers.specs.Composing.{flatPlaces}
-use Rattle.composing.specs.steps.Composing.{piecesHere, StageAsks, PiecesStaged, PlacingAsks, Placed}
+use Rattle.composing.specs.steps.Composing.{piecesHere, StageAsks, PiecesStaged, PlacingAsks, PlacesWritten}
 use Rattle.composing.proofs.PiecesFit.{pieces-once, pieces-which, pieces-places, kept-few, legend-small}
 use Rattle.composing.proofs.FlatPlaces.{places-flat}
 
@@ -125,7 +125,7 @@ module _ (s es w t xs : List ℕ) (k : ℕ) (a : PlacingAsks s es w t xs k) (w�
           zeros : (i : ℕ) → i < length ss → getD {A = ℕ} (replicate size 0) (2 * i + 1) 0 ≡ 0
           zeros i h = getD-replicate size (2 * i + 1) 0 0 (omega (arith, few, slips-count s es))
 
-      pub places-given : Placed s es w (back (back w₁ p₁) p₂)
+      pub places-given : PlacesWritten s es w (back (back w₁ p₁) p₂)
       places-given =
           record {
             below =

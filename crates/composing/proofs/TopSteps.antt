@@ -21,7 +21,7 @@ use Rattle.layout.specs.Tables.{members}
 use Rattle.layout.specs.Staging.{keptIn}
 use Rattle.layout.proofs.Frames.{members-kept}
 use Rattle.automaton.specs.Built.{Buildable, Built}
-use Rattle.owners.specs.Owners.{Listed}
+use Rattle.kept_lists.specs.KeptLists.{ListsFilled}
 use Rattle.walking.specs.Walking as W
 use Rattle.answers.specs.WorkArea.{workRow}
 use Rattle.answers.specs.declared.Composed.{Composed}
@@ -31,7 +31,7 @@ use Rattle.composing.specs.steps.Composing.{Joined, Finished}
 use Rattle.composing.proofs.FinishSteps.{turned-back}
 
 module _ (s es w : List ℕ) (a : Buildable s es w) (nodes : ℕ) (w₁ : List ℕ) (b : Built s es w nodes w₁) (k : ℕ) (w₂ : List ℕ)
-    (l : Listed s es (length es) nodes w₁ k w₂) where
+    (l : ListsFilled s es (length es) nodes w₁ k w₂) where
   members-are : members w₂ (length es) ≡ numbers (slipsOf s es)
   members-are = members-kept (length es) (omega (arith, l .staged .automaton .branched .numbered .few-members)) (l .below) ∙ b .all-slips
 

@@ -10,7 +10,7 @@ use Rattle.trays.specs.Slips.{slipsOf}
 use Rattle.greedy.specs.Legends.{spelled}
 use Rattle.greedy.specs.Composing.{whole, legendOf}
 use Rattle.laying.specs.Laying.{staged, CanLay}
-use Rattle.composing.specs.steps.Composing.{PlacingAsks, Placed, WritingAsks, Written}
+use Rattle.composing.specs.steps.Composing.{PlacingAsks, PlacesWritten, WritingAsks, Written}
 use Rattle.composing.proofs.PiecesFit.{pieces-fit, kept-few}
 
 module _ (s es w l xs : List ℕ) (k need : ℕ) (a : WritingAsks s es w l xs k need) where
@@ -36,5 +36,5 @@ module _ (s es w l xs : List ℕ) (k need : ℕ) (a : WritingAsks s es w l xs k 
     pub place-asks : PlacingAsks s es w (take need l₁) xs k
     place-asks = record { room = a .room; tray = a .tray; legend-is = first-is; pieces = a .pieces }
 
-    pub written-out : (w′ : List ℕ) → Placed s es w w′ → Written s es w w′ l l₁
+    pub written-out : (w′ : List ℕ) → PlacesWritten s es w w′ → Written s es w w′ l l₁
     written-out w′ p = record { legend-is = laid-is; placed = p }

@@ -3,8 +3,8 @@ ghost use mathlib.Core.Path.{_≡_};
 ghost use Prim.Native.Nat.{_+_, _*_, _≤_, _<_};
 ghost use lib.ListN.{length, take};
 ghost use Rattle.trays.specs.Slips.{slipsOf, total};
-ghost use Rattle.composing.specs.steps.Composing.{thirds, KeptReal, StageAsks, PiecesStaged, Walked, CountsAre, PlacingAsks};
-ghost use Rattle.composing.specs.steps.Composing.{Placed, WritingAsks, Written, Joined, Finished, OutcomeAsks, outcomeBy};
+ghost use Rattle.composing.specs.steps.Composing.{thirds, KeptReal, StageAsks, PiecesStaged, AfterWalk, LetterCountsAre, PlacingAsks};
+ghost use Rattle.composing.specs.steps.Composing.{PlacesWritten, WritingAsks, Written, Joined, Finished, OutcomeAsks, outcomeBy};
 ghost use Rattle.answers.specs.Composing.{refusedBy};
 ghost use Rattle.composing.specs.steps.Composing.{Staged};
 ghost use Rattle.automaton.specs.Built.{Buildable};
@@ -16,7 +16,7 @@ use layout::PLACES;
 use layout::WORK_NEED;
 
 // Kept letters, saved letters, and the letters that the legend needs.
-pub struct Counts {
+pub struct LetterCounts {
     pub letters: usize,
     pub saved: usize,
     pub need: usize,
@@ -87,7 +87,7 @@ fn write_places(
     k: usize,
 )
     requires { ⌜ PlacingAsks (now letters) (now ends) (now work) (now legend) (now pieces) k ⌝ }
-    ensures { λ _. ⌜ Placed (now (letters .entry)) (now (ends .entry)) (now (work .entry)) (now (work .exit)) ⌝ }
+    ensures { λ _. ⌜ PlacesWritten (now (letters .entry)) (now (ends .entry)) (now (work .entry)) (now (work .exit)) ⌝ }
 {
     tables::clear(work, PLACES, 400);
     laying::kept_places(letters, ends, pieces, k, &mut work[PLACES..PLACES + 400]);
@@ -95,13 +95,13 @@ fn write_places(
 }
 
 // What is counted before anything is written.
-fn count_letters(letters: &[u8], ends: &[u16], work: &[u16], k: usize, joins: usize) -> Counts
-    requires { ⌜ Walked (now letters) (now ends) (now work) k joins ⌝ }
-    ensures { λ r. ⌜ CountsAre (now (letters .entry)) (now (ends .entry)) r ⌝ }
+fn count_letters(letters: &[u8], ends: &[u16], work: &[u16], k: usize, joins: usize) -> LetterCounts
+    requires { ⌜ AfterWalk (now letters) (now ends) (now work) k joins ⌝ }
+    ensures { λ r. ⌜ LetterCountsAre (now (letters .entry)) (now (ends .entry)) r ⌝ }
 {
     let all = kept_letters(letters, ends, &work[KEPT..KEPT + 200], k);
     let saved = saved_letters(&work[JOINS..JOINS + 600], joins);
-    Counts {
+    LetterCounts {
         letters: all,
         saved,
         need: all - saved,
@@ -142,7 +142,7 @@ fn refused(number: u8, detail: u32) -> Composed
 }
 
 // The answer to a tray that is composed.
-fn outcome(slips: usize, kept: usize, counts: Counts, joins: usize) -> Composed
+fn outcome(slips: usize, kept: usize, counts: LetterCounts, joins: usize) -> Composed
     requires { ⌜ OutcomeAsks slips kept counts joins ⌝ }
     ensures { λ r. ⌜ r ≡ outcomeBy slips kept counts joins ⌝ }
 {
@@ -207,7 +207,7 @@ fn compose_accepted(
 {
     let n = ends.len();
     let nodes = automaton::build(letters, ends, work);
-    let k = owners::fill_lists(letters, ends, work, n, nodes);
+    let k = kept_lists::fill_lists(letters, ends, work, n, nodes);
     let mut left = [0u16; 200];
     let mut right = [0u16; 200];
     let mut overs = [0u16; 200];

@@ -6,8 +6,8 @@ use lib.ListN.{length, length-map, List·getD-map}
 use Rattle.words.specs.Lists.{over}
 use Rattle.trays.specs.Slips.{slipsOf}
 use Rattle.trays.proofs.Rows.{by-number, written-all, written-none}
-use Rattle.stores.specs.Firsts.{firsts}
-use Rattle.stores.proofs.Firsts.{firsts-are}
+use Rattle.record_loops.specs.Firsts.{firsts}
+use Rattle.record_loops.proofs.Firsts.{firsts-are}
 use Rattle.matching.specs.Occurrences as O
 use Rattle.matching.specs.Occurrences.{occurrences}
 use Rattle.answers.specs.declared.Found.{Found}
@@ -21,7 +21,7 @@ records-are : (s es t : List ℕ) (n : ℕ) → n ≡ length (occurrences (slips
 records-are s es t n e =
     let os = occurrences (slipsOf s es) t in
     ap (firsts (foundAt s es t)) (e ∙ sym (length-map os foundRecord))
-    ∙ firsts-are (foundAt s es t) (foundRecord (O.found 0 0)) (map foundRecord os) (λ i l. sym (List·getD-map foundRecord os i (O.found 0 0)))
+    ∙ firsts-are (foundAt s es t) (foundRecord (O.occurrence 0 0)) (map foundRecord os) (λ i l. sym (List·getD-map foundRecord os i (O.occurrence 0 0)))
 
 pub find-says : {s es t w w₁ w′ : List ℕ} {o o′ : List Found} {r : Begun} → CoreSays s es t w w₁ (length o) r
     → o′ ≡ over (firsts (foundAt s es t) (r .count)) o → Left s es t (r .count) w₁ w′ → FindSays s es t w w′ o o′ (r .answer)

@@ -3,7 +3,7 @@ ghost use mathlib.Core.Path.{_≡_};
 ghost use Prim.Native.Nat.{_+_, _≤_, _<_};
 ghost use lib.ListN.{length};
 ghost use Rattle.words.specs.Lists.{over};
-ghost use Rattle.stores.specs.Firsts.{firsts};
+ghost use Rattle.record_loops.specs.Firsts.{firsts};
 ghost use Rattle.answers.specs.Finding as F;
 ghost use Rattle.searching.specs.steps.Searching as T;
 use answers::Found;

@@ -20,7 +20,7 @@ use Rattle.scanning.proofs.Scans.{able-few}
 use Rattle.answers.specs.declared.Found.{Found}
 use Rattle.answers.specs.Finding.{flatFound}
 use Rattle.searching.specs.steps.Searching.{Ready, Next}
-use Rattle.flat.specs.steps.Occurrences.{FlatTo, CanFlat, Flattened}
+use Rattle.flat.specs.steps.Occurrences.{FlatTo, CanFlat, NumbersStored}
 use Rattle.searching.proofs.Telling.{Telling, telling-start, telling-ready, telling-more}
 
 over-two : (xs old : List ℕ) (n a b : ℕ) → length xs ≡ n → n + 1 < length old → set (set (over xs old) n a) (n + 1) b ≡ over (xs ++ (a ∷ (b ∷ []))) old
@@ -30,16 +30,16 @@ over-two xs old n a b e h =
     ∙ over-set 0 (xs ++ (a ∷ [])) old (n + 1) b l h
     ∙ ap (λ (z : List ℕ). over z old) (append-assoc xs (a ∷ []) (b ∷ []))
 
-length-flat : (fs : List O.Found) → length (flatFound fs) ≡ 2 * length fs
+length-flat : (fs : List O.Occurrence) → length (flatFound fs) ≡ 2 * length fs
 length-flat [] = refl
 length-flat (f ∷ fs) = omega (arith, length-flat fs)
 
-flat-suc : (fs : List O.Found) (i : ℕ) → i < length fs
-    → flatFound (take (i + 1) fs) ≡ flatFound (take i fs) ++ (getD fs i (O.found 0 0) .end ∷ (getD fs i (O.found 0 0) .which ∷ []))
+flat-suc : (fs : List O.Occurrence) (i : ℕ) → i < length fs
+    → flatFound (take (i + 1) fs) ≡ flatFound (take i fs) ++ (getD fs i (O.occurrence 0 0) .end ∷ (getD fs i (O.occurrence 0 0) .which ∷ []))
 flat-suc fs i h =
     ap (λ (n : ℕ). flatFound (take n fs)) (add-one i)
-    ∙ ap flatFound (take-suc fs i (O.found 0 0) h)
-    ∙ each-append (λ (f : O.Found). f .end ∷ (f .which ∷ [])) (take i fs) (getD fs i (O.found 0 0) ∷ [])
+    ∙ ap flatFound (take-suc fs i (O.occurrence 0 0) h)
+    ∙ each-append (λ (f : O.Occurrence). f .end ∷ (f .which ∷ [])) (take i fs) (getD fs i (O.occurrence 0 0) ∷ [])
 
 pub record Flattening (s es t : List ℕ) (count : ℕ) (w₀ w o₀ o : List ℕ) (i : ℕ) : Type 0 where
   pub room : 2 * count ≤ length o₀
@@ -52,13 +52,13 @@ pub flat-start : {s es t : List ℕ} {count : ℕ} {w o : List ℕ} → CanFlat 
 flat-start c = record { room = c .room; upto = omega arith; telling = telling-start (c .enough); found-are = refl; same = refl }
 
 module _ {s es t : List ℕ} {count : ℕ} {w₀ w o₀ o : List ℕ} {i : ℕ} (F : Flattening s es t count w₀ w o₀ o i) where
-  abbrev os : List O.Found
+  abbrev os : List O.Occurrence
   os = occurrences (slipsOf s es) t
 
   written-length : length (flatFound (take i os)) ≡ 2 * i
   written-length = length-flat (take i os) ∙ ap (λ (n : ℕ). 2 * n) (length-take-le i os (omega (arith, F .upto, F .telling .upto)))
 
-  pub flat-all : count ≤ i → Flattened s es t count w₀ w o₀ o
+  pub flat-all : count ≤ i → NumbersStored s es t count w₀ w o₀ o
   flat-all h =
       let e : i ≡ count = omega (arith, F .upto) in
       record { found-are = rw (← e) (F .found-are); left = rw (← e) (F .telling .left) }
@@ -79,16 +79,16 @@ module _ {s es t : List ℕ} {count : ℕ} {w₀ w o₀ o : List ℕ} {i : ℕ} 
     pub flat-more : {w′ : List ℕ} {x : Found} {y : ℕ} → Next s es t i w w′ x → y ≡ x .slip
         → Flattening s es t count w₀ w′ o₀ (set (set o (2 * i) (x .end)) (2 * i + 1) y) (i + 1)
     flat-more {w′} {x} {y} n e =
-        let a : x .end ≡ getD os i (O.found 0 0) .end = ap (λ (f : Found). f .end) (n .is) in
-        let b : y ≡ getD os i (O.found 0 0) .which = e ∙ ap (λ (f : Found). f .slip) (n .is) in
+        let a : x .end ≡ getD os i (O.occurrence 0 0) .end = ap (λ (f : Found). f .end) (n .is) in
+        let b : y ≡ getD os i (O.occurrence 0 0) .which = e ∙ ap (λ (f : Found). f .slip) (n .is) in
         record {
           room = F .room;
           upto = omega arith;
           telling = telling-more h (F .telling) n;
           found-are =
               rw (a, b)
-              (ap (λ (z : List ℕ). set (set z (2 * i) (getD os i (O.found 0 0) .end)) (2 * i + 1) (getD os i (O.found 0 0) .which)) (F .found-are)
-              ∙ over-two (flatFound (take i os)) o₀ (2 * i) (getD os i (O.found 0 0) .end) (getD os i (O.found 0 0) .which) written-length
+              (ap (λ (z : List ℕ). set (set z (2 * i) (getD os i (O.occurrence 0 0) .end)) (2 * i + 1) (getD os i (O.occurrence 0 0) .which)) (F .found-are)
+              ∙ over-two (flatFound (take i os)) o₀ (2 * i) (getD os i (O.occurrence 0 0) .end) (getD os i (O.occurrence 0 0) .which) written-length
               (omega (arith, F .room))
               ∙ ap (λ (z : List ℕ). over z o₀) (sym (flat-suc os i (omega (arith, F .telling .upto)))));
           same = rw (length-set, length-set) (F .same);

@@ -66,7 +66,7 @@ fn scan_flat(
     count: usize,
 )
     requires { ⌜ N.CanFlat (now letters) (now ends) (now text) count (now work) (now found) ⌝ }
-    ensures { λ _. ⌜ N.Flattened (now (letters .entry)) (now (ends .entry)) (now (text .entry)) count (now (work .entry)) (now (work .exit))
+    ensures { λ _. ⌜ N.NumbersStored (now (letters .entry)) (now (ends .entry)) (now (text .entry)) count (now (work .entry)) (now (work .exit))
         (now (found .entry)) (now (found .exit)) ⌝ }
 {
     let mut i: usize = 0;

@@ -27,7 +27,7 @@ use Rattle.greedy.specs.Joins.{Join, join, lastOf, free, arcs, firstArc,
 use Rattle.greedy.specs.Claims.{holdsAll}
 use Rattle.greedy.proofs.Takes.{by-zero, Sound, refused-take, refused-self}
 use Rattle.greedy.proofs.Arcs.{Prior, arcs-sorted, arcs-in}
-use Rattle.greedy.proofs.Chains.{Chain, whole, end, Run, Arc, along, Rep, tail-end, run-last}
+use Rattle.greedy.proofs.Chains.{Chain, wholeChain, end, Run, Arc, along, Rep, tail-end, run-last}
 use Rattle.greedy.proofs.Letters.{weight}
 use Rattle.greedy.proofs.Represent.{is-free, merged, find, saved-append, rep-forth, rep-back, singles, rep-singles, plain-arcs, plain-rep}
 use Rattle.greedy.proofs.TextOrder.{over, Apart, text-order}
@@ -68,15 +68,15 @@ module _
   where
     module _ (bs js : List Join) (falling : Falling bs) (remain : Remain w K bs js) where
       below-runs :
-          (C : Chain) (Cs : List Chain) → All (Run js) (C ∷ Cs) → ((x : ℕ) → sum (λ D. held x (whole D)) (C ∷ Cs) ≤ held x K)
+          (C : Chain) (Cs : List Chain) → All (Run js) (C ∷ Cs) → ((x : ℕ) → sum (λ D. held x (wholeChain D)) (C ∷ Cs) ≤ held x K)
           → sum (λ D. length (D .rest)) (C ∷ Cs) ≤ length js → Below w (top bs) (end C) Cs z
       below-runs C [] r h n = omega (arith, high (end C))
       below-runs C (D ∷ Cs) (c, (d, r)) h n =
           let u = end C in
           let v = D .first in
-          let hu : 1 ≤ held u (whole C) = held-last u (C .first) (C .rest) refl in
-          let hv : 1 ≤ held v (whole D) = held-first v v (D .rest) refl in
-          let other : held u (whole D) ≡ 0 = omega (arith, h u, once u) in
+          let hu : 1 ≤ held u (wholeChain C) = held-last u (C .first) (C .rest) refl in
+          let hv : 1 ≤ held v (wholeChain D) = held-first v v (D .rest) refl in
+          let other : held u (wholeChain D) ≡ 0 = omega (arith, h u, once u) in
           let apart : u ≡ v → ⊥ = λ e. omega (arith, held-first u v (D .rest) (sym e)) in
           let cycle : lastOf v js ≡ u → ⊥ = λ e. omega (arith, held-last u v (D .rest) (sym (run-last js D d (omega arith)) ∙ e)) in
           let unjoined : free u v js ≡ true = is-free u v js (record { right = tail-end js (C .first) (C .rest) (c .2); left = d .0; cycle = cycle }) in

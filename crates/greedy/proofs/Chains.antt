@@ -1,6 +1,6 @@
 -- The joins made so far, seen as a list of chains that together hold every slip of K once.
 --   Chain          == a first slip and the slips to its right
---   whole, end     == the slips of a chain; its last slip
+--   wholeChain, end     == the slips of a chain; its last slip
 --   Run js C       == C is a chain of the joins js, whole from end to end
 --   Arc w K j      == j joins two slips of K, with their weight w for its overlap
 --   along w p xs   == the weights between neighbours along p, xs
@@ -22,8 +22,8 @@ pub record Chain : Type 0 where
   pub first : ℕ
   pub rest : List ℕ
 
-abbrev pub whole : Chain → List ℕ
-whole C = C .first ∷ C .rest
+abbrev pub wholeChain : Chain → List ℕ
+wholeChain C = C .first ∷ C .rest
 
 abbrev pub end : Chain → ℕ
 end C = lastOr (C .first) (C .rest)
@@ -44,7 +44,7 @@ along w p [] = 0
 along w p (x ∷ xs) = w p x + along w x xs
 
 pub record Rep (w : ℕ → ℕ → ℕ) (K : List ℕ) (js : List Join) (Cs : List Chain) : Type 0 where
-  pub all : (g : ℕ → ℕ) → sum (λ C. sum g (whole C)) Cs ≡ sum g K
+  pub all : (g : ℕ → ℕ) → sum (λ C. sum g (wholeChain C)) Cs ≡ sum g K
   pub runs : All (Run js) Cs
   pub arcs : All (Arc w K) js
   pub count : sum (λ C. length (C .rest)) Cs ≡ length js
@@ -73,16 +73,16 @@ tail-in : (js : List Join) (a p : ℕ) (xs : List ℕ) → Tail js p xs → In a
 tail-in js a p [] t m z = by-in m sym (λ h. absurd (List·Memᴰ·not-nil h))
 tail-in js a p (x ∷ xs) t m z = by-in m (λ e. absurd (omega (arith, rw e at z))) (λ h. tail-in js a x xs (t .3) h z)
 
-pub run-end : (js : List Join) (a : ℕ) (C : Chain) → Run js C → 1 ≤ held a (whole C) → rightOf a js ≡ 0 → end C ≡ a
-run-end js a C r h z = tail-in js a (C .first) (C .rest) (r .2) (held-in a (whole C) h) z
+pub run-end : (js : List Join) (a : ℕ) (C : Chain) → Run js C → 1 ≤ held a (wholeChain C) → rightOf a js ≡ 0 → end C ≡ a
+run-end js a C r h z = tail-in js a (C .first) (C .rest) (r .2) (held-in a (wholeChain C) h) z
 
 tail-left : (js : List Join) (b p : ℕ) (xs : List ℕ) → Tail js p xs → In b xs → 1 ≤ leftOf b js
 tail-left js b p [] t m = absurd (List·Memᴰ·not-nil m)
 tail-left js b p (x ∷ xs) t m = by-in m (λ e. rw e (t .1)) (λ h. tail-left js b x xs (t .3) h)
 
-pub run-first : (js : List Join) (b : ℕ) (C : Chain) → Run js C → 1 ≤ held b (whole C) → leftOf b js ≡ 0 → C .first ≡ b
+pub run-first : (js : List Join) (b : ℕ) (C : Chain) → Run js C → 1 ≤ held b (wholeChain C) → leftOf b js ≡ 0 → C .first ≡ b
 run-first js b C r h z =
-    by-in (held-in b (whole C) h) sym (λ m. absurd (omega (arith, tail-left js b (C .first) (C .rest) (r .2) m)))
+    by-in (held-in b (wholeChain C) h) sym (λ m. absurd (omega (arith, tail-left js b (C .first) (C .rest) (r .2) m)))
 
 -- weights along two lists put together
 pub along-append :

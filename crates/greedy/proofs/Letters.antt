@@ -27,7 +27,7 @@ use Rattle.trays.specs.Slips.{slip, total}
 use Rattle.greedy.specs.Joins.{Join, rightOf, leftOf, saved}
 use Rattle.greedy.specs.Legends.{Piece, piece, overlapAfter, chainFrom, chainAt, pieces, added, spelled, placeIn}
 use Rattle.greedy.specs.Claims.{holdsAll}
-use Rattle.greedy.proofs.Chains.{Chain, whole, Tail, Run, Arc, along, Rep}
+use Rattle.greedy.proofs.Chains.{Chain, wholeChain, Tail, Run, Arc, along, Rep}
 
 abbrev pub Over : List ℕ → ℕ → List ℕ → Type 0
 Over x o y = (u : List ℕ) × (x ++ drop o y ≡ u ++ y) × (length u + o ≡ length x)
@@ -235,7 +235,7 @@ module _ (w : ℕ → ℕ → ℕ) (K : List ℕ) (js : List Join) (arcs : All (
 
     laid-chains :
         (Cs : List Chain) → All (Run js) Cs → sum (λ C. length (C .rest)) Cs ≤ length js
-        → sum (λ C. sum laid (whole C)) Cs ≡ sum (λ C. sum f (rowOf w (C .first) (C .rest))) Cs
+        → sum (λ C. sum laid (wholeChain C)) Cs ≡ sum (λ C. sum f (rowOf w (C .first) (C .rest))) Cs
     laid-chains [] r n = refl
     laid-chains (C ∷ Cs) (r, rs) n =
         rw (chain-first C r (omega arith), laid-rest (C .first) (C .rest) (r .2)) (omega (arith, laid-chains Cs rs (omega arith)))

@@ -19,9 +19,9 @@ use Rattle.words.proofs.Tests.{tell}
 use Rattle.words.proofs.Members.{In, by-in, Asc, those-yes, those-no, in-those, asc-those, asc-append}
 use Rattle.greedy.specs.Joins.{Join, join, rightOf, leftOf, lastFrom, lastOf}
 use Rattle.greedy.proofs.Takes.{by-zero, rightOf-append, leftOf-append, last-stop, last-go, lastFrom-append}
-pub use Rattle.greedy.specs.steps.Linked.{Apart, Linked}
+pub use Rattle.greedy.specs.steps.Linked.{Apart, Chained}
 
-pub linked-none : Linked []
+pub linked-none : Chained []
 linked-none = record { real = λ j m. absurd (List·Memᴰ·not-nil m); apart = tt }
 
 rightOf-here : (i : ℕ) (j : Join) (js : List Join) → eqb i (j .left) ≡ true → rightOf i (j ∷ js) ≡ j .right
@@ -96,7 +96,7 @@ head-not i y js R z h e =
 abbrev without : ℕ → List Join → List Join
 without i js = those (λ j. not (eqb (j .left) i)) js
 
-linked-without : (i : ℕ) (js : List Join) → Linked js → Linked (without i js)
+linked-without : (i : ℕ) (js : List Join) → Chained js → Chained (without i js)
 linked-without i js L =
     record {
       real = λ j m. L .real j (in-those (λ j. not (eqb (j .left) i)) js m .0);
@@ -155,7 +155,7 @@ module _ (i : ℕ) where
       (t ∙ r .0 ∙ sym s, rw s (r .1)))
 
 -- without the join from i its right slip is a first one
-next-first : (i : ℕ) (js : List Join) → Linked js → 1 ≤ rightOf i js → leftOf (rightOf i js) (without i js) ≡ 0
+next-first : (i : ℕ) (js : List Join) → Chained js → 1 ≤ rightOf i js → leftOf (rightOf i js) (without i js) ≡ 0
 next-first i js L k =
     by-zero (leftOf (rightOf i js) (without i js))
     (λ e. e)
@@ -166,7 +166,7 @@ next-first i js L k =
     absurd (eqb-false (j .left) i (not-true (eqb (j .left) i) t) (one-left j b js (L .apart) n o (e ∙ sym r) ∙ l)))
 
 -- a chain followed from its first slip comes to an end
-pub head-ends : (n i : ℕ) (js : List Join) → length js ≤ n → Linked js → leftOf i js ≡ 0 → rightOf (lastFrom n i js) js ≡ 0
+pub head-ends : (n i : ℕ) (js : List Join) → length js ≤ n → Chained js → leftOf i js ≡ 0 → rightOf (lastFrom n i js) js ≡ 0
 head-ends zero i [] h L z = refl
 head-ends zero i (j ∷ js) h L z = absurd (omega arith)
 head-ends (suc n) i js h L z =
@@ -213,14 +213,14 @@ leftOf-past i (j ∷ js) ks R z =
     ]
 
 -- a join from an end w to a first slip r
-module _ (js : List Join) (L : Linked js) (w r o : ℕ) (hw : 1 ≤ w) (hr : 1 ≤ r) (ew : rightOf w js ≡ 0) (er : leftOf r js ≡ 0) where
+module _ (js : List Join) (L : Chained js) (w r o : ℕ) (hw : 1 ≤ w) (hr : 1 ≤ r) (ew : rightOf w js ≡ 0) (er : leftOf r js ≡ 0) where
   abbrev new : Join
   new = join w r o
 
   abbrev more : List Join
   more = js ++ (new ∷ [])
 
-  pub linked-more : Linked more
+  pub linked-more : Chained more
   linked-more =
       record {
         real = λ j m. elim (List·Memᴰ·append-cases js m) [ inl i ↦ L .real j i | inr i ↦ rw (List·Memᴰ·eq-of-singleton i) (hw, hr) ];

@@ -24,10 +24,10 @@ use Rattle.greedy.specs.Joins.{Join, rightOf, leftOf, lastOf, free, take
 use Rattle.greedy.proofs.Takes.{by-zero, rightOf-append, leftOf-append, refused-right, refused-left, refused-last, by-refused}
 use Rattle.greedy.proofs.Arcs.{arcs-sorted, in-arcs}
 use Rattle.greedy.proofs.Letters.{weight}
-use Rattle.greedy.proofs.Chains.{Chain, whole, end, Tail, Run, Arc, along, Rep, along-append, tail-end, run-last, run-end, run-first}
+use Rattle.greedy.proofs.Chains.{Chain, wholeChain, end, Tail, Run, Arc, along, Rep, along-append, tail-end, run-last, run-end, run-first}
 
 abbrev pub merged : Chain → Chain → Chain
-merged A B = record { first = A .first; rest = A .rest ++ whole B }
+merged A B = record { first = A .first; rest = A .rest ++ wholeChain B }
 
 pub record Free (a b : ℕ) (js : List Join) : Type 0 where
   pub right : rightOf a js ≡ 0
@@ -81,26 +81,26 @@ module _ (w : ℕ → ℕ → ℕ) (K : List ℕ) (js : List Join) (arcs : All (
   end-more : (p : ℕ) (xs : List ℕ) → Tail js p xs → rightOf (lastOr p xs) more ≡ rightOf (lastOr p xs) (j ∷ [])
   end-more p xs t = right-none w K (lastOr p xs) js (j ∷ []) arcs (tail-end js p xs t)
 
-  tail-kept : (C : Chain) → Run js C → held (j .left) (whole C) ≡ 0 → Tail more (C .first) (C .rest)
+  tail-kept : (C : Chain) → Run js C → held (j .left) (wholeChain C) ≡ 0 → Tail more (C .first) (C .rest)
   tail-kept C (l, m, t) h =
       let ne : end C ≡ j .left → ⊥ = λ e. omega (arith, held-last (j .left) (C .first) (C .rest) e) in
       rw append-nil at (tail-more (C .first) (C .rest) [] t (end-more (C .first) (C .rest) t ∙ rw (ne-eqb (end C) (j .left) ne, rightOf)))
 
-  first-kept : (C : Chain) → Run js C → held (j .right) (whole C) ≡ 0 → leftOf (C .first) more ≡ 0
+  first-kept : (C : Chain) → Run js C → held (j .right) (wholeChain C) ≡ 0 → leftOf (C .first) more ≡ 0
   first-kept C (l, m, t) h =
       let ne : C .first ≡ j .right → ⊥ = λ e. omega (arith, held-first (j .right) (C .first) (C .rest) e) in
       left-none w K (C .first) js (j ∷ []) arcs l ∙ rw (ne-eqb (C .first) (j .right) ne, leftOf)
 
-  run-kept : (C : Chain) → Run js C → held (j .left) (whole C) ≡ 0 → held (j .right) (whole C) ≡ 0 → Run more C
+  run-kept : (C : Chain) → Run js C → held (j .left) (wholeChain C) ≡ 0 → held (j .right) (wholeChain C) ≡ 0 → Run more C
   run-kept C r l h = (first-kept C r h, r .1, tail-kept C r l)
 
   run-merged :
       (A B : Chain) → Run js A → Run js B → end A ≡ j .left → B .first ≡ j .right
-      → held (j .right) (whole A) ≡ 0 → held (j .left) (whole B) ≡ 0 → Run more (merged A B)
+      → held (j .right) (wholeChain A) ≡ 0 → held (j .left) (wholeChain B) ≡ 0 → Run more (merged A B)
   run-merged A B r s l h ha hb =
       let next : rightOf (end A) more ≡ B .first = end-more (A .first) (A .rest) (r .2) ∙ rw (eq-eqb (end A) (j .left) l, rightOf) (sym h) in
       let back : 1 ≤ leftOf (B .first) more = rw (left-none w K (B .first) js (j ∷ []) arcs (s .0), eq-eqb (B .first) (j .right) h, leftOf) (arc .0) in
-      (first-kept A r ha, r .1, tail-more (A .first) (A .rest) (whole B) (r .2) (next, back, s .1, tail-kept B s hb))
+      (first-kept A r ha, r .1, tail-more (A .first) (A .rest) (wholeChain B) (r .2) (next, back, s .1, tail-kept B s hb))
 
 -- the chain that ends in a and the chain that b begins, one before the other
 module _
@@ -109,18 +109,18 @@ module _
     (back : (X M Y : List Chain) (A B : Chain) → end A ≡ a → B .first ≡ b → Q (X ++ (B ∷ (M ++ (A ∷ Y)))))
   where
     find-end :
-        (X Y : List Chain) (B : Chain) → Rep w K js (X ++ (B ∷ Y)) → 1 ≤ held a K → 1 ≤ held b (whole B) → Free a b js
+        (X Y : List Chain) (B : Chain) → Rep w K js (X ++ (B ∷ Y)) → 1 ≤ held a K → 1 ≤ held b (wholeChain B) → Free a b js
         → Q (X ++ (B ∷ Y))
     find-end X Y B r ha hb f =
         let (rX, (rB, rY)) = all-split (Run js) X (B ∷ Y) (r .runs) in
-        let in-a : Chain → ℕ = λ C. held a (whole C) in
+        let in-a : Chain → ℕ = λ C. held a (wholeChain C) in
         let eb : B .first ≡ b = run-first js b B rB hb (f .left) in
         let short : length (B .rest) ≤ length js = omega (arith, r .count, sum-append (λ C. length (C .rest)) X (B ∷ Y)) in
         let last : lastOf b js ≡ end B = ap (λ x. lastOf x js) (sym eb) ∙ run-last js B rB short in
-        let none : 1 ≤ held a (whole B) → ⊥ = λ h. f .cycle (last ∙ run-end js a B rB h (f .right)) in
+        let none : 1 ≤ held a (wholeChain B) → ⊥ = λ h. f .cycle (last ∙ run-end js a B rB h (f .right)) in
         elim (tell (eqb (sum in-a X) 0)) [
           | inl z ↦
-              let n : held a (whole B) ≡ 0 = by-zero (held a (whole B)) (λ z. z) (λ h. absurd (none h)) in
+              let n : held a (wholeChain B) ≡ 0 = by-zero (held a (wholeChain B)) (λ z. z) (λ h. absurd (none h)) in
               let all = sum-append in-a X (B ∷ Y) in
               let (M, A, Z, e, rA, h) = all-cut (Run js) in-a Y rY (omega (arith, r .all (is a), eqb-true (sum in-a X) 0 z)) in
               rw e (back X M Z A B (run-end js a A rA h (f .right)) eb)
@@ -131,7 +131,7 @@ module _
 
     pub find : (Cs : List Chain) → Rep w K js Cs → 1 ≤ held a K → 1 ≤ held b K → free a b js ≡ true → Q Cs
     find Cs r ha hb e =
-        let (X, B, Y, c, h) = sum-cut (λ C. held b (whole C)) Cs (rw (r .all (is b)) hb) in
+        let (X, B, Y, c, h) = sum-cut (λ C. held b (wholeChain C)) Cs (rw (r .all (is b)) hb) in
         rw c (find-end X Y B (rw c at r) ha h (free-is a b js e))
 
 pub saved-append : (js ks : List Join) → savedBy (js ++ ks) ≡ savedBy js + savedBy ks
@@ -149,8 +149,8 @@ module _ (w : ℕ → ℕ → ℕ) (K : List ℕ) (once : (x : ℕ) → held x K
       let more = js ++ (j ∷ []) in
       let sums-more : (f : Chain → ℕ) → sum f (X ++ (C ∷ Y)) + f A + f B ≡ f C + sum f Cs =
       λ f. omega (arith, sums f, sum-append f X Y, sum-append f X (C ∷ Y)) in
-      let in-l : Chain → ℕ = λ D. held (j .left) (whole D) in
-      let in-r : Chain → ℕ = λ D. held (j .right) (whole D) in
+      let in-l : Chain → ℕ = λ D. held (j .left) (wholeChain D) in
+      let in-r : Chain → ℕ = λ D. held (j .right) (wholeChain D) in
       let hl = held-last (j .left) (A .first) (A .rest) ea in
       let hr = held-first (j .right) (B .first) (B .rest) eb in
       let l : in-l B + sum in-l (X ++ Y) ≡ 0 = omega (arith, sums in-l, r .all (is (j .left)), once (j .left)) in
@@ -158,10 +158,10 @@ module _ (w : ℕ → ℕ → ℕ) (K : List ℕ) (once : (x : ℕ) → held x K
       let (rX, rY) = all-split (Run more) X Y (all-where in-l in-r (run-kept w K js (r .arcs) j arc) (X ++ Y) rs (omega arith) (omega arith)) in
       let e : w (end A) (B .first) ≡ j .overlap = rw (ea, eb) (sym (arc .4)) in
       record {
-        all = λ g. omega (arith, sums-more (λ C. sum g (whole C)), r .all g, sum-append g (A .rest) (whole B));
+        all = λ g. omega (arith, sums-more (λ C. sum g (wholeChain C)), r .all g, sum-append g (A .rest) (wholeChain B));
         runs = all-append (Run more) X (C ∷ Y) rX (run-merged w K js (r .arcs) j arc A B rA rB ea eb (omega arith) (omega arith), rY);
         arcs = all-append (Arc w K) js (j ∷ []) (r .arcs) (arc, tt);
-        count = omega (arith, sums-more (λ C. length (C .rest)), r .count, length-append (A .rest) (whole B), length-append js (j ∷ []));
+        count = omega (arith, sums-more (λ C. length (C .rest)), r .count, length-append (A .rest) (wholeChain B), length-append js (j ∷ []));
         saved =
             omega (
               arith,
@@ -221,7 +221,7 @@ pub rep-singles :
     (w : ℕ → ℕ → ℕ) (K xs : List ℕ) → All (λ x. 1 ≤ x) K → ((g : ℕ → ℕ) → sum g xs ≡ sum g K) → Rep w K [] (singles xs)
 rep-singles w K xs p h =
     record {
-      all = λ g. sum-singles (λ C. sum g (whole C)) g (λ x. omega arith) xs ∙ h g;
+      all = λ g. sum-singles (λ C. sum g (wholeChain C)) g (λ x. omega arith) xs ∙ h g;
       runs = run-singles xs (all-held (λ x. 1 ≤ x) xs (λ x m. all-of (λ x. 1 ≤ x) K x p (omega (arith, h (is x)))));
       arcs = tt;
       count = none-singles (λ C. length (C .rest)) (λ x. refl) xs;

@@ -9,7 +9,7 @@ use native.Mathlib.Omega.{arith}
 use lib.Dec.{eqb}
 use borrow.Author.Tests.{eq-eqb, ne-eqb}
 use Rattle.greedy.specs.Joins.{Join, join, rightOf, leftOf, lastOf}
-use Rattle.greedy.proofs.Linked.{Linked, left-joined, left-other, right-joined, right-other, last-joined, last-other}
+use Rattle.greedy.proofs.Linked.{Chained, left-joined, left-other, right-joined, right-other, last-joined, last-other}
 pub use Rattle.greedy.specs.steps.Linked.{Threads, putAt}
 
 pub threads-none : Threads [] (λ i. i) (λ i. i)
@@ -23,7 +23,7 @@ put-other f at v i ne = rw (ne-eqb i at ne)
 
 -- a join from an end w to a first slip r of another chain
 module _
-    (js : List Join) (lasts firsts : ℕ → ℕ) (w r o : ℕ) (L : Linked js) (T : Threads js lasts firsts)
+    (js : List Join) (lasts firsts : ℕ → ℕ) (w r o : ℕ) (L : Chained js) (T : Threads js lasts firsts)
     (hw : 1 ≤ w) (hr : 1 ≤ r) (ew : rightOf w js ≡ 0) (er : leftOf r js ≡ 0) (other : lasts r ≡ w → ⊥) where
   abbrev more : List Join
   more = js ++ (join w r o ∷ [])

@@ -18,7 +18,7 @@ use Rattle.tables.proofs.Tables.{table-length}
 use Rattle.matching.specs.Nodes.{string, Num}
 use Rattle.layout.specs.Layout.{MEMBERS, HEAD, TWIN, MARK}
 use Rattle.layout.specs.Tables.{cell, members, owners, Linked}
-use Rattle.layout.specs.Numbered.{patternsIn, Numbered, Headed, Kept}
+use Rattle.layout.specs.Numbered.{patternsIn, Numbered, Headed, SameBelow}
 use Rattle.layout.proofs.Frames.{kept-lower, members-kept, automaton-kept}
 
 pub linked-head : (next : ℕ → ℕ) (i : ℕ) (xs : List ℕ) → Linked next i xs → i ≡ headOr 0 xs
@@ -49,7 +49,7 @@ module _ {s es : List ℕ} {n count : ℕ} {w : List ℕ} (N : Numbered s es n c
   pub node-most : (v : ℕ) → Num (patternsIn s es n w) v → v ≤ count
   node-most v m = omega (arith, m .inside, N .all-nodes)
 
-pub headed-kept : {s es : List ℕ} {n count : ℕ} {w w′ : List ℕ} → Kept MARK w w′ → Headed s es n count w → Headed s es n count w′
+pub headed-kept : {s es : List ℕ} {n count : ℕ} {w w′ : List ℕ} → SameBelow MARK w w′ → Headed s es n count w → Headed s es n count w′
 headed-kept {s} {es} {n} {count} {w} {w′} k H =
     let N = H .automaton .branched .numbered in
     let ss = slipsOf s es in

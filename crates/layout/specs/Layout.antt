@@ -97,3 +97,7 @@ OUT = 23311
 -- 2001 cells: for each node how many members end it
 abbrev pub TALLY : ℕ
 TALLY = 25312
+
+-- behind the table TALLY
+abbrev pub SCAN : ℕ
+SCAN = 27313

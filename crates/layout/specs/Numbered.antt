@@ -4,7 +4,7 @@
 --   Branched s es n count w     == and the children of each node are known
 --   Automaton s es n count w    == and those of the first nodes by letters, and the failure link of each node
 --   Headed s es n count w       == and the members of each node's letters
---   Kept b w w′                 == w′ is as long as w, and has its cells below b
+--   SameBelow b w w′                 == w′ is as long as w, and has its cells below b
 use mathlib.Core.Path.{_≡_}
 use mathlib.Core.List.{List}
 use Prim.Native.Nat.{ℕ, suc, _≤_, _<_}
@@ -45,6 +45,6 @@ pub record Headed (s es : List ℕ) (n count : ℕ) (w : List ℕ) : Type 0 wher
   pub automaton : Automaton s es n count w
   pub heads : HeadIs (slipsOf s es) (members w n) (cell w HEAD) (cell w TWIN)
 
-pub record Kept (b : ℕ) (w w′ : List ℕ) : Type 0 where
+pub record SameBelow (b : ℕ) (w w′ : List ℕ) : Type 0 where
   pub same : length w′ ≡ length w
   pub cells : (p : ℕ) → p < b → getD w′ p 0 ≡ getD w p 0

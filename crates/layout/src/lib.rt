@@ -51,3 +51,6 @@ pub const PLACES: usize = 22911;
 pub const OUT: usize = 23311;
 
 pub const TALLY: usize = 25312;
+
+// Where a scan is kept in the work area, behind the tables.
+pub const SCAN: usize = 27313;

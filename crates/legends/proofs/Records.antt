@@ -21,9 +21,9 @@ use Rattle.layout.specs.Tables.{cell}
 use Rattle.greedy.specs.Composing.{whole}
 use Rattle.answers.specs.Composing.{flatJoins, flatPlaces}
 use Rattle.composing.proofs.FlatPlaces.{flat-at}
-use Rattle.stores.specs.Firsts.{firsts}
+use Rattle.record_loops.specs.Firsts.{firsts}
 use Rattle.words.proofs.Runs.{length-upFrom}
-use Rattle.stores.proofs.Firsts.{getD-map-upFrom, firsts-are}
+use Rattle.record_loops.proofs.Firsts.{getD-map-upFrom, firsts-are}
 use Rattle.answers.specs.declared.Join.{Join}
 use Rattle.answers.specs.declared.Place.{Place}
 use Rattle.legends.specs.steps.Made.{joinAt, placeAt}

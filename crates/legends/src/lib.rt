@@ -3,7 +3,7 @@ ghost use mathlib.Core.Path.{_≡_};
 ghost use Prim.Native.Nat.{_≤_, _<_, _+_, _-_, _*_};
 ghost use lib.ListN.{length};
 ghost use Rattle.words.specs.Lists.{over};
-ghost use Rattle.stores.specs.Firsts.{firsts};
+ghost use Rattle.record_loops.specs.Firsts.{firsts};
 ghost use Rattle.layout.specs.Layout as L;
 ghost use Rattle.legends.specs.steps.Made as M;
 ghost use Rattle.answers.specs.Records.{ComposeSays};
@@ -15,7 +15,7 @@ use layout::JOINS;
 use layout::PLACES;
 
 // The answer, and how many joins and places are staged for it.
-pub struct Counted {
+pub struct ToStore {
     pub answer: Composed,
     pub joins: usize,
     pub places: usize,
@@ -80,14 +80,14 @@ fn staged(
     legend: &mut [u8],
     joins_room: usize,
     places_room: usize,
-) -> Counted
+) -> ToStore
     ensures { λ r. ⌜ StagedCounts (now (letters .entry)) (now (ends .entry)) (now (work .entry)) (now (work .exit))
         (now (legend .entry)) (now (legend .exit)) «joins_room» «places_room» r ⌝ }
 {
     let answer = composing::compose_staged(letters, ends, work, legend, joins_room, places_room);
     let joins = answer.joins as usize;
     let places = answer.slips as usize;
-    Counted {
+    ToStore {
         answer,
         joins,
         places,

@@ -17,7 +17,7 @@ use Rattle.matching.proofs.NodeLaws.{nodes-numbered, is-root, node-fails}
 use Rattle.matching.proofs.Paths.{fail-root, fail-from}
 use Rattle.layout.specs.Layout.{NEAR, FAIL}
 use Rattle.layout.specs.Tables.{cell, FailUpTo}
-use Rattle.layout.specs.Numbered.{patternsIn, Kept}
+use Rattle.layout.specs.Numbered.{patternsIn, SameBelow}
 use Rattle.layout.proofs.Frames.{only-kept, kept-lower, patterns-kept, branched-kept, near-kept}
 use Rattle.links.specs.Links.{parentOf, letterOf, StepIs, LinkIs, Near, CanStep, CanLink, KidsFilled, NearFilled, FailsFilled, LinksFilled}
 use Rattle.links.proofs.Parents.{parents-tree, parent-below}
@@ -86,7 +86,7 @@ fails-start K =
     }
 
 module _ {s es : List ℕ} {n count : ℕ} {w₀ w : List ℕ} {v : ℕ} (F : FillingFails s es n count w₀ w v) where
-  kept : Kept FAIL w₀ w
+  kept : SameBelow FAIL w₀ w
   kept = only-kept FAIL (F .only) (λ p q. q .from)
 
   same-patterns : patternsIn s es n w ≡ patternsIn s es n w₀

@@ -19,9 +19,9 @@ use Rattle.tables.proofs.Tables.{only-refl, cells-put, put-here, put-other}
 use Rattle.matching.specs.Nodes.{nodes, string, Num}
 use Rattle.layout.specs.Layout.{KID}
 use Rattle.layout.specs.Tables.{cell, KidIs}
-use Rattle.layout.specs.Numbered.{patternsIn, Numbered, Kept}
+use Rattle.layout.specs.Numbered.{patternsIn, Numbered, SameBelow}
 use Rattle.layout.proofs.Frames.{only-kept, patterns-kept, numbered-kept}
-use Rattle.links.specs.Links.{parentOf, letterOf, Placed, KidsFilled}
+use Rattle.links.specs.Links.{parentOf, letterOf, ParentCells, KidsFilled}
 use Rattle.links.proofs.Parents.{parents-tree, parents-ascend, child-parent, parent-kept, placed}
 
 pub record First (ps : List (List ℕ)) (par : ℕ → ℕ) (v k : ℕ) : Type 0 where
@@ -81,10 +81,10 @@ module _ {s es : List ℕ} {n count : ℕ} {w₀ w : List ℕ} {v u : ℕ} (F : 
   abbrev ps : List (List ℕ)
   ps = patternsIn s es n w₀
 
-  kids-kept : Kept KID w₀ w
+  kids-kept : SameBelow KID w₀ w
   kids-kept = only-kept KID (F .only) (λ p q. q .from)
 
-  pub kids-placed : u ≤ count → Placed w u
+  pub kids-placed : u ≤ count → ParentCells w u
   kids-placed h = placed (numbered-kept kids-kept (F .numbered)) (F .some) h
 
   -- node u has a parent below v

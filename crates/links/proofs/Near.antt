@@ -14,7 +14,7 @@ use Rattle.tables.proofs.Tables.{only-refl, only-trans, only-wider, only-put, p
 use Rattle.matching.specs.Nodes.{nodes}
 use Rattle.layout.specs.Layout.{NEAR, nearNodes, nearLetters, firstSign, lastSign}
 use Rattle.layout.specs.Tables.{cell, Child}
-use Rattle.layout.specs.Numbered.{patternsIn, Branched, Kept}
+use Rattle.layout.specs.Numbered.{patternsIn, Branched, SameBelow}
 use Rattle.layout.proofs.Frames.{only-kept, patterns-kept, branched-kept}
 use Rattle.links.specs.Links.{CanFill, CanLook, RowFilled, NearFilled}
 
@@ -36,7 +36,7 @@ pub row-start : {s es : List ℕ} {n count : ℕ} {w : List ℕ} {v : ℕ} → C
 row-start C = record { can = C; only = only-refl; from = omega arith; done = λ a h l. absurd (omega arith) }
 
 module _ {s es : List ℕ} {n count : ℕ} {w₀ w : List ℕ} {v c : ℕ} (F : FillingRow s es n count w₀ w v c) where
-  row-kept : Kept NEAR w₀ w
+  row-kept : SameBelow NEAR w₀ w
   row-kept = only-kept NEAR (F .only) (λ p q. omega (arith, q .from))
 
   row-patterns : patternsIn s es n w ≡ patternsIn s es n w₀
@@ -92,7 +92,7 @@ pub near-start : {s es : List ℕ} {n count : ℕ} {w : List ℕ} → Branched s
 near-start B = record { branched = B; only = only-refl; done = λ x c h. absurd (omega arith) }
 
 module _ {s es : List ℕ} {n count : ℕ} {w₀ w : List ℕ} {v : ℕ} (F : FillingNear s es n count w₀ w v) where
-  near-kept : Kept NEAR w₀ w
+  near-kept : SameBelow NEAR w₀ w
   near-kept = only-kept NEAR (F .only) (λ p q. q .from)
 
   near-patterns : patternsIn s es n w ≡ patternsIn s es n w₀

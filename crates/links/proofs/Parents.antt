@@ -24,9 +24,9 @@ use Rattle.matching.proofs.NodeLaws.{nodes-numbered, is-root}
 use Rattle.matching.proofs.Numbered as T
 use Rattle.layout.specs.Layout.{AT, OWN, LEVEL, KID}
 use Rattle.layout.specs.Tables.{cell, members, Owned}
-use Rattle.layout.specs.Numbered.{patternsIn, Numbered, Kept}
+use Rattle.layout.specs.Numbered.{patternsIn, Numbered, SameBelow}
 use Rattle.layout.proofs.Frames.{letter-within, letter-place, letter-is}
-use Rattle.links.specs.Links.{parentOf, letterOf, Placed, Lettered}
+use Rattle.links.specs.Links.{parentOf, letterOf, ParentCells, Lettered}
 
 -- the two ways of `parent`
 parent-one : (w : List ℕ) (u : ℕ) → u < cell w LEVEL 2 → parentOf w u ≡ 0
@@ -41,7 +41,7 @@ parent-short w u a g h = sym (parent-one w u (rw (g .is) at h))
 pub parent-got : (w : List ℕ) (u a p r : ℕ) → Got w LEVEL 2 a → a ≤ u → Got w OWN u p → Got w AT (p - 1) r → r ≡ parentOf w u
 parent-got w u a p r g h o t = t .is ∙ rw (o .is) (sym (parent-longer w u (rw (g .is) at h)))
 
-pub place-before : (w : List ℕ) (u a p : ℕ) → Placed w u → Got w LEVEL 2 a → a ≤ u → Got w OWN u p → (1 ≤ p) × (AT + (p - 1) < length w)
+pub place-before : (w : List ℕ) (u a p : ℕ) → ParentCells w u → Got w LEVEL 2 a → a ≤ u → Got w OWN u p → (1 ≤ p) × (AT + (p - 1) < length w)
 place-before w u a p P g h o =
     let b = P .before (rw (g .is) at h) in
     let e = o .is in
@@ -105,7 +105,7 @@ module _ {s es : List ℕ} {n count : ℕ} {w : List ℕ} (N : Numbered s es n c
               rw (parent-longer w v (omega arith)) (rw (e, f) at (N .at (o .member) d (o .among) (omega (arith, o .within))))
         ]
 
-  pub placed : {v : ℕ} → 1 ≤ v → v ≤ count → Placed w v
+  pub placed : {v : ℕ} → 1 ≤ v → v ≤ count → ParentCells w v
   placed {v} h l =
       let m : Num ps v = record { some = h; inside = omega (arith, N .all-nodes) } in
       let r = N .room in
@@ -123,7 +123,7 @@ module _ {s es : List ℕ} {n count : ℕ} {w : List ℕ} (N : Numbered s es n c
       record { own = placed h l .own; within = owned-place v m .0 }
 
   -- cells above those of the numbering do not tell
-  pub parent-kept : (w′ : List ℕ) (v : ℕ) → Kept KID w w′ → 1 ≤ v → v ≤ count → parentOf w′ v ≡ parentOf w v
+  pub parent-kept : (w′ : List ℕ) (v : ℕ) → SameBelow KID w w′ → 1 ≤ v → v ≤ count → parentOf w′ v ≡ parentOf w v
   parent-kept w′ v k h l =
       let m : Num ps v = record { some = h; inside = omega (arith, N .all-nodes) } in
       let a : cell w′ LEVEL 2 ≡ cell w LEVEL 2 = k .cells (LEVEL + 2) (omega arith) in

@@ -1,7 +1,7 @@
 -- Children, steps and failure links by node numbers, in the work area w of a tray with letters s and ends es.
 --   parentOf w u          == the node of the string of node u without its last letter
 --   letterOf s w u        == its last letter
---   Placed w u            == the cells that tell the parent of u are there
+--   ParentCells w u            == the cells that tell the parent of u are there
 --   Lettered s w u        == those that tell its letter
 --   StepIs ps v c u d     == one letter c read in the state of node v leads to the state of node u by d drops
 --   LinkIs ps v r         == r is the failure link of node v
@@ -33,7 +33,7 @@ parentOf w u = cond (ltb u (cell w LEVEL 2)) 0 (cell w AT (cell w OWN u - 1))
 abbrev pub letterOf : List ℕ → List ℕ → ℕ → ℕ
 letterOf s w u = getD s (cell w OWN u) 0
 
-pub record Placed (w : List ℕ) (u : ℕ) : Type 0 where
+pub record ParentCells (w : List ℕ) (u : ℕ) : Type 0 where
   pub levels : LEVEL + 2 < length w
   pub own : OWN + u < length w
   pub before : cell w LEVEL 2 ≤ u → (1 ≤ cell w OWN u) × (AT + cell w OWN u ≤ length w)

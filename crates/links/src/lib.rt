@@ -10,14 +10,14 @@ ghost use Rattle.layout.specs.Numbered.{patternsIn, Numbered, Branched};
 ghost use Rattle.links.specs.Links as L;
 
 // The node of a state that one letter leads to, and the drops on the way.
-pub struct Reached {
+pub struct StepEnd {
     pub state: usize,
     pub drops: usize,
 }
 
 // The node of the string of node `u` without its last letter: it stands one letter before, wherever node `u` stands.
 pub fn parent(work: &[u16], u: usize) -> usize
-    requires { ⌜ L.Placed (now work) u ⌝ }
+    requires { ⌜ L.ParentCells (now work) u ⌝ }
     ensures { λ r. ⌜ r ≡ L.parentOf (now (work .entry)) u ⌝ }
 {
     let longer = tables::at(work, layout::LEVEL, 2);
@@ -39,7 +39,7 @@ pub fn letter(letters: &[u8], work: &[u16], u: usize) -> u8
 
 // Whether `u` is a node whose parent has a lower number than `v`.
 fn hangs_below(work: &[u16], count: usize, u: usize, v: usize) -> bool
-    requires { ⌜ (u ≤ count → L.Placed (now work) u) ⌝ }
+    requires { ⌜ (u ≤ count → L.ParentCells (now work) u) ⌝ }
     ensures { λ r. ⌜ r ≡ leb u count && ltb (L.parentOf (now (work .entry)) u) v ⌝ }
 {
     if count < u {
@@ -167,7 +167,7 @@ pub fn step(
     count: usize,
     v: usize,
     c: u8,
-) -> Reached
+) -> StepEnd
     requires { ⌜ L.CanStep (now letters) (now ends) n count (now work) v ⌝ }
     ensures { λ r. ⌜ L.StepIs (patternsIn (now (letters .entry)) (now (ends .entry)) n (now (work .entry))) v c (r .state) (r .drops) ⌝ }
 {
@@ -176,13 +176,13 @@ pub fn step(
     loop {
         let u = child(letters, ends, work, n, count, state, c);
         if u != 0 {
-            return Reached {
+            return StepEnd {
                 state: u,
                 drops: drops,
             };
         }
         if state == 0 {
-            return Reached {
+            return StepEnd {
                 state: 0,
                 drops: drops,
             };

@@ -9,11 +9,11 @@ use Prim.Native.Nat.{ℕ}
 use Prim.Native.String.{String}
 use Rattle.words.specs.Quoted.{word}
 use Rattle.matching.specs.Moves.{moves}
-use Rattle.matching.specs.Occurrences.{Found, found, occurrences}
+use Rattle.matching.specs.Occurrences.{Occurrence, occurrence, occurrences}
 
 pub record Outcome : Type 0 where
   pub moved : ℕ
-  pub places : List Found
+  pub places : List Occurrence
 
 abbrev pub outcomeOf : List (List ℕ) → List ℕ → Outcome
 outcomeOf ss t = record { moved = moves ss t; places = occurrences ss t }
@@ -23,7 +23,7 @@ pub record Specimen : Type 0 where
   pub text : String
   pub outcome : Outcome
 
-abbrev pub specimen : List String → String → ℕ → List Found → Specimen
+abbrev pub specimen : List String → String → ℕ → List Occurrence → Specimen
 specimen ws t n fs = record { tray = ws; text = t; outcome = record { moved = n; places = fs } }
 
 pub specimens : List Specimen
@@ -33,17 +33,17 @@ specimens =
     ("IMPCAES" ∷ "AES" ∷ "CAESAVG" ∷ "VGPIVS" ∷ "SIMP" ∷ [])
     "IMPCAESAVG"
     11
-    (found 7 1 ∷ found 7 2 ∷ found 10 3 ∷ [])
+    (occurrence 7 1 ∷ occurrence 7 2 ∷ occurrence 10 3 ∷ [])
     -- occurrences that overlap
-    ∷ specimen ("AA" ∷ []) "AAA" 4 (found 2 1 ∷ found 3 1 ∷ [])
+    ∷ specimen ("AA" ∷ []) "AAA" 4 (occurrence 2 1 ∷ occurrence 3 1 ∷ [])
     -- an occurrence that ends inside another
-    ∷ specimen ("ABC" ∷ "B" ∷ []) "ABC" 3 (found 2 2 ∷ found 3 1 ∷ [])
+    ∷ specimen ("ABC" ∷ "B" ∷ []) "ABC" 3 (occurrence 2 2 ∷ occurrence 3 1 ∷ [])
     -- equal slips are reported both, the lower number first
-    ∷ specimen ("AB" ∷ "AB" ∷ []) "CABAB" 6 (found 3 1 ∷ found 3 2 ∷ found 5 1 ∷ found 5 2 ∷ [])
+    ∷ specimen ("AB" ∷ "AB" ∷ []) "CABAB" 6 (occurrence 3 1 ∷ occurrence 3 2 ∷ occurrence 5 1 ∷ occurrence 5 2 ∷ [])
     -- at one end place the longer slip goes first
-    ∷ specimen ("B" ∷ "AB" ∷ "CAB" ∷ []) "CAB" 3 (found 3 3 ∷ found 3 2 ∷ found 3 1 ∷ [])
+    ∷ specimen ("B" ∷ "AB" ∷ "CAB" ∷ []) "CAB" 3 (occurrence 3 3 ∷ occurrence 3 2 ∷ occurrence 3 1 ∷ [])
     -- the state drops four times on one letter
-    ∷ specimen ("AAAA" ∷ []) "AAAAB" 9 (found 4 1 ∷ [])
+    ∷ specimen ("AAAA" ∷ []) "AAAAB" 9 (occurrence 4 1 ∷ [])
     -- no occurrence; an empty state does not drop
     ∷ specimen ("AVG" ∷ []) "CAESA" 6 []
     ∷ specimen ("AVG" ∷ []) "" 0 []

@@ -1,5 +1,5 @@
 -- Occurrences of slips in a text.
---   Found                == an occurrence: its end place, from 1, and its slip
+--   Occurrence                == an occurrence: its end place, from 1, and its slip
 --   firstHere ss i k     == of two slips that end at one place, i is reported before k
 --   endingAt ss t        == the slips that end the text t, in the order of report
 --   occurrences ss t     == every occurrence of every slip, in the order of report
@@ -12,12 +12,12 @@ use Rattle.words.specs.Lists.{each, those, upFrom, inOrder}
 use Rattle.words.specs.Words.{ends}
 use Rattle.trays.specs.Slips.{slip, numbers}
 
-pub record Found : Type 0 where
+pub record Occurrence : Type 0 where
   pub end : ℕ
   pub which : ℕ
 
-abbrev pub found : ℕ → ℕ → Found
-found e i = record { end = e; which = i }
+abbrev pub occurrence : ℕ → ℕ → Occurrence
+occurrence e i = record { end = e; which = i }
 
 -- Document 01: longer slip first, then lower number.
 abbrev pub firstHere : List (List ℕ) → ℕ → ℕ → Bool
@@ -28,8 +28,8 @@ abbrev pub endingAt : List (List ℕ) → List ℕ → List ℕ
 endingAt ss t = inOrder (firstHere ss) (those (λ i. ends (slip ss i) t) (numbers ss))
 
 -- Document 01, finding: by end place, then longer slip first, then lower number.
-abbrev pub occurrences : List (List ℕ) → List ℕ → List Found
-occurrences ss t = each (λ e. map (found e) (endingAt ss (take e t))) (upFrom 1 (length t))
+abbrev pub occurrences : List (List ℕ) → List ℕ → List Occurrence
+occurrences ss t = each (λ e. map (occurrence e) (endingAt ss (take e t))) (upFrom 1 (length t))
 
 -- the members of M whose slips end the text t, in the order of report
 abbrev pub endingOf : List (List ℕ) → List ℕ → List ℕ → List ℕ

@@ -21,7 +21,7 @@ use Rattle.order.proofs.Precedes.{order-sorts}
 use Rattle.layout.specs.Layout.{MEMBERS, ORDER, COMMON, LEVEL, AT, OWN}
 use Rattle.layout.specs.Tables.{cell, members, patterns}
 use Rattle.numbering.specs.Numbering.{Sorted, NodeCells, NodesFilled}
-use Rattle.numbering.specs.Stages.{Counted, Stage, Staged, Letterable, Lettered}
+use Rattle.numbering.specs.Stages.{Counted, Stage, AtStage, Letterable, Lettered}
 use Rattle.numbering.proofs.Spans.{accepted-spanned}
 use Rattle.numbering.proofs.Ranked.{Ranked, rank-real}
 use Rattle.numbering.proofs.Turns.{commons-at}
@@ -78,7 +78,7 @@ pub lettered-new :
 lettered-new w c r p k common u w′ g h q z = Lettered.new (rw (g .is) at h) refl q z
 
 -- slip i, read from ORDER, is the member of rank r
-module _ {s es : List ℕ} {n c r k : ℕ} {u w : List ℕ} (t : Staged s es n c r u k w) (h : r < n) (i : ℕ) (g : Got w ORDER r i) where
+module _ {s es : List ℕ} {n c r k : ℕ} {u w : List ℕ} (t : AtStage s es n c r u k w) (h : r < n) (i : ℕ) (g : Got w ORDER r i) where
   rank : getD (table w ORDER n) r 0 ≡ i
   rank = table-at w ORDER n r h ∙ sym (g .is)
 
@@ -98,7 +98,7 @@ module _ {s es : List ℕ} {n c r k : ℕ} {u w : List ℕ} (t : Staged s es n c
     pub level-start : sp .start ≤ maxLetters
     level-start = let (p, l) = level-slip in omega (arith, end-is, ap (λ x. x .end) q, sorted-ranked (t .stage .sorted) .spans .fits i l)
 
-    pub level-short : (k′ : ℕ) (x : List ℕ) → sp .end ≤ sp .start + c → x ≡ w → k′ ≡ k → Staged s es n c (r + 1) u k′ x
+    pub level-short : (k′ : ℕ) (x : List ℕ) → sp .end ≤ sp .start + c → x ≡ w → k′ ≡ k → AtStage s es n c (r + 1) u k′ x
     level-short k′ x m e f =
         let y = counted-short (sorted-ranked (t .stage .sorted)) c r k w inside (omega (arith, end-is)) (t .stage .counted) in
         rw (e, f, add-one r) (record { stage = record { sorted = t .stage .sorted; counted = y }; only = t .only })
@@ -121,7 +121,7 @@ module _ {s es : List ℕ} {n c r k : ℕ} {u w : List ℕ} (t : Staged s es n c
           }
 
       pub level-letter :
-          (v k′ : ℕ) (w′ x : List ℕ) → Lettered w c r (sp .start + c) k v w′ → x ≡ w′ → k′ ≡ v → Staged s es n c (r + 1) u k′ x
+          (v k′ : ℕ) (w′ x : List ℕ) → Lettered w c r (sp .start + c) k v w′ → x ≡ w′ → k′ ≡ v → AtStage s es n c (r + 1) u k′ x
       level-letter v k′ w′ x o e f =
           let b = t .stage .sorted in
           let room = b .room in
@@ -129,7 +129,7 @@ module _ {s es : List ℕ} {n c r k : ℕ} {u w : List ℕ} (t : Staged s es n c
           let (y, a) = counted-letter R c r k (sp .start + c) w inside long place (t .stage .counted) v w′ (omega arith) (sorted-common b r h) o in
           rw (e, f, add-one r) (record { stage = stage-kept b a c (suc r) v y; only = only-trans (t .only) a })
 
-module _ {s es : List ℕ} {n c r k : ℕ} {u w : List ℕ} (t : Staged s es n c r u k w) (short : c < maxSlip) (h : r ≤ n) where
+module _ {s es : List ℕ} {n c r k : ℕ} {u w : List ℕ} (t : AtStage s es n c r u k w) (short : c < maxSlip) (h : r ≤ n) where
   pub level-few : k ≤ maxLetters
   level-few =
       let b = t .stage .sorted in
@@ -138,7 +138,7 @@ module _ {s es : List ℕ} {n c r k : ℕ} {u w : List ℕ} (t : Staged s es n c
   pub level-room : Room w LEVEL (c + 2) (k + 1)
   level-room = let f = level-few in omega (arith, t .stage .sorted .room)
 
-  pub level-done : (w′ : List ℕ) → n ≤ r → Put w LEVEL (c + 2) (k + 1) w′ → Staged s es n (c + 1) 0 u k w′
+  pub level-done : (w′ : List ℕ) → n ≤ r → Put w LEVEL (c + 2) (k + 1) w′ → AtStage s es n (c + 1) 0 u k w′
   level-done w′ l q =
       let b = t .stage .sorted in
       let y = counted-up (sorted-ranked b) c r k w w′ short (omega (arith, sorted-length b)) (omega (arith, b .room)) q (t .stage .counted) in
@@ -150,14 +150,14 @@ module _ (s es : List ℕ) (n : ℕ) (w u : List ℕ) (b : Sorted s es n w) (q :
   begun : Only NodeCells w u
   begun = only-put only-refl q (omega arith)
 
-  pub nodes-begin : Staged s es n 0 0 u 0 u
+  pub nodes-begin : AtStage s es n 0 0 u 0 u
   nodes-begin =
       record {
         stage = stage-kept b begun 0 0 0 (counted-start (slipsOf s es) es (table w ORDER n) w u (omega (arith, b .room)) q);
         only = only-refl;
       }
 
-  pub nodes-all : (c k : ℕ) (w′ : List ℕ) → c ≤ maxSlip → maxSlip ≤ c → Staged s es n c 0 u k w′ → NodesFilled s es n w k w′
+  pub nodes-all : (c k : ℕ) (w′ : List ℕ) → c ≤ maxSlip → maxSlip ≤ c → AtStage s es n c 0 u k w′ → NodesFilled s es n w k w′
   nodes-all c k w′ l h t =
       let a = t .stage .sorted in
       let R = sorted-ranked a in
@@ -181,5 +181,5 @@ module _ (s es : List ℕ) (n : ℕ) (w u : List ℕ) (b : Sorted s es n w) (q :
       }
 
 pub nodes-next :
-    {s es : List ℕ} {n c k k′ : ℕ} {u w w′ : List ℕ} → Staged s es n c 0 u k w → Staged s es n (c + 1) 0 w k′ w′ → Staged s es n (c + 1) 0 u k′ w′
+    {s es : List ℕ} {n c k k′ : ℕ} {u w w′ : List ℕ} → AtStage s es n c 0 u k w → AtStage s es n (c + 1) 0 w k′ w′ → AtStage s es n (c + 1) 0 u k′ w′
 nodes-next t x = record { stage = x .stage; only = only-trans (t .only) (x .only) }

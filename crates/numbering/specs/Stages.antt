@@ -5,8 +5,8 @@
 --   LevelDone zs c level      == LEVEL is right for the lengths 1 to c + 1
 --   Counted ss es O c r k w   == k nodes have numbers, and the tables in w are right so far
 --   Stage s es n c r k w      == the same, of the order in w
---   Ready s es n c k w        == the level of c + 1 letters comes next
---   Staged s es n c r w k w′  == w′ is at the stage (c, r), and only LEVEL, AT, OWN of w were written
+--   LevelNext s es n c k w        == the level of c + 1 letters comes next
+--   AtStage s es n c r w k w′  == w′ is at the stage (c, r), and only LEVEL, AT, OWN of w were written
 --   Letterable w r p k        == there is room for a letter at the place p of the member of rank r, where k nodes have numbers
 --   Lettered w c r p k v w′   == letter c of that member has got the number v: k, the last one, or a new one
 use mathlib.Core.Path.{_≡_}
@@ -47,11 +47,11 @@ pub record Stage (s es : List ℕ) (n c r k : ℕ) (w : List ℕ) : Type 0 where
   pub sorted : Sorted s es n w
   pub counted : Counted (slipsOf s es) es (table w ORDER n) c r k w
 
-pub record Ready (s es : List ℕ) (n c k : ℕ) (w : List ℕ) : Type 0 where
+pub record LevelNext (s es : List ℕ) (n c k : ℕ) (w : List ℕ) : Type 0 where
   pub stage : Stage s es n c 0 k w
   pub short : c < maxSlip
 
-pub record Staged (s es : List ℕ) (n c r : ℕ) (w : List ℕ) (k : ℕ) (w′ : List ℕ) : Type 0 where
+pub record AtStage (s es : List ℕ) (n c r : ℕ) (w : List ℕ) (k : ℕ) (w′ : List ℕ) : Type 0 where
   pub stage : Stage s es n c r k w′
   pub only : Only NodeCells w w′
 

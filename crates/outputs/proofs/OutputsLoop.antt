@@ -20,7 +20,7 @@ use Rattle.matching.proofs.NodeLaws.{node-fails}
 use Rattle.matching.proofs.Finds.{endingOf}
 use Rattle.layout.specs.Layout.{FAIL, HEAD, TWIN, MARK, OUT, TALLY}
 use Rattle.layout.specs.Tables.{cell, members, patterns, owners}
-use Rattle.layout.specs.Numbered.{patternsIn, Numbered, Kept, Headed}
+use Rattle.layout.specs.Numbered.{patternsIn, Numbered, SameBelow, Headed}
 use Rattle.layout.proofs.Frames.{only-kept, kept-lower, members-kept}
 use Rattle.outputs.specs.Outputs.{OutOf, TallyOf, Telling, Tallied, OutputsFilled}
 use Rattle.outputs.proofs.Outs.{by-list, ending-most, ending-link, ending-root, out-root, out-here, out-next}
@@ -116,7 +116,7 @@ module _ {s es : List ℕ} {n count : ℕ} {w : List ℕ} {v : ℕ} (T : Telling
 -- node by node
 pub record Filling (s es : List ℕ) (n count : ℕ) (w₀ w : List ℕ) (v : ℕ) : Type 0 where
   pub headed : Headed s es n count w₀
-  pub kept : Kept OUT w₀ w
+  pub kept : SameBelow OUT w₀ w
   pub some : 1 ≤ v
   pub upto : v ≤ count + 1
   pub outs : (u : ℕ) → Num (patternsIn s es n w₀) u → u < v → OutOf (slipsOf s es) (members w₀ n) u (cell w OUT u)
@@ -126,7 +126,7 @@ module _ {s es : List ℕ} {n count : ℕ} {w : List ℕ} (H : Headed s es n cou
   pub filling-root : Room w TALLY 0 0
   filling-root = record { within = omega (arith, H .automaton .branched .numbered .room); small = omega arith }
 
-  root-kept : {w′ : List ℕ} → Put w TALLY 0 0 w′ → Kept OUT w w′
+  root-kept : {w′ : List ℕ} → Put w TALLY 0 0 w′ → SameBelow OUT w w′
   root-kept p = only-kept OUT (put-only p) (λ q e. omega arith)
 
   pub filling-start : {w′ : List ℕ} → Put w TALLY 0 0 w′ → Filling s es n count w′ w′ 1

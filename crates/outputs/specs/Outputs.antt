@@ -19,7 +19,7 @@ use Rattle.matching.specs.Nodes.{nodes, string, IsNode, Num}
 use Rattle.matching.specs.Occurrences.{endingOf}
 use Rattle.layout.specs.Layout.{OUT, TALLY}
 use Rattle.layout.specs.Tables.{cell, members, patterns, owners}
-use Rattle.layout.specs.Numbered.{patternsIn, Headed, Kept}
+use Rattle.layout.specs.Numbered.{patternsIn, Headed, SameBelow}
 
 abbrev pub longestOwned : List (List ℕ) → List ℕ → List ℕ → List ℕ
 longestOwned ss M [] = []
@@ -58,4 +58,4 @@ pub record Told (s es : List ℕ) (n count : ℕ) (w : List ℕ) : Type 0 where
 
 pub record OutputsFilled (s es : List ℕ) (n count : ℕ) (w w′ : List ℕ) : Type 0 where
   pub told : Told s es n count w′
-  pub below : Kept OUT w w′
+  pub below : SameBelow OUT w w′

@@ -22,7 +22,7 @@ use Rattle.files.proofs.CopyTurns.{length-ends}
 use Rattle.files.proofs.SlipsRead.{letters-first, ends-first}
 use Rattle.sheets.specs.Sheets.{detailWidth, refusedLine, refusedSize, composeSheetOf, findSheetOf}
 use Rattle.sheet_lines.specs.steps.Lines.{Printed}
-use Rattle.sheets.specs.Programs.{lettersIn, endsIn, traySheet, fileFault, composeSheet, textOf, textFault, textSheet, findFault, findSheet}
+use Rattle.sheets.specs.Programs.{lettersIn, endsIn, traySheet, composeSheetFault, composeSheet, textOf, textFault, textSheet, findSheetFault, findSheet}
 use Rattle.sheet_sizes.proofs.RefusalsFit.{read-refusal-fits}
 use Rattle.printing.specs.Lent.{FileRoom, ComposeRoom, FindRoom, Trimmed}
 use Rattle.printing.proofs.TraySteps.{printed-is}
@@ -102,11 +102,11 @@ composed s f = elim (f .number) [ zero ↦ composeSheetOf (slipsOf (lettersIn s)
 
 module _ (s : List ℕ) where
   compose-silent : own s .number ≡ 0 → composeSheet s ≡ traySheet (lettersIn s) (endsIn s)
-  unfolding composeSheet fileFault
+  unfolding composeSheet composeSheetFault
   compose-silent h = ap (composed s) (or-zero (own s) (trayFault (lettersIn s) (endsIn s)) h)
 
   compose-speaks : (n : ℕ) → own s .number ≡ suc n → composeSheet s ≡ refusedLine (own s)
-  unfolding composeSheet fileFault
+  unfolding composeSheet composeSheetFault
   compose-speaks n h =
       ap (composed s) (or-some (own s) (trayFault (lettersIn s) (endsIn s)) (omega arith))
       ∙ ap {B = List ℕ} (λ (m : ℕ). elim m [ zero ↦ composeSheetOf (slipsOf (lettersIn s) (endsIn s)) | suc k ↦ refusedLine (own s) ]) h
@@ -138,11 +138,11 @@ find-can s a b w f o room a′ b′ r t z = refused-can s a b (room .file) a′ 
 
 module _ (s x : List ℕ) where
   find-silent : own s .number ≡ 0 → findSheet s x ≡ textSheet (lettersIn s) (endsIn s) (textOf x)
-  unfolding findSheet findFault
+  unfolding findSheet findSheetFault
   find-silent h = ap (found s x) (or-zero (own s) (textFault (lettersIn s) (endsIn s) (textOf x)) h)
 
   find-speaks : (n : ℕ) → own s .number ≡ suc n → findSheet s x ≡ refusedLine (own s)
-  unfolding findSheet findFault
+  unfolding findSheet findSheetFault
   find-speaks n h =
       ap (found s x) (or-some (own s) (textFault (lettersIn s) (endsIn s) (textOf x)) (omega arith))
       ∙ ap {B = List ℕ} (λ (m : ℕ). elim m [ zero ↦ findSheetOf (slipsOf (lettersIn s) (endsIn s)) (textOf x) | suc k ↦ refusedLine (own s) ]) h

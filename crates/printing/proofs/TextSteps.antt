@@ -16,7 +16,7 @@ use Rattle.trays.specs.Limits.{workNeed}
 use Rattle.trays.specs.Slips.{slipsOf}
 use Rattle.trays.specs.Faults.{refusal, accepted, row, orElse, firstRow, trayRows}
 use Rattle.trays.proofs.Rows.{by-number}
-use Rattle.matching.specs.Occurrences.{found, occurrences}
+use Rattle.matching.specs.Occurrences.{occurrence, occurrences}
 use Rattle.answers.specs.declared.Search.{Search}
 use Rattle.answers.specs.Finding as F
 use Rattle.answers.specs.Finding.{textRows, listRow, flatFound}
@@ -88,7 +88,7 @@ module _ (s es t w f o : List ℕ) (room : TextRoom w f o) where
               no n x y = omega arith
           go (suc n) h = ap (numbered s es t) h
 
-    -- found: the sheet
+    -- occurrence: the sheet
     module _ (z : r .number ≡ 0) where
       silent : textFault s es t .number ≡ 0
       silent = by-number (textFault s es t) (λ h. h) (λ p. absurd (no (textFault s es t .number) p (sym (ap (λ (c : Search). c .number) (refused-by p)) ∙ z)))
@@ -112,7 +112,7 @@ module _ (s es t w f o : List ℕ) (room : TextRoom w f o) where
       count-is = ap (λ (c : Search). c .count) answer
 
       flat-long : length (flatFound (occurrences ss t)) ≡ 2 * r .count
-      flat-long = rw count-is (two-length (found 0 0) (λ g. g .end) (λ g. g .which) (occurrences ss t))
+      flat-long = rw count-is (two-length (occurrence 0 0) (λ g. g .end) (λ g. g .which) (occurrences ss t))
 
       found-here : take (2 * r .count) f′ ≡ flatFound (occurrences ss t)
       found-here = rw stored (take-at (flatFound (occurrences ss t)) _ (2 * r .count) flat-long)

@@ -1,6 +1,6 @@
 -- From the answer of composing to the sheet of the tray.
 --   tray-cases   == with room enough only the tray itself turns composing back
---   Counts       == joins, places and legend lie within their buffers
+--   SheetCounts       == joins, places and legend lie within their buffers
 --   tray-..      == the two ways through tray_sheet
 -- Refusals 7, 8 and 9 are silent: the lent work area is large enough, and no accepted tray has a longer legend or more joins and slips than are
 -- taken.
@@ -47,7 +47,7 @@ pub sheet-speaks : (s es : List ℕ) (n : ℕ) → trayFault s es .number ≡ su
 sheet-speaks s es n h = ap {B = List ℕ} (λ (m : ℕ). elim m [ zero ↦ composeSheetOf (slipsOf s es) | suc k ↦ refusedLine (trayFault s es) ]) h
 
 -- joins, places and legend lie within their buffers
-pub record Counts (w′ l′ : List ℕ) (r : Composed) : Type 0 where
+pub record SheetCounts (w′ l′ : List ℕ) (r : Composed) : Type 0 where
   pub joins-few : r .joins ≤ maxSlips
   pub slips-few : r .slips ≤ maxSlips
   pub legend-fits : r .legend ≤ length l′
@@ -138,7 +138,7 @@ module _ (s es w l o : List ℕ) (room : TrayRoom w l o) where
           no : (n : ℕ) → trayFault s es .number ≡ suc n → trayFault s es .number ≡ 0 → ⊥
           no n p q = omega arith
 
-      pub counts : Counts w′ l′ r
+      pub counts : SheetCounts w′ l′ r
       counts =
           let F = compose-fits s es tray in
           let m : length l′ ≡ length l = ap length laid ∙ length-over (legendOf (whole ss)) l (omega (arith, room .legend, F .legend)) in

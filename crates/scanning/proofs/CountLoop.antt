@@ -19,8 +19,8 @@ use Rattle.layout.specs.Layout.{TALLY}
 use Rattle.layout.specs.Numbered.{patternsIn}
 use Rattle.links.specs.Links.{StepIs, CanStep}
 use Rattle.links.proofs.Steps.{node-within, state-none, state-next, moves-next, moves-least}
-use Rattle.scanning.specs.declared.Counts.{Counts}
-use Rattle.scanning.specs.Scanning.{occursFrom, Able, CountsAre}
+use Rattle.scanning.specs.declared.TextCounts.{TextCounts}
+use Rattle.scanning.specs.Scanning.{occursFrom, Able, TextCountsAre}
 use Rattle.scanning.proofs.Occurs.{slips-all, occurs-all, occurs-next, occurs-none}
 use Rattle.scanning.proofs.Scans.{able-endings, able-few, able-steps}
 
@@ -55,7 +55,7 @@ module _ {s es t : List ℕ} {n count : ℕ} {w : List ℕ} where
     moves-few k v x e =
         omega (arith, moves-least (patternsIn s es n w) x (drop v t) k, few-from (slipsOf s es) [] t 0, C .able .short)
 
-    pub counting-all : length t ≤ read → CountsAre s es t (record { moves = moves; found = found })
+    pub counting-all : length t ≤ read → TextCountsAre s es t (record { moves = moves; found = found })
     counting-all h =
         let ss = slipsOf s es in
         record {
@@ -91,8 +91,8 @@ module _ {s es t : List ℕ} {n count : ℕ} {w : List ℕ} where
               arith,
               C .found-are,
               ap length (occurs-next ss t read h),
-              length-append (map (Occurrences.found (suc read)) xs) (occursFrom ss t (suc read)),
-              length-map xs (Occurrences.found (suc read)),
+              length-append (map (Occurrences.occurrence (suc read)) xs) (occursFrom ss t (suc read)),
+              length-map xs (Occurrences.occurrence (suc read)),
               ap length (able-endings (C .able) (take (suc read) t) (rw e at m)),
               g .is,
               C .able .told .tallies u (i .state .inside),

@@ -19,13 +19,14 @@ use Rattle.tables.specs.Tables.{Got, Put}
 use Rattle.tables.proofs.Tables.{put-only, put-here}
 use Rattle.layout.specs.Layout.{TWIN, MARK, OUT, TALLY}
 use Rattle.layout.specs.Tables.{cell, members}
-use Rattle.layout.specs.Numbered.{patternsIn, Kept}
+use Rattle.layout.specs.Numbered.{patternsIn, SameBelow}
 use Rattle.layout.proofs.Frames.{kept-lower, members-kept}
 use Rattle.links.proofs.Steps.{node-within, state-none}
 use Rattle.outputs.specs.Outputs.{Told}
 use Rattle.layout.proofs.Heads.{linked-same, member-few, node-most, headed-kept}
 use Rattle.scanning.specs.declared.Scan.{Scan}
-use Rattle.scanning.specs.Scanning.{SCAN, Able, Pending, Standing, scanIn, CanKeep, Keeps, fresh, Started}
+use Rattle.scanning.specs.Scanning.{Able, Pending, Standing, scanIn, CanKeep, Keeps, fresh, ScanStarted}
+use Rattle.layout.specs.Layout.{SCAN}
 use Rattle.scanning.proofs.Occurs.{occurs-all}
 
 pub scan-loaded : {w : List ℕ} {a b c d e : ℕ} (i : ℕ) → Got w SCAN 1 a → Got w SCAN 2 b → Got w SCAN 3 c → Got w SCAN 4 d → Got w SCAN 5 e
@@ -82,7 +83,7 @@ module _ {w a b c d w′ : List ℕ} {x : Scan} (C : CanKeep w x) (p₁ : Put w 
         };
       }
 
-pub scan-started : {w a w′ : List ℕ} {count : ℕ} → SCAN + 6 ≤ length w → Put w SCAN 0 count a → Keeps a fresh w′ → Started w count w′
+pub scan-started : {w a w′ : List ℕ} {count : ℕ} → SCAN + 6 ≤ length w → Put w SCAN 0 count a → Keeps a fresh w′ → ScanStarted w count w′
 scan-started h p k =
     record {
       count-is = k .below .cells (SCAN + 0) (omega arith) ∙ put-here p (omega arith);
@@ -94,7 +95,7 @@ scan-started h p k =
     }
 
 -- the tables below SCAN
-pub told-kept : {s es : List ℕ} {n count : ℕ} {w w′ : List ℕ} → Kept SCAN w w′ → Told s es n count w → Told s es n count w′
+pub told-kept : {s es : List ℕ} {n count : ℕ} {w w′ : List ℕ} → SameBelow SCAN w w′ → Told s es n count w → Told s es n count w′
 told-kept {n = n} {w = w} {w′} k T =
     let N = T .headed .automaton .branched .numbered in
     let f : members w′ n ≡ members w n = members-kept n (omega (arith, N .few-members)) k in
@@ -104,7 +105,7 @@ told-kept {n = n} {w = w} {w′} k T =
       tallies = rw f (λ v l. k .cells (TALLY + v) (omega (arith, N .all-nodes, N .few-nodes)) ∙ T .tallies v l);
     }
 
-module _ {s es t : List ℕ} {n count : ℕ} {w w′ : List ℕ} (k : Kept SCAN w w′) where
+module _ {s es t : List ℕ} {n count : ℕ} {w w′ : List ℕ} (k : SameBelow SCAN w w′) where
   same-members : Able s es t n count w → members w′ n ≡ members w n
   same-members A = members-kept n (omega (arith, A .told .headed .automaton .branched .numbered .few-members)) k
 

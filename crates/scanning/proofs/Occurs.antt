@@ -15,7 +15,7 @@ use Rattle.words.proofs.Runs.{length-upFrom}
 use Rattle.words.specs.Lists.{each, upFrom}
 use Rattle.trays.specs.Limits.{maxSlips}
 use Rattle.trays.specs.Slips.{slip, numbers}
-use Rattle.matching.specs.Occurrences.{found, endingAt, occurrences}
+use Rattle.matching.specs.Occurrences.{occurrence, endingAt, occurrences}
 use Rattle.outputs.proofs.Outs.{ending-most}
 use Rattle.scanning.specs.Scanning.{occursFrom}
 
@@ -32,7 +32,7 @@ module _ (ss : List (List ℕ)) (t : List ℕ) where
   pub occurs-all : occurrences ss t ≡ occursFrom ss t 0
   occurs-all = let q : length t - 0 ≡ length t = omega arith in rw q
 
-  pub occurs-next : (e : ℕ) → e < length t → occursFrom ss t e ≡ map (found (suc e)) (endingAt ss (take (suc e) t)) ++ occursFrom ss t (suc e)
+  pub occurs-next : (e : ℕ) → e < length t → occursFrom ss t e ≡ map (occurrence (suc e)) (endingAt ss (take (suc e) t)) ++ occursFrom ss t (suc e)
   occurs-next e h = let q : length t - e ≡ suc (length t - suc e) = omega arith in rw q
 
   pub occurs-none : (e : ℕ) → length t ≤ e → occursFrom ss t e ≡ []
@@ -42,14 +42,14 @@ module _ (ss : List (List ℕ)) (t : List ℕ) where
     pub ending-few : (x : List ℕ) → length (endingAt ss x) ≤ maxSlips
     ending-few x = omega (arith, ending-most ss (numbers ss) x, length-upFrom 1 (length ss))
 
-    each-few : (i n : ℕ) → length (each (λ p. map (found p) (endingAt ss (take p t))) (upFrom i n)) ≤ maxSlips * n
+    each-few : (i n : ℕ) → length (each (λ p. map (occurrence p) (endingAt ss (take p t))) (upFrom i n)) ≤ maxSlips * n
     each-few i zero = omega arith
     each-few i (suc n) =
         let xs = endingAt ss (take i t) in
         omega (
           arith,
-          length-append (map (found i) xs) (each (λ p. map (found p) (endingAt ss (take p t))) (upFrom (suc i) n)),
-          length-map xs (found i),
+          length-append (map (occurrence i) xs) (each (λ p. map (occurrence p) (endingAt ss (take p t))) (upFrom (suc i) n)),
+          length-map xs (occurrence i),
           ending-few (take i t),
           each-few (suc i) n,
         )

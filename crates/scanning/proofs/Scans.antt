@@ -22,7 +22,7 @@ use Rattle.trays.proofs.Accepted.{accepted-tells, slips-count}
 use Rattle.tables.specs.Tables.{Got}
 use Rattle.matching.specs.Moves.{longestEnding}
 use Rattle.matching.specs.Nodes.{string, IsNode, Num}
-use Rattle.matching.specs.Occurrences.{found, endingAt, occurrences}
+use Rattle.matching.specs.Occurrences.{occurrence, endingAt, occurrences}
 use Rattle.matching.proofs.Endings.{slip-some}
 use Rattle.matching.proofs.Finds.{endingOf, ending-longest}
 use Rattle.layout.specs.Layout.{TWIN, OUT}
@@ -31,7 +31,7 @@ use Rattle.layout.specs.Numbered.{patternsIn, Numbered}
 use Rattle.links.specs.Links.{StepIs, CanStep}
 use Rattle.links.proofs.Steps.{automaton-steps, node-within, state-next}
 use Rattle.scanning.specs.declared.Scan.{Scan}
-use Rattle.scanning.specs.Scanning.{occursFrom, Able, Reporting, Pending, AtNode, Standing, Ahead, Unread, Read, Reached, Reportable, Passed}
+use Rattle.scanning.specs.Scanning.{occursFrom, Able, Reporting, Pending, AtNode, Standing, Ahead, Unread, ReadOn, Reached, Reportable, Passed}
 use Rattle.scanning.proofs.Occurs.{occurs-next, occurs-none, occurs-few}
 use Rattle.scanning.proofs.Reports.{twin-next, twin-behind, reporting-room, reporting-node}
 
@@ -86,7 +86,7 @@ module _ {s es t : List ℕ} {n count : ℕ} {w : List ℕ} {x : Scan} (U : Unre
 
     pub unread-read : {node slip : ℕ} →
         Pending (slipsOf s es) (members w n) w node slip (endingOf (slipsOf s es) (members w n) (string (patternsIn s es n w) u))
-        → Read s es t n count w x (record { done = x .done; read = x .read + 1; state = u; node = node; slip = slip })
+        → ReadOn s es t n count w x (record { done = x .done; read = x .read + 1; state = u; node = node; slip = slip })
     unread-read p =
         let S = U .standing in
         let ss = slipsOf s es in
@@ -102,8 +102,8 @@ module _ {s es t : List ℕ} {n count : ℕ} {w : List ℕ} {x : Scan} (U : Unre
             pending = p;
             left =
                 S .left
-                ∙ ap (λ l. map (found (x .read)) l ++ occursFrom ss t (x .read)) none
-                ∙ rw add-one (next ∙ ap (λ l. map (found (suc (x .read))) l ++ occursFrom ss t (suc (x .read)))
+                ∙ ap (λ l. map (occurrence (x .read)) l ++ occursFrom ss t (x .read)) none
+                ∙ rw add-one (next ∙ ap (λ l. map (occurrence (suc (x .read))) l ++ occursFrom ss t (suc (x .read)))
                 (able-endings (S .able) (take (suc (x .read)) t) (rw add-one at m)));
           };
           done = refl;
@@ -131,15 +131,15 @@ module _ {s es t : List ℕ} {n count : ℕ} {w : List ℕ} {x y : Scan} (R : Re
           | yes h ↦ h
           | no h ↦
               let e : drop (y .done) (occurrences ss t) ≡ [] =
-              S .left ∙ ap₂ (λ l k. map (found (y .read)) l ++ k) (S .pending .none z) (occurs-none ss t (y .read) (omega arith)) in
+              S .left ∙ ap₂ (λ l k. map (occurrence (y .read)) l ++ k) (S .pending .none z) (occurs-none ss t (y .read) (omega arith)) in
               absurd (omega (arith, R .more, R .done, ap length e, length-drop (y .done) (occurrences ss t)))
         ];
       }
 
-  pub reaching-more : {z : Scan} → Read s es t n count w y z → Reaching s es t n count w x z
+  pub reaching-more : {z : Scan} → ReadOn s es t n count w y z → Reaching s es t n count w x z
   reaching-more r = record { standing = r .standing; done = r .done ∙ R .done; more = R .more }
 
-  pub reaching-less : {z : Scan} → y .slip ≡ 0 → Read s es t n count w y z → length t - z .read < length t - y .read
+  pub reaching-less : {z : Scan} → y .slip ≡ 0 → ReadOn s es t n count w y z → length t - z .read < length t - y .read
   reaching-less q r = omega (arith, r .read, reaching-unread q .more)
 
   pub reaching-all : (y .slip ≡ 0 → ⊥) → Reached s es t n count w x y
@@ -150,12 +150,12 @@ module _ {s es t : List ℕ} {n count : ℕ} {w : List ℕ} {x : Scan} (P : Repo
   here : Reporting (slipsOf s es) (members w n) w (x .node) (x .slip) (P .standing .rest)
   here = P .standing .pending .some (P .some)
 
-  left-here : drop (x .done) (occurrences (slipsOf s es) t) ≡ found (x .read) (x .slip)
-      ∷ (map (found (x .read)) (tailOf (P .standing .rest)) ++ occursFrom (slipsOf s es) t (x .read))
-  left-here = P .standing .left ∙ map-first (found (x .read)) (P .standing .rest) (x .slip) _ _ (here .list-is)
+  left-here : drop (x .done) (occurrences (slipsOf s es) t) ≡ occurrence (x .read) (x .slip)
+      ∷ (map (occurrence (x .read)) (tailOf (P .standing .rest)) ++ occursFrom (slipsOf s es) t (x .read))
+  left-here = P .standing .left ∙ map-first (occurrence (x .read)) (P .standing .rest) (x .slip) _ _ (here .list-is)
 
-  pub reportable-found : getD (occurrences (slipsOf s es) t) (x .done) (found 0 0) ≡ found (x .read) (x .slip)
-  reportable-found = getD-drop (x .done) (occurrences (slipsOf s es) t) (found 0 0) ∙ ap (headOr (found 0 0)) left-here
+  pub reportable-found : getD (occurrences (slipsOf s es) t) (x .done) (occurrence 0 0) ≡ occurrence (x .read) (x .slip)
+  reportable-found = getD-drop (x .done) (occurrences (slipsOf s es) t) (occurrence 0 0) ∙ ap (headOr (occurrence 0 0)) left-here
 
   reportable-more : x .done < length (occurrences (slipsOf s es) t)
   reportable-more = omega (arith, ap length left-here, length-drop (x .done) (occurrences (slipsOf s es) t))

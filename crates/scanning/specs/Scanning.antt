@@ -3,7 +3,7 @@
 --   SCAN                      == where the cells stand that keep a scan: the count of nodes, then letters read in two cells, state, node, slip
 --   occursFrom ss t e         == the occurrences that end behind the first e letters
 --   Able .. t .. w            == the automaton of all slips and its tables stand, and the text is no longer than it may be
---   CountsAre s es t r        == r has the moves and the number of occurrences of the whole text
+--   TextCountsAre s es t r        == r has the moves and the number of occurrences of the whole text
 --   Reporting .. node slip xs == slip is a member of node's letters, and xs are: slip, the others behind it, then what ends the output link of node
 --   Pending .. node slip xs   == the same where slip is not 0; where it is, xs is empty
 --   Standing .. x             == the scan x stands before occurrence x .done: it has read x .read letters, its state is x .state, and
@@ -20,29 +20,25 @@ use Rattle.trays.specs.Limits.{maxText}
 use Rattle.trays.specs.Slips.{slipsOf, numbers}
 use Rattle.matching.specs.Moves.{longestEnding, moves}
 use Rattle.matching.specs.Nodes.{string, IsNode, Num}
-use Rattle.matching.specs.Occurrences.{Found, found, endingAt, occurrences}
+use Rattle.matching.specs.Occurrences.{Occurrence, occurrence, endingAt, occurrences}
 use Rattle.matching.specs.Occurrences.{endingOf}
-use Rattle.layout.specs.Layout.{TWIN, OUT}
+use Rattle.layout.specs.Layout.{TWIN, OUT, SCAN}
 use Rattle.layout.specs.Tables.{cell, members, patterns, Linked}
-use Rattle.layout.specs.Numbered.{patternsIn, Kept}
+use Rattle.layout.specs.Numbered.{patternsIn, SameBelow}
 use Rattle.outputs.specs.Outputs.{Told}
-use Rattle.scanning.specs.declared.Counts.{Counts}
+use Rattle.scanning.specs.declared.TextCounts.{TextCounts}
 use Rattle.scanning.specs.declared.Report.{Report}
 use Rattle.scanning.specs.declared.Scan.{Scan}
 
--- behind the table TALLY
-abbrev pub SCAN : ℕ
-SCAN = 27313
-
-abbrev pub occursFrom : List (List ℕ) → List ℕ → ℕ → List Found
-occursFrom ss t e = each (λ p. map (found p) (endingAt ss (take p t))) (upFrom (suc e) (length t - e))
+abbrev pub occursFrom : List (List ℕ) → List ℕ → ℕ → List Occurrence
+occursFrom ss t e = each (λ p. map (occurrence p) (endingAt ss (take p t))) (upFrom (suc e) (length t - e))
 
 pub record Able (s es t : List ℕ) (n count : ℕ) (w : List ℕ) : Type 0 where
   pub told : Told s es n count w
   pub all-slips : members w n ≡ numbers (slipsOf s es)
   pub short : length t ≤ maxText
 
-pub record CountsAre (s es t : List ℕ) (r : Counts) : Type 0 where
+pub record TextCountsAre (s es t : List ℕ) (r : TextCounts) : Type 0 where
   pub moves-are : r .moves ≡ moves (slipsOf s es) t
   pub found-are : r .found ≡ length (occurrences (slipsOf s es) t)
 
@@ -75,7 +71,7 @@ pub record Standing (s es t : List ℕ) (n count : ℕ) (w : List ℕ) (x : Scan
   pub state-is : IsNode (patternsIn s es n w) (x .state) (longestEnding (take (x .read) t) (patternsIn s es n w))
   pub rest : List ℕ
   pub pending : Pending (slipsOf s es) (members w n) w (x .node) (x .slip) rest
-  pub left : drop (x .done) (occurrences (slipsOf s es) t) ≡ map (found (x .read)) rest ++ occursFrom (slipsOf s es) t (x .read)
+  pub left : drop (x .done) (occurrences (slipsOf s es) t) ≡ map (occurrence (x .read)) rest ++ occursFrom (slipsOf s es) t (x .read)
 
 pub record Ahead (s es t : List ℕ) (n count : ℕ) (w : List ℕ) (x : Scan) : Type 0 where
   pub standing : Standing s es t n count w x
@@ -87,7 +83,7 @@ pub record Unread (s es t : List ℕ) (n count : ℕ) (w : List ℕ) (x : Scan) 
   pub none : x .slip ≡ 0
   pub more : x .read < length t
 
-pub record Read (s es t : List ℕ) (n count : ℕ) (w : List ℕ) (x y : Scan) : Type 0 where
+pub record ReadOn (s es t : List ℕ) (n count : ℕ) (w : List ℕ) (x y : Scan) : Type 0 where
   pub standing : Standing s es t n count w y
   pub done : y .done ≡ x .done
   pub read : y .read ≡ x .read + 1
@@ -130,13 +126,13 @@ pub record Loadable (w : List ℕ) : Type 0 where
 
 pub record Keeps (w : List ℕ) (x : Scan) (w′ : List ℕ) : Type 0 where
   pub scan-is : scanIn w′ (x .done) ≡ x
-  pub below : Kept (SCAN + 1) w w′
+  pub below : SameBelow (SCAN + 1) w w′
 
 -- the scan that has read nothing
 abbrev pub fresh : Scan
 fresh = record { done = 0; read = 0; state = 0; node = 0; slip = 0 }
 
-pub record Started (w : List ℕ) (count : ℕ) (w′ : List ℕ) : Type 0 where
+pub record ScanStarted (w : List ℕ) (count : ℕ) (w′ : List ℕ) : Type 0 where
   pub count-is : cell w′ SCAN 0 ≡ count
   pub scan-is : scanIn w′ 0 ≡ fresh
-  pub below : Kept SCAN w w′
+  pub below : SameBelow SCAN w w′

@@ -8,12 +8,10 @@ ghost use Rattle.layout.specs.Tables.{cell};
 ghost use Rattle.layout.specs.Layout as L;
 ghost use Rattle.layout.specs.Numbered.{patternsIn};
 ghost use Rattle.scanning.specs.Scanning as S;
-
-// Where a scan is kept in the work area, behind the tables.
-pub const SCAN: usize = 27313;
+use layout::SCAN;
 
 // The moves of a text, and how many occurrences it has.
-pub struct Counts {
+pub struct TextCounts {
     pub moves: usize,
     pub found: usize,
 }
@@ -41,9 +39,9 @@ pub fn count_text(
     work: &[u16],
     n: usize,
     count: usize,
-) -> Counts
+) -> TextCounts
     requires { ⌜ S.Able (now letters) (now ends) (now text) n count (now work) ⌝ }
-    ensures { λ r. ⌜ S.CountsAre (now (letters .entry)) (now (ends .entry)) (now (text .entry)) r ⌝ }
+    ensures { λ r. ⌜ S.TextCountsAre (now (letters .entry)) (now (ends .entry)) (now (text .entry)) r ⌝ }
 {
     let mut state: usize = 0;
     let mut moves: usize = 0;
@@ -56,7 +54,7 @@ pub fn count_text(
         found += tables::at(work, layout::TALLY, state);
         read += 1;
     }
-    Counts { moves, found }
+    TextCounts { moves, found }
 }
 
 // What ends the string of the output link of node `v`.
@@ -106,7 +104,7 @@ fn read_letter(
     x: Scan,
 ) -> Scan
     requires { ⌜ S.Unread (now letters) (now ends) (now text) n count (now work) x ⌝ }
-    ensures { λ y. ⌜ S.Read (now (letters .entry)) (now (ends .entry)) (now (text .entry)) n count (now (work .entry)) x y ⌝ }
+    ensures { λ y. ⌜ S.ReadOn (now (letters .entry)) (now (ends .entry)) (now (text .entry)) n count (now (work .entry)) x y ⌝ }
 {
     let read = x.read;
     let next = links::step(letters, ends, work, n, count, x.state, text[read]);
@@ -205,7 +203,7 @@ pub fn keep(work: &mut [u16], x: Scan)
 // Keeps the scan that has read nothing, of an automaton with `count` nodes that have a letter.
 pub fn start(work: &mut [u16], count: usize)
     requires { ⌜ S.Loadable (now work) × (count < 65536) ⌝ }
-    ensures { λ _. ⌜ S.Started (now (work .entry)) count (now (work .exit)) ⌝ }
+    ensures { λ _. ⌜ S.ScanStarted (now (work .entry)) count (now (work .exit)) ⌝ }
 {
     tables::put(work, SCAN, 0, count);
     keep(

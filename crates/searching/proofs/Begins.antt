@@ -14,11 +14,11 @@ use Rattle.layout.specs.Numbered.{Numbered}
 use Rattle.answers.specs.WorkArea.{WorkKept}
 use Rattle.layout.proofs.Frames.{members-kept}
 use Rattle.automaton.specs.Built.{Built}
-use Rattle.owners.specs.Owners.{HeadsFilled}
+use Rattle.kept_lists.specs.KeptLists.{HeadsFilled}
 use Rattle.outputs.specs.Outputs.{OutputsFilled}
-use Rattle.scanning.specs.declared.Counts.{Counts}
+use Rattle.scanning.specs.declared.TextCounts.{TextCounts}
 use Rattle.scanning.specs.declared.Scan.{Scan}
-use Rattle.scanning.specs.Scanning.{Able, CountsAre, Loadable, Standing, fresh, scanIn, Started}
+use Rattle.scanning.specs.Scanning.{Able, TextCountsAre, Loadable, Standing, fresh, scanIn, ScanStarted}
 use Rattle.scanning.proofs.Scans.{able-few}
 use Rattle.scanning.proofs.Keeping.{standing-kept, fresh-standing}
 use Rattle.searching.specs.declared.Begun.{Begun}
@@ -53,7 +53,7 @@ module _ {s es t w w₁ : List ℕ} {nodes : ℕ} (h : Clear s es t w) (p : Prep
   kept-so : {w₂ : List ℕ} → length w₂ ≡ length w₁ → WorkKept (findBefore s es t (length w)) w w₂
   kept-so e = record { same = e ∙ p .same; untouched = λ u. absurd (omega (arith, h .silent)) }
 
-  module _ {c : Counts} (r : CountsAre s es t c) where
+  module _ {c : TextCounts} (r : TextCountsAre s es t c) where
     pub count-fits : c .found < 4294967296
     count-fits = omega (arith, r .found-are, able-few begin-able)
 
@@ -66,7 +66,7 @@ module _ {s es t w w₁ : List ℕ} {nodes : ℕ} (h : Clear s es t w) (p : Prep
           rw e (core-refused (refusal 14 (c .found)) (omega arith)
           (fault-list s es t (length w) room (h .silent) (omega (arith, r .found-are)) ∙ ap (refusal 14) (sym (r .found-are))) (kept-so refl))
 
-      pub begin-started : {w₂ : List ℕ} → c .found ≤ room → Started w₁ nodes w₂
+      pub begin-started : {w₂ : List ℕ} → c .found ≤ room → ScanStarted w₁ nodes w₂
           → CoreSays s es t w w₂ room (record { answer = record { number = 0; detail = 0; moves = c .moves; count = c .found }; count = c .found })
       begin-started {w₂} l g =
           let none = fault-none s es t (length w) room (h .silent) (omega (arith, r .found-are)) in

@@ -17,7 +17,8 @@ use Rattle.layout.specs.Tables.{cell}
 use Rattle.layout.specs.Numbered.{Numbered}
 use Rattle.layout.proofs.Frames.{kept-lower}
 use Rattle.scanning.specs.declared.Scan.{Scan}
-use Rattle.scanning.specs.Scanning.{SCAN, Standing, Ahead, Reached, Reportable, Passed, scanIn, CanKeep, Loadable, Keeps}
+use Rattle.scanning.specs.Scanning.{Standing, Ahead, Reached, Reportable, Passed, scanIn, CanKeep, Loadable, Keeps}
+use Rattle.layout.specs.Layout.{SCAN}
 use Rattle.scanning.proofs.Scans.{reportable-found}
 use Rattle.scanning.proofs.Keeping.{standing-kept, standing-keeps}
 use Rattle.answers.specs.declared.Found.{Found}
@@ -65,7 +66,7 @@ module _ {s es t w : List ℕ} {i : ℕ} (R : Ready s es t i w) where
           let scan-is : scanIn w′ (i + 1) ≡ z = ap (scanIn w′) (sym (p .done ∙ ap (λ (d : ℕ). d + 1) done-is)) ∙ k .scan-is in
           let stands : Standing s es t (length es) nodes w′ z = standing-kept (kept-lower SCAN (omega arith) (k .below)) (p .standing) in
           record {
-            is = sym (ap foundRecord (ap (λ (d : ℕ). getD os d (O.found 0 0)) (sym done-is) ∙ reportable-found ready-reports));
+            is = sym (ap foundRecord (ap (λ (d : ℕ). getD os d (O.occurrence 0 0)) (sym done-is) ∙ reportable-found ready-reports));
             scan = subst (λ (c : ℕ). Standing s es t (length es) c w′ (scanIn w′ (i + 1))) (sym same-count)
                 (subst (λ (v : Scan). Standing s es t (length es) nodes w′ v) (sym scan-is) stands);
             same = k .below .same;

@@ -8,8 +8,8 @@ ghost use Rattle.searching.specs.steps.Searching as T;
 use answers::Found;
 use answers::MAX_TEXT;
 use answers::Search;
+use layout::SCAN;
 use layout::WORK_NEED;
-use scanning::SCAN;
 use trays::Refusal;
 
 // The answer, and how many occurrences are to be stored.
@@ -58,7 +58,7 @@ fn prepare(letters: &[u8], ends: &[u16], work: &mut [u16]) -> usize
 {
     let n = ends.len();
     let count = automaton::build(letters, ends, work);
-    owners::fill_heads(letters, ends, work, n, count);
+    kept_lists::fill_heads(letters, ends, work, n, count);
     outputs::fill_outputs(letters, ends, work, n, count);
     count
 }

@@ -17,7 +17,7 @@ use Rattle.trays.specs.Slips.{endOf}
 use Rattle.files.specs.Lines.{blank}
 use Rattle.sheets.specs.Sheets.{digit, column, keptSign, asideSign, threeLine, slipLine, signOf, foundLine, lines}
 use Rattle.sheets.specs.Sheets.{slipLineAt, joinLineAt, foundLineAt, placeWidth, slipSize, joinSize, foundSize}
-use Rattle.sheet_lines.specs.steps.Lines.{Put, SlipsFit, JoinsFit, FoundFit}
+use Rattle.sheet_lines.specs.steps.Lines.{Wrote, SlipsFit, JoinsFit, FoundFit}
 use Rattle.sheets.proofs.Columns.{column-small, column-more}
 use Rattle.sheet_lines.proofs.Puts.{put-none, put-more}
 
@@ -28,14 +28,14 @@ pub sign-kept : (k : ℕ) → (k ≡ 0 → ⊥) → keptSign ≡ signOf k
 sign-kept k e = rw (ne-eqb k 0 e)
 
 -- blanks
-pub blanks-start : (at : ℕ) (a : List ℕ) (n : ℕ) → at + n ≤ length a → Put at 0 (replicate 0 blank) a a at
+pub blanks-start : (at : ℕ) (a : List ℕ) (n : ℕ) → at + n ≤ length a → Wrote at 0 (replicate 0 blank) a a at
 blanks-start at a n h = put-none at a (omega arith)
 
-pub blanks-turn : (at i next r : ℕ) (a b c : List ℕ) → Put at i (replicate i blank) a b next → Put next 1 (blank ∷ []) b c r →
-    Put at (i + 1) (replicate (i + 1) blank) a c r
+pub blanks-turn : (at i next r : ℕ) (a b c : List ℕ) → Wrote at i (replicate i blank) a b next → Wrote next 1 (blank ∷ []) b c r →
+    Wrote at (i + 1) (replicate (i + 1) blank) a c r
 blanks-turn at i next r a b c p q = rw (← replicate-append-replicate i 1 blank) (put-more p q)
 
-pub blanks-end : (at i n r : ℕ) (a b : List ℕ) → i ≤ n → n ≤ i → Put at i (replicate i blank) a b r → Put at n (replicate n blank) a b r
+pub blanks-end : (at i n r : ℕ) (a b : List ℕ) → i ≤ n → n ≤ i → Wrote at i (replicate i blank) a b r → Wrote at n (replicate n blank) a b r
 blanks-end at i n r a b h g p = let e : n ≡ i = omega arith in rw e p
 
 -- lines
@@ -48,13 +48,13 @@ lines-more f n =
     let e : 0 + n ≡ n = omega arith in
     rw (add-one n) (ap (each f) (upFrom-more 0 n)) ∙ each-append f (upFrom 0 n) ((0 + n) ∷ []) ∙ rw (e, append-nil)
 
-lines-turn : (f : ℕ → List ℕ) (w at i next r : ℕ) (a b c : List ℕ) → Put at (w * i) (lines f i) a b next → Put next w (f i) b c r →
-    Put at (w * (i + 1)) (lines f (i + 1)) a c r
+lines-turn : (f : ℕ → List ℕ) (w at i next r : ℕ) (a b c : List ℕ) → Wrote at (w * i) (lines f i) a b next → Wrote next w (f i) b c r →
+    Wrote at (w * (i + 1)) (lines f (i + 1)) a c r
 lines-turn f w at i next r a b c p q =
     let e : w * (i + 1) ≡ w * i + w = rw (add-one i) (mul-suc w i) in
     rw (lines-more f i, e) (put-more p q)
 
-lines-end : (f : ℕ → List ℕ) (w at i n r : ℕ) (a b : List ℕ) → i ≤ n → n ≤ i → Put at (w * i) (lines f i) a b r → Put at (w * n) (lines f n) a b r
+lines-end : (f : ℕ → List ℕ) (w at i n r : ℕ) (a b : List ℕ) → i ≤ n → n ≤ i → Wrote at (w * i) (lines f i) a b r → Wrote at (w * n) (lines f n) a b r
 lines-end f w at i n r a b h g p = let e : n ≡ i = omega arith in rw e p
 
 -- numbers
@@ -62,10 +62,10 @@ module _ (at w n last r d : ℕ) (a b c : List ℕ) (p : 1 ≤ w) where
   width-is : w - 1 + 1 ≡ w
   width-is = omega arith
 
-  pub number-small : n < 10 → Put at (w - 1) (replicate (w - 1) blank) a b last → d ≡ digit n → Put last 1 (d ∷ []) b c r → Put at w (column w n) a c r
+  pub number-small : n < 10 → Wrote at (w - 1) (replicate (w - 1) blank) a b last → d ≡ digit n → Wrote last 1 (d ∷ []) b c r → Wrote at w (column w n) a c r
   number-small h x e y = rw (column-small w n h) (rw (width-is, e) at (put-more x y))
 
-  pub number-more : 10 ≤ n → Put at (w - 1) (column (w - 1) (n / 10)) a b last → d ≡ digit (n % 10) → Put last 1 (d ∷ []) b c r → Put at w (column w n) a c r
+  pub number-more : 10 ≤ n → Wrote at (w - 1) (column (w - 1) (n / 10)) a b last → d ≡ digit (n % 10) → Wrote last 1 (d ∷ []) b c r → Wrote at w (column w n) a c r
   number-more h x e y = rw (column-more w n h) (rw (width-is, e) at (put-more x y))
 
 -- slips: `end` is the end of slip i + 1, `here` the one before it
@@ -80,15 +80,15 @@ module _ (es ps : List ℕ) (i here end : ℕ) (h : i < length es) (b : here ≡
   slip-placed x F q = rw q (F .placed i h)
 
 pub slip-turn : (es ps : List ℕ) (i here end place mark at next r : ℕ) (o o₁ o₂ : List ℕ) → here ≡ endOf es i → end ≡ getD es i 0 →
-    place ≡ getD ps (2 * i) 0 → mark ≡ getD ps (2 * i + 1) 0 → Put at (slipSize * i) (lines (slipLineAt es ps) i) o o₁ next →
-    Put next slipSize (slipLine (i + 1) (end - here) place (signOf mark)) o₁ o₂ r → Put at (slipSize * (i + 1)) (lines (slipLineAt es ps) (i + 1)) o o₂ r
+    place ≡ getD ps (2 * i) 0 → mark ≡ getD ps (2 * i + 1) 0 → Wrote at (slipSize * i) (lines (slipLineAt es ps) i) o o₁ next →
+    Wrote next slipSize (slipLine (i + 1) (end - here) place (signOf mark)) o₁ o₂ r → Wrote at (slipSize * (i + 1)) (lines (slipLineAt es ps) (i + 1)) o o₂ r
 slip-turn es ps i here end place mark at next r o o₁ o₂ b e p m x y = lines-turn (slipLineAt es ps) slipSize at i next r o o₁ o₂ x (rw (b, e, p, m) at y)
 
 pub here-turn : (es : List ℕ) (i end : ℕ) → end ≡ getD es i 0 → end ≡ endOf es (i + 1)
 here-turn es i end e = rw (add-one i) e
 
 pub slips-end : (es ps : List ℕ) (at i r : ℕ) (o o₁ : List ℕ) → i ≤ length es → length es ≤ i →
-    Put at (slipSize * i) (lines (slipLineAt es ps) i) o o₁ r → Put at (slipSize * length es) (lines (slipLineAt es ps) (length es)) o o₁ r
+    Wrote at (slipSize * i) (lines (slipLineAt es ps) i) o o₁ r → Wrote at (slipSize * length es) (lines (slipLineAt es ps) (length es)) o o₁ r
 slips-end es ps at i r o o₁ = lines-end (slipLineAt es ps) slipSize at i (length es) r o o₁
 
 -- joins
@@ -103,12 +103,12 @@ module _ (js : List ℕ) (n i : ℕ) (F : JoinsFit js n) (h : i < n) where
   join-shared x e = rw e (F .small (3 * i + 2) (omega arith))
 
 pub join-turn : (js : List ℕ) (i at next r left right shared : ℕ) (o o₁ o₂ : List ℕ) → left ≡ getD js (3 * i) 0 → right ≡ getD js (3 * i + 1) 0 →
-    shared ≡ getD js (3 * i + 2) 0 → Put at (joinSize * i) (lines (joinLineAt js) i) o o₁ next →
-    Put next joinSize (threeLine 4 left right shared) o₁ o₂ r → Put at (joinSize * (i + 1)) (lines (joinLineAt js) (i + 1)) o o₂ r
+    shared ≡ getD js (3 * i + 2) 0 → Wrote at (joinSize * i) (lines (joinLineAt js) i) o o₁ next →
+    Wrote next joinSize (threeLine 4 left right shared) o₁ o₂ r → Wrote at (joinSize * (i + 1)) (lines (joinLineAt js) (i + 1)) o o₂ r
 join-turn js i at next r left right shared o o₁ o₂ a b c x y = lines-turn (joinLineAt js) joinSize at i next r o o₁ o₂ x (rw (a, b, c) at y)
 
-pub joins-end : (js : List ℕ) (n at i r : ℕ) (o o₁ : List ℕ) → i ≤ n → n ≤ i → Put at (joinSize * i) (lines (joinLineAt js) i) o o₁ r →
-    Put at (joinSize * n) (lines (joinLineAt js) n) o o₁ r
+pub joins-end : (js : List ℕ) (n at i r : ℕ) (o o₁ : List ℕ) → i ≤ n → n ≤ i → Wrote at (joinSize * i) (lines (joinLineAt js) i) o o₁ r →
+    Wrote at (joinSize * n) (lines (joinLineAt js) n) o o₁ r
 joins-end js n at i r o o₁ = lines-end (joinLineAt js) joinSize at i n r o o₁
 
 -- occurrences
@@ -120,10 +120,10 @@ module _ (ns : List ℕ) (k i : ℕ) (F : FoundFit ns k) (h : i < k) where
   found-slip x e = rw e (F .slips i h)
 
 pub found-turn : (ns : List ℕ) (i at next r end slip : ℕ) (o o₁ o₂ : List ℕ) → end ≡ getD ns (2 * i) 0 → slip ≡ getD ns (2 * i + 1) 0 →
-    Put at (foundSize * i) (lines (foundLineAt ns) i) o o₁ next → Put next foundSize (foundLine end slip) o₁ o₂ r →
-    Put at (foundSize * (i + 1)) (lines (foundLineAt ns) (i + 1)) o o₂ r
+    Wrote at (foundSize * i) (lines (foundLineAt ns) i) o o₁ next → Wrote next foundSize (foundLine end slip) o₁ o₂ r →
+    Wrote at (foundSize * (i + 1)) (lines (foundLineAt ns) (i + 1)) o o₂ r
 found-turn ns i at next r end slip o o₁ o₂ a b x y = lines-turn (foundLineAt ns) foundSize at i next r o o₁ o₂ x (rw (a, b) at y)
 
-pub founds-end : (ns : List ℕ) (k at i r : ℕ) (o o₁ : List ℕ) → i ≤ k → k ≤ i → Put at (foundSize * i) (lines (foundLineAt ns) i) o o₁ r →
-    Put at (foundSize * k) (lines (foundLineAt ns) k) o o₁ r
+pub founds-end : (ns : List ℕ) (k at i r : ℕ) (o o₁ : List ℕ) → i ≤ k → k ≤ i → Wrote at (foundSize * i) (lines (foundLineAt ns) i) o o₁ r →
+    Wrote at (foundSize * k) (lines (foundLineAt ns) k) o o₁ r
 founds-end ns k at i r o o₁ = lines-end (foundLineAt ns) foundSize at i k r o o₁

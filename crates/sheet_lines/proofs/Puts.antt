@@ -2,7 +2,7 @@
 --   put-none   == nothing written
 --   put-byte   == one byte
 --   put-part   == a part `&mut out[at..]` written over
---   put-more   == what is written behind what is written
+--   put-more   == what is written writtenBehind what is written
 use mathlib.Core.Path.{_≡_, refl, sym, _∙_}
 use mathlib.Core.List.{List, [], _∷_, _++_, append-assoc, append-nil}
 use Prim.Native.Nat.{ℕ, _+_, _-_, _≤_, _<_}
@@ -11,26 +11,26 @@ use borrow.Rule.Slice.PartMut.{putMid}
 use lib.ListN.{length, take, drop, set, length-append, length-drop, take-append-drop, drop-of-length-le}
 use lib.Seq.{length-take-le, take-all, take-at, drop-at, drop-drop, drop-cons, set-split}
 use Rattle.words.specs.Lists.{over}
-use Rattle.sheet_lines.specs.steps.Lines.{behind, Put}
+use Rattle.sheet_lines.specs.steps.Lines.{writtenBehind, Wrote}
 
-behind-length : (at : ℕ) (ys old : List ℕ) → at + length ys ≤ length old → length (behind at ys old) ≡ length old
+behind-length : (at : ℕ) (ys old : List ℕ) → at + length ys ≤ length old → length (writtenBehind at ys old) ≡ length old
 behind-length at ys old h =
     rw (length-append, length-take-le at old (omega arith), length-append, length-drop, length-drop) (omega arith)
 
-put-is : (at n : ℕ) (ys old new : List ℕ) → new ≡ behind at ys old → length ys ≡ n → at + n ≤ length old → Put at n ys old new (at + n)
+put-is : (at n : ℕ) (ys old new : List ℕ) → new ≡ writtenBehind at ys old → length ys ≡ n → at + n ≤ length old → Wrote at n ys old new (at + n)
 put-is at n ys old new e m h = record { is = e; many = m; room = h; size = rw e (behind-length at ys old (omega arith)); next = refl }
 
-pub put-none : (at : ℕ) (old : List ℕ) → at ≤ length old → Put at 0 [] old old at
+pub put-none : (at : ℕ) (old : List ℕ) → at ≤ length old → Wrote at 0 [] old old at
 put-none at old h =
     record { is = sym (take-append-drop at old); many = refl; room = omega arith; size = refl; next = omega arith }
 
-pub put-byte : (at : ℕ) (x : ℕ) (old : List ℕ) → at + 1 ≤ length old → Put at 1 (x ∷ []) old (set old at x) (at + 1)
+pub put-byte : (at : ℕ) (x : ℕ) (old : List ℕ) → at + 1 ≤ length old → Wrote at 1 (x ∷ []) old (set old at x) (at + 1)
 put-byte at x old h =
     put-is at 1 (x ∷ []) old (set old at x)
     (let l : at < length old = omega arith in
     rw (set-split old at x l, drop-cons old at 0 l)) refl h
 
-pub put-more : {at m n r q : ℕ} {xs ys a b c : List ℕ} → Put at m xs a b r → Put r n ys b c q → Put at (m + n) (xs ++ ys) a c q
+pub put-more : {at m n r q : ℕ} {xs ys a b c : List ℕ} → Wrote at m xs a b r → Wrote r n ys b c q → Wrote at (m + n) (xs ++ ys) a c q
 put-more {at} {m} {n} {r} {q} {xs} {ys} {a} {b} {c} p o =
     let k : length (take at a) ≡ at = length-take-le at a (omega arith) in
     let l : length (take at a ++ xs) ≡ r = rw (length-append, k) (omega arith) in
@@ -57,7 +57,7 @@ module _ (at : ℕ) (ys old part part′ : List ℕ) (v : part ≡ take (length 
   part-is : part ≡ drop at old
   part-is = v ∙ take-all (length old - at) (drop at old) (rw length-drop (omega arith))
 
-  pub put-part : part′ ≡ over ys part → Put at (length ys) ys old (putMid at (length old - at) old part′) (at + length ys)
+  pub put-part : part′ ≡ over ys part → Wrote at (length ys) ys old (putMid at (length old - at) old part′) (at + length ys)
   put-part e =
       put-is at (length ys) ys old (putMid at (length old - at) old part′)
       (rw (e, part-is, drop-of-length-le (drop at old) {i = length old - at} (rw length-drop (omega arith)), append-nil)) refl h

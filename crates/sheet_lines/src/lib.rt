@@ -68,7 +68,7 @@ fn sign(mark: usize) -> u8
 
 fn put_byte(out: &mut [u8], at: usize, byte: u8) -> usize
     requires { ⌜ at + 1 ≤ length (now out) ⌝ }
-    ensures { λ r. ⌜ P.Put at 1 (byte ∷ []) (now (out .entry)) (now (out .exit)) r ⌝ }
+    ensures { λ r. ⌜ P.Wrote at 1 (byte ∷ []) (now (out .entry)) (now (out .exit)) r ⌝ }
 {
     out[at] = byte;
     at + 1
@@ -76,7 +76,7 @@ fn put_byte(out: &mut [u8], at: usize, byte: u8) -> usize
 
 fn put_text(out: &mut [u8], at: usize, text: &[u8]) -> usize
     requires { ⌜ at + length (now text) ≤ length (now out) ⌝ }
-    ensures { λ r. ⌜ P.Put at (length (now (text .entry))) (now (text .entry)) (now (out .entry)) (now (out .exit)) r ⌝ }
+    ensures { λ r. ⌜ P.Wrote at (length (now (text .entry))) (now (text .entry)) (now (out .entry)) (now (out .exit)) r ⌝ }
 {
     laying::copy(text, &mut out[at..]);
     at + text.len()
@@ -84,7 +84,7 @@ fn put_text(out: &mut [u8], at: usize, text: &[u8]) -> usize
 
 fn put_blanks(out: &mut [u8], at: usize, n: usize) -> usize
     requires { ⌜ at + n ≤ length (now out) ⌝ }
-    ensures { λ r. ⌜ P.Put at n (replicate n blank) (now (out .entry)) (now (out .exit)) r ⌝ }
+    ensures { λ r. ⌜ P.Wrote at n (replicate n blank) (now (out .entry)) (now (out .exit)) r ⌝ }
 {
     let mut next = at;
     let mut i: usize = 0;
@@ -98,7 +98,7 @@ fn put_blanks(out: &mut [u8], at: usize, n: usize) -> usize
 // Writes `n` right-justified in `width` columns: a number of one digit behind blanks, another one behind its tenth.
 fn put_number(out: &mut [u8], at: usize, width: usize, n: usize) -> usize
     requires { ⌜ (1 ≤ width) × (n < 10 ^ width) × (at + width ≤ length (now out)) ⌝ }
-    ensures { λ r. ⌜ P.Put at width (S.column width n) (now (out .entry)) (now (out .exit)) r ⌝ }
+    ensures { λ r. ⌜ P.Wrote at width (S.column width n) (now (out .entry)) (now (out .exit)) r ⌝ }
 {
     if n < 10 {
         let last = put_blanks(out, at, width - 1);
@@ -111,7 +111,7 @@ fn put_number(out: &mut [u8], at: usize, width: usize, n: usize) -> usize
 // Three numbers, each in `width` columns, and LF.
 fn three_line(out: &mut [u8], at: usize, width: usize, a: usize, b: usize, c: usize) -> usize
     requires { ⌜ (1 ≤ width) × (a < 10 ^ width) × (b < 10 ^ width) × (c < 10 ^ width) × (at + (width + (width + (width + 1))) ≤ length (now out)) ⌝ }
-    ensures { λ r. ⌜ P.Put at (width + (width + (width + 1))) (S.threeLine width a b c) (now (out .entry)) (now (out .exit)) r ⌝ }
+    ensures { λ r. ⌜ P.Wrote at (width + (width + (width + 1))) (S.threeLine width a b c) (now (out .entry)) (now (out .exit)) r ⌝ }
 {
     let second = put_number(out, at, width, a);
     let third = put_number(out, second, width, b);
@@ -122,7 +122,7 @@ fn three_line(out: &mut [u8], at: usize, width: usize, a: usize, b: usize, c: us
 // The header of a `compose` sheet.
 fn tray_line(out: &mut [u8], at: usize, c: Composed) -> usize
     requires { ⌜ P.HeaderFits c × (at + S.traySize ≤ length (now out)) ⌝ }
-    ensures { λ r. ⌜ P.Put at S.traySize (S.trayLine (c .slips) (c .kept) (c .letters) (c .saved) (c .legend)) (now (out .entry)) (now (out .exit)) r ⌝ }
+    ensures { λ r. ⌜ P.Wrote at S.traySize (S.trayLine (c .slips) (c .kept) (c .letters) (c .saved) (c .legend)) (now (out .entry)) (now (out .exit)) r ⌝ }
 {
     let slips = put_text(out, at, b"TRAY");
     let kept = put_number(out, slips, 4, whole(c.slips));
@@ -142,7 +142,7 @@ fn slip_line(
     mark: usize,
 ) -> usize
     requires { ⌜ (slip < 10 ^ 4) × (letters < 10 ^ 4) × (place < 10 ^ 5) × (at + S.slipSize ≤ length (now out)) ⌝ }
-    ensures { λ r. ⌜ P.Put at S.slipSize (S.slipLine slip letters place (S.signOf mark)) (now (out .entry)) (now (out .exit)) r ⌝ }
+    ensures { λ r. ⌜ P.Wrote at S.slipSize (S.slipLine slip letters place (S.signOf mark)) (now (out .entry)) (now (out .exit)) r ⌝ }
 {
     let a = put_number(out, at, 4, slip);
     let b = put_number(out, a, 4, letters);
@@ -155,7 +155,7 @@ fn slip_line(
 // A line for each slip, from the ends and two numbers a slip: its place, and whether it is kept.
 fn slip_lines(out: &mut [u8], at: usize, ends: &[u16], places: &[u16]) -> usize
     requires { ⌜ P.SlipsFit (now ends) (now places) × (at + S.slipSize * length (now ends) ≤ length (now out)) ⌝ }
-    ensures { λ r. ⌜ P.Put at (S.slipSize * length (now (ends .entry)))
+    ensures { λ r. ⌜ P.Wrote at (S.slipSize * length (now (ends .entry)))
         (S.lines (S.slipLineAt (now (ends .entry)) (now (places .entry))) (length (now (ends .entry))))
         (now (out .entry)) (now (out .exit)) r ⌝ }
 {
@@ -177,7 +177,7 @@ fn slip_lines(out: &mut [u8], at: usize, ends: &[u16], places: &[u16]) -> usize
 // A line for each of `n` joins, from three numbers a join: left slip, right slip, overlap.
 fn join_lines(out: &mut [u8], at: usize, joins: &[u16], n: usize) -> usize
     requires { ⌜ P.JoinsFit (now joins) n × (at + S.joinSize * n ≤ length (now out)) ⌝ }
-    ensures { λ r. ⌜ P.Put at (S.joinSize * n) (S.lines (S.joinLineAt (now (joins .entry))) n) (now (out .entry)) (now (out .exit)) r ⌝ }
+    ensures { λ r. ⌜ P.Wrote at (S.joinSize * n) (S.lines (S.joinLineAt (now (joins .entry))) n) (now (out .entry)) (now (out .exit)) r ⌝ }
 {
     let mut next = at;
     let mut i: usize = 0;
@@ -215,7 +215,7 @@ pub fn compose_lines(
 // The header of a `find` sheet.
 fn find_line(out: &mut [u8], at: usize, letters: usize, moves: usize, count: usize) -> usize
     requires { ⌜ (letters < 10 ^ S.placeWidth) × (moves < 10 ^ S.placeWidth) × (count < 10 ^ S.countWidth) × (at + S.findSize ≤ length (now out)) ⌝ }
-    ensures { λ r. ⌜ P.Put at S.findSize (S.findLine letters moves count) (now (out .entry)) (now (out .exit)) r ⌝ }
+    ensures { λ r. ⌜ P.Wrote at S.findSize (S.findLine letters moves count) (now (out .entry)) (now (out .exit)) r ⌝ }
 {
     let a = put_text(out, at, b"FIND");
     let b = put_number(out, a, PLACE_WIDTH, letters);
@@ -226,7 +226,7 @@ fn find_line(out: &mut [u8], at: usize, letters: usize, moves: usize, count: usi
 
 fn found_line(out: &mut [u8], at: usize, end: usize, slip: usize) -> usize
     requires { ⌜ (end < 10 ^ S.placeWidth) × (slip < 10 ^ 4) × (at + S.foundSize ≤ length (now out)) ⌝ }
-    ensures { λ r. ⌜ P.Put at S.foundSize (S.foundLine end slip) (now (out .entry)) (now (out .exit)) r ⌝ }
+    ensures { λ r. ⌜ P.Wrote at S.foundSize (S.foundLine end slip) (now (out .entry)) (now (out .exit)) r ⌝ }
 {
     let a = put_number(out, at, PLACE_WIDTH, end);
     let b = put_number(out, a, 4, slip);
@@ -236,7 +236,7 @@ fn found_line(out: &mut [u8], at: usize, end: usize, slip: usize) -> usize
 // A line for each of `count` occurrences, from two numbers an occurrence: end place, slip.
 fn found_lines(out: &mut [u8], at: usize, found: &[u32], count: usize) -> usize
     requires { ⌜ P.FoundFit (now found) count × (at + S.foundSize * count ≤ length (now out)) ⌝ }
-    ensures { λ r. ⌜ P.Put at (S.foundSize * count) (S.lines (S.foundLineAt (now (found .entry))) count) (now (out .entry)) (now (out .exit)) r ⌝ }
+    ensures { λ r. ⌜ P.Wrote at (S.foundSize * count) (S.lines (S.foundLineAt (now (found .entry))) count) (now (out .entry)) (now (out .exit)) r ⌝ }
 {
     let mut next = at;
     let mut i: usize = 0;

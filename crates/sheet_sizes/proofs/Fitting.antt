@@ -27,10 +27,10 @@ use Rattle.trays.proofs.Accepted.{accepted-tells, slips-count}
 use Rattle.numbering.proofs.Spans.{accepted-spanned}
 use Rattle.greedy.specs.Joins.{Join}
 use Rattle.greedy.specs.Composing.{whole, joinsOf}
-use Rattle.greedy.proofs.Chains.{Chain, whole, Arc}
+use Rattle.greedy.proofs.Chains.{Chain, wholeChain, Arc}
 use Rattle.greedy.proofs.Letters.{weight}
 use Rattle.greedy.proofs.Demand3.{composed}
-use Rattle.matching.specs.Occurrences.{Found, found, endingAt, firstHere, occurrences}
+use Rattle.matching.specs.Occurrences.{Occurrence, occurrence, endingAt, firstHere, occurrences}
 use Rattle.matching.proofs.States.{few-moves}
 use Rattle.matching.proofs.Finds.{in-ending}
 use Rattle.composing.proofs.PiecesFit.{kept-real, kept-few, kept-small, legend-small}
@@ -42,7 +42,7 @@ ones [] = refl
 ones (x ∷ xs) = omega (arith, ones xs)
 
 -- each chain has a join less than slips
-chains-fewer : (Cs : List Chain) → length Cs + sum (λ C. length (C .rest)) Cs ≡ sum (λ C. sum (λ i. 1) (whole C)) Cs
+chains-fewer : (Cs : List Chain) → length Cs + sum (λ C. length (C .rest)) Cs ≡ sum (λ C. sum (λ i. 1) (wholeChain C)) Cs
 chains-fewer [] = refl
 chains-fewer (C ∷ Cs) = omega (arith, chains-fewer Cs, ones (C .rest))
 
@@ -117,14 +117,14 @@ all-map P f [] p = tt
 all-map P f (x ∷ xs) p = (p .0, all-map P f xs (p .1))
 
 module _ (ss : List (List ℕ)) (few : length ss ≤ maxSlips) (t : List ℕ) (small : length t ≤ maxText) where
-  at-place : ℕ → List Found
-  at-place e = map (found e) (endingAt ss (take e t))
+  at-place : ℕ → List Occurrence
+  at-place e = map (occurrence e) (endingAt ss (take e t))
 
   place-few : (e : ℕ) → length (at-place e) ≤ maxSlips
   unfolding at-place
   place-few e =
       let b = those-few (λ i. ends (slip ss i) (take e t)) (numbers ss) in
-      rw (length-map (endingAt ss (take e t)) (found e))
+      rw (length-map (endingAt ss (take e t)) (occurrence e))
       (omega (arith, b, inOrder-few (firstHere ss) (those (λ i. ends (slip ss i) (take e t)) (numbers ss)), length-upFrom 1 (length ss)))
 
   occurrences-few : length (occurrences ss t) ≤ maxSlips * maxText
@@ -134,8 +134,8 @@ module _ (ss : List (List ℕ)) (few : length ss ≤ maxSlips) (t : List ℕ) (s
 
   occurrences-fit : All OccurrenceFits (occurrences ss t)
   occurrences-fit =
-      all-each (λ e. e ≤ maxText) OccurrenceFits (λ e. map (found e) (endingAt ss (take e t)))
-      (λ e h. all-map OccurrenceFits (found e) (endingAt ss (take e t)) (all-in (λ i. OccurrenceFits (found e i)) (endingAt ss (take e t))
+      all-each (λ e. e ≤ maxText) OccurrenceFits (λ e. map (occurrence e) (endingAt ss (take e t)))
+      (λ e h. all-map OccurrenceFits (occurrence e) (endingAt ss (take e t)) (all-in (λ i. OccurrenceFits (occurrence e i)) (endingAt ss (take e t))
       (λ i m. let r = in-upFrom 1 (length ss) (in-ending ss (numbers ss) (take e t) m .0) in (h, omega (arith, r .1)))))
       (upFrom 1 (length t)) (all-in (λ e. e ≤ maxText) (upFrom 1 (length t)) (λ e m. let r = in-upFrom 1 (length t) m in omega (arith, r .1)))
 
@@ -144,6 +144,6 @@ find-fits s es t acc small =
     let few : length (slipsOf s es) ≤ maxSlips = compose-fits s es acc .slips in
     record {
       moves-few = omega (arith, few-moves s es t acc);
-      found = occurrences-fit (slipsOf s es) few t small;
+      occurrence = occurrences-fit (slipsOf s es) few t small;
       count = occurrences-few (slipsOf s es) few t small;
     }

@@ -20,7 +20,7 @@ use Rattle.numbering.proofs.Spans.{accepted-spanned}
 use Rattle.greedy.specs.Joins.{Join, join}
 use Rattle.greedy.specs.Composing.{whole, joinsOf, legendOf, placeOf}
 use Rattle.matching.specs.Moves.{moves}
-use Rattle.matching.specs.Occurrences.{Found, found, occurrences}
+use Rattle.matching.specs.Occurrences.{Occurrence, occurrence, occurrences}
 use Rattle.answers.specs.Composing.{outcomeOf, flatJoins, flatPlaces}
 use Rattle.answers.specs.Finding.{flatFound}
 use Rattle.sheets.specs.Sheets.{asideSign, keptSign, signOf, joinLine, slipLineOf, slipLineAt, joinLineAt}
@@ -90,10 +90,10 @@ joins-flat js =
     lines-each none (joinLineAt (flatJoins js)) (λ j. joinLine (j .left) (j .right) (j .overlap)) js
     (λ i h. let r = three-at none (λ j. j .left) (λ j. j .right) (λ j. j .overlap) js i h in rw (r .0, r .1, r .2))
 
-pub found-flat : (fs : List Found) → lines (foundLineAt (flatFound fs)) (length fs) ≡ each (λ f. foundLine (f .end) (f .which)) fs
+pub found-flat : (fs : List Occurrence) → lines (foundLineAt (flatFound fs)) (length fs) ≡ each (λ f. foundLine (f .end) (f .which)) fs
 found-flat fs =
-    lines-each (found 0 0) (foundLineAt (flatFound fs)) (λ f. foundLine (f .end) (f .which)) fs
-    (λ i h. let r = two-at (found 0 0) (λ f. f .end) (λ f. f .which) fs i h in rw (r .0, r .1))
+    lines-each (occurrence 0 0) (foundLineAt (flatFound fs)) (λ f. foundLine (f .end) (f .which)) fs
+    (λ i h. let r = two-at (occurrence 0 0) (λ f. f .end) (λ f. f .which) fs i h in rw (r .0, r .1))
 
 -- slips
 sign-flat : (b : Bool) → signOf (cond b 0 1) ≡ cond b asideSign keptSign

@@ -17,36 +17,36 @@ use Rattle.files.specs.Faults.{readFault}
 use Rattle.sheets.specs.Sheets.{composeSheetOf, composeRoom, refusedLine}
 use Rattle.sheet_sizes.specs.Fits.{RefusalFits}
 use Rattle.sheet_lines.specs.steps.Lines.{Printed}
-use Rattle.sheets.specs.Programs.{lettersIn, endsIn, fileFault, composeSheet}
+use Rattle.sheets.specs.Programs.{lettersIn, endsIn, composeSheetFault, composeSheet}
 use Rattle.sheet_sizes.proofs.RefusalsFit.{or-fits, tray-refusal-fits, read-refusal-fits}
 use Rattle.sheet_sizes.proofs.Sizes.{refused-size, compose-most}
 
-pub file-refusal-fits : (s : List ℕ) → RefusalFits (fileFault s)
-unfolding fileFault
+pub file-refusal-fits : (s : List ℕ) → RefusalFits (composeSheetFault s)
+unfolding composeSheetFault
 file-refusal-fits s =
     or-fits (readFault s maxFile endsNeed) (trayFault (lettersIn s) (endsIn s)) (read-refusal-fits s maxFile endsNeed)
     (λ z. tray-refusal-fits (lettersIn s) (endsIn s))
 
 -- a file that is not turned back holds an accepted tray
-pub file-tray : (s : List ℕ) → fileFault s .number ≡ 0 → trayFault (lettersIn s) (endsIn s) .number ≡ 0
-unfolding fileFault
+pub file-tray : (s : List ℕ) → composeSheetFault s .number ≡ 0 → trayFault (lettersIn s) (endsIn s) .number ≡ 0
+unfolding composeSheetFault
 file-tray s h = both-silent (readFault s maxFile endsNeed) (trayFault (lettersIn s) (endsIn s)) h .1
 
 -- what is printed, where the file's refusal has the number n
 abbrev numbered : List ℕ → ℕ → List ℕ
-numbered s n = elim n [ zero ↦ composeSheetOf (slipsOf (lettersIn s) (endsIn s)) | suc k ↦ refusedLine (fileFault s) ]
+numbered s n = elim n [ zero ↦ composeSheetOf (slipsOf (lettersIn s) (endsIn s)) | suc k ↦ refusedLine (composeSheetFault s) ]
 
 pub compose-sheet-most : (s : List ℕ) → length (composeSheet s) ≤ composeRoom
 unfolding composeSheet
-compose-sheet-most s = go (fileFault s .number) refl
+compose-sheet-most s = go (composeSheetFault s .number) refl
   where
-    go : (n : ℕ) → fileFault s .number ≡ n → length (composeSheet s) ≤ composeRoom
+    go : (n : ℕ) → composeSheetFault s .number ≡ n → length (composeSheet s) ≤ composeRoom
     go zero h =
         let e : composeSheet s ≡ composeSheetOf (slipsOf (lettersIn s) (endsIn s)) = ap (numbered s) h in
         rw e (compose-most (lettersIn s) (endsIn s) (file-tray s h))
     go (suc n) h =
-        let e : composeSheet s ≡ refusedLine (fileFault s) = ap (numbered s) h in
-        rw e (omega (arith, refused-size (fileFault s) (file-refusal-fits s)))
+        let e : composeSheet s ≡ refusedLine (composeSheetFault s) = ap (numbered s) h in
+        rw e (omega (arith, refused-size (composeSheetFault s) (file-refusal-fits s)))
 
 pub counted : (xs o o′ : List ℕ) (n : ℕ) → length xs ≤ length o → Printed xs o o′ n → (n ≤ length o′) × (n ≡ length (take n o′))
 counted xs o o′ n h p =

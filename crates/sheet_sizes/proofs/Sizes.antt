@@ -24,7 +24,7 @@ use Rattle.numbering.proofs.Spans.{accepted-spanned}
 use Rattle.greedy.specs.Joins.{join}
 use Rattle.greedy.specs.Composing.{whole, joinsOf, legendOf, placeOf}
 use Rattle.matching.specs.Moves.{moves}
-use Rattle.matching.specs.Occurrences.{found, occurrences}
+use Rattle.matching.specs.Occurrences.{occurrence, occurrences}
 use Rattle.answers.specs.declared.Composed.{Composed}
 use Rattle.answers.specs.Composing.{outcomeOf, flatJoins, flatPlaces}
 use Rattle.answers.specs.Finding.{flatFound}
@@ -102,7 +102,7 @@ compose-size c es js ps t room A =
 
 pub find-size : (n m k : ℕ) (ns : List ℕ) (room : ℕ) → FindAsks n m k ns room → length (findLines n m k ns) ≡ findSize + foundSize * k
 find-size n m k ns room A =
-    let found : length (lines (foundLineAt ns) k) ≡ foundSize * k =
+    let occurrence : length (lines (foundLineAt ns) k) ≡ foundSize * k =
     lines-size (foundLineAt ns) foundSize k (λ i h. found-size _ _ (A .found .places i h) (A .found .slips i h)) in
     simp length-append (omega (arith, simp length-append at (find-line-size n m k (A .letters) (A .moves) (A .count))))
 
@@ -161,7 +161,7 @@ module _ (s es : List ℕ) (acc : trayFault s es .number ≡ 0) where
     found-fit : FoundFit (flatFound (occurrences ss t)) (length (occurrences ss t))
     found-fit =
         let fs = occurrences ss t in
-        let n : length (flatFound fs) ≡ 2 * length fs = two-length (found 0 0) (λ f. f .end) (λ f. f .which) fs in
+        let n : length (flatFound fs) ≡ 2 * length fs = two-length (occurrence 0 0) (λ f. f .end) (λ f. f .which) fs in
         let a : All (λ x. x < 10 ^ 4) (flatFound fs) =
         all-each OccurrenceFits (λ x. x < 10 ^ 4) (λ f. f .end ∷ (f .which ∷ [])) (λ f h. (omega (arith, h .0), (omega (arith, h .1), tt))) fs
         (find-fits s es t acc small .found) in
@@ -177,7 +177,7 @@ module _ (s es : List ℕ) (acc : trayFault s es .number ≡ 0) where
           letters = omega arith;
           moves = omega (arith, find-fits s es t acc small .moves-few);
           count = omega arith;
-          found = found-fit;
+          occurrence = found-fit;
           room-is = omega arith;
         }
 

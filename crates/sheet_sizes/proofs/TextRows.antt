@@ -22,7 +22,7 @@ use Rattle.answers.specs.Finding.{textRows, listRow}
 use Rattle.sheets.specs.Sheets.{findSheetOf, findRoom, maxFound, refusedLine}
 use Rattle.sheet_sizes.specs.Fits.{RefusalFits}
 use Rattle.sheet_lines.specs.steps.Lines.{Printed}
-use Rattle.sheets.specs.Programs.{lettersIn, endsIn, textOf, textFault, findFault, findSheet}
+use Rattle.sheets.specs.Programs.{lettersIn, endsIn, textOf, textFault, findSheetFault, findSheet}
 use Rattle.sheet_sizes.proofs.Fitting.{find-fits}
 use Rattle.sheet_sizes.proofs.RefusalsFit.{row-fits, or-fits, rows-fit, badPlace-most, tray-refusal-fits, read-refusal-fits}
 use Rattle.sheet_sizes.proofs.Sizes.{refused-size, find-most}
@@ -70,33 +70,33 @@ module _ (s es t : List ℕ) where
 -- what is printed, where the refusal of the two files has the number n
 abbrev numbered : List ℕ → List ℕ → ℕ → List ℕ
 numbered file text n =
-    elim n [ zero ↦ findSheetOf (slipsOf (lettersIn file) (endsIn file)) (textOf text) | suc k ↦ refusedLine (findFault file text) ]
+    elim n [ zero ↦ findSheetOf (slipsOf (lettersIn file) (endsIn file)) (textOf text) | suc k ↦ refusedLine (findSheetFault file text) ]
 
 module _ (file text : List ℕ) where
-  pub find-refusal-fits : RefusalFits (findFault file text)
-  unfolding findFault
+  pub find-refusal-fits : RefusalFits (findSheetFault file text)
+  unfolding findSheetFault
   find-refusal-fits =
       or-fits (readFault file maxFile endsNeed) (textFault (lettersIn file) (endsIn file) (textOf text)) (read-refusal-fits file maxFile endsNeed)
       (λ z. text-refusal-fits (lettersIn file) (endsIn file) (textOf text))
 
-  files-tell : findFault file text .number ≡ 0 → TextAccepted (lettersIn file) (endsIn file) (textOf text)
-  unfolding findFault
+  files-tell : findSheetFault file text .number ≡ 0 → TextAccepted (lettersIn file) (endsIn file) (textOf text)
+  unfolding findSheetFault
   files-tell h =
       text-tells (lettersIn file) (endsIn file) (textOf text)
       (both-silent (readFault file maxFile endsNeed) (textFault (lettersIn file) (endsIn file) (textOf text)) h .1)
 
   pub find-sheet-most : length (findSheet file text) ≤ findRoom
   unfolding findSheet
-  find-sheet-most = go (findFault file text .number) refl
+  find-sheet-most = go (findSheetFault file text .number) refl
     where
-      go : (n : ℕ) → findFault file text .number ≡ n → length (findSheet file text) ≤ findRoom
+      go : (n : ℕ) → findSheetFault file text .number ≡ n → length (findSheet file text) ≤ findRoom
       go zero h =
           let e : findSheet file text ≡ findSheetOf (slipsOf (lettersIn file) (endsIn file)) (textOf text) = ap (numbered file text) h in
           let a = files-tell h in
           rw e (find-most (lettersIn file) (endsIn file) (a .tray) (textOf text) (a .short) (a .few))
       go (suc n) h =
-          let e : findSheet file text ≡ refusedLine (findFault file text) = ap (numbered file text) h in
-          rw e (omega (arith, refused-size (findFault file text) find-refusal-fits))
+          let e : findSheet file text ≡ refusedLine (findSheetFault file text) = ap (numbered file text) h in
+          rw e (omega (arith, refused-size (findSheetFault file text) find-refusal-fits))
 
   pub find-counted : (o o′ : List ℕ) (n : ℕ) → findRoom ≤ length o → Printed (findSheet file text) o o′ n → (n ≤ length o′) × (n ≡ length (take n o′))
   find-counted o o′ n h p = counted (findSheet file text) o o′ n (omega (arith, find-sheet-most)) p

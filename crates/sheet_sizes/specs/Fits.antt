@@ -13,7 +13,7 @@ use Rattle.trays.specs.Aside.{kept}
 use Rattle.greedy.specs.Joins.{Join, saved}
 use Rattle.greedy.specs.Composing.{whole, joinsOf, legendOf, placeOf, keptLetters}
 use Rattle.matching.specs.Moves.{moves}
-use Rattle.matching.specs.Occurrences.{Found, occurrences}
+use Rattle.matching.specs.Occurrences.{Occurrence, occurrences}
 use Rattle.sheets.specs.Sheets.{detailWidth}
 
 abbrev pub JoinFits : Join → Type 0
@@ -30,7 +30,7 @@ pub record ComposeFits (ss : List (List ℕ)) : Type 0 where
   pub joins : All JoinFits (joinsOf (whole ss))
   pub count : length (joinsOf (whole ss)) ≤ maxSlips - 1
 
-abbrev pub OccurrenceFits : Found → Type 0
+abbrev pub OccurrenceFits : Occurrence → Type 0
 OccurrenceFits f = (f .end ≤ maxText) × (f .which ≤ maxSlips)
 
 pub record FindFits (ss : List (List ℕ)) (t : List ℕ) : Type 0 where

@@ -8,7 +8,7 @@ use Rattle.words.specs.Quoted.{word}
 use Rattle.trays.specs.Faults.{refusal, trayFault}
 use Rattle.files.specs.Faults.{readFault}
 use Rattle.sheets.specs.Sheets.{decimal, column, composeSheetOf, findSheetOf, refusedLine}
-use Rattle.sheets.specs.Programs.{fileFault, composeSheet, textFault, findFault, findSheet}
+use Rattle.sheets.specs.Programs.{composeSheetFault, composeSheet, textFault, findSheetFault, findSheet}
 
 abbrev tray : List (List ℕ)
 tray = map word ("IMPCAES" ∷ "AES" ∷ "CAESAVG" ∷ "VGPIVS" ∷ "SIMP" ∷ [])
@@ -57,7 +57,7 @@ pub compose-file-specimens :
     ∷ word "REFUSED  19     1\n"
     ∷ word "REFUSED   2     1\n"
     ∷ word "REFUSED   6     1\n" ∷ [])
-unfolding decimal column composeSheetOf trayFault readFault fileFault composeSheet
+unfolding decimal column composeSheetOf trayFault readFault composeSheetFault composeSheet
 compose-file-specimens = refl
 
 -- from both files' bytes: document 01's text with and without LF, no text, and what is turned back, the tray before the text
@@ -72,19 +72,19 @@ pub find-file-specimens :
     ∷ word "FIND   0   0     0\n"
     ∷ word "REFUSED  13    11\n"
     ∷ word "REFUSED  13     3\n" ∷ [])
-unfolding decimal column findSheetOf trayFault readFault textFault findFault findSheet
+unfolding decimal column findSheetOf trayFault readFault textFault findSheetFault findSheet
 find-file-specimens = refl
 
 pub find-tray-specimens :
     map (λ (file : List ℕ). findSheet file (word "av"))
     (word "   1   3 AVG\n   2   3 AVG" ∷ word "   1   2 av\n   3   2 av\n" ∷ word "   1   2 av\n" ∷ [] ∷ [])
     ≡ (word "REFUSED  17     2\n" ∷ word "REFUSED  18     2\n" ∷ word "REFUSED   6     1\n" ∷ word "REFUSED  13     1\n" ∷ [])
-unfolding decimal column findSheetOf trayFault readFault textFault findFault findSheet
+unfolding decimal column findSheetOf trayFault readFault textFault findSheetFault findSheet
 find-tray-specimens = refl
 
 -- 2,000 letters with their LF, and one more
 pub long-text-specimens :
     map (findSheet []) ((replicate 2000 65 ++ word "\n") ∷ (replicate 2001 65 ++ word "\n") ∷ [])
     ≡ (word "FIND20002000     0\n" ∷ word "REFUSED  12     0\n" ∷ [])
-unfolding decimal column findSheetOf trayFault readFault textFault findFault findSheet
+unfolding decimal column findSheetOf trayFault readFault textFault findSheetFault findSheet
 long-text-specimens = refl

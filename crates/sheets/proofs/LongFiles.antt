@@ -21,7 +21,7 @@ use Rattle.files.specs.Lines.{lf}
 use Rattle.files.specs.Faults.{readFault}
 use Rattle.answers.specs.Finding.{textRows, listRow}
 use Rattle.sheets.specs.Sheets.{composeSheetOf, findSheetOf, refusedLine, maxFound}
-use Rattle.sheets.specs.Programs.{lettersIn, endsIn, fileFault, composeSheet, textOf, textFault, findFault, findSheet}
+use Rattle.sheets.specs.Programs.{lettersIn, endsIn, composeSheetFault, composeSheet, textOf, textFault, findSheetFault, findSheet}
 
 -- by whether a list is longer than n
 by-length : {P : Type 0} (n : ℕ) (xs : List ℕ) → (length xs ≤ n → P) → (n < length xs → P) → P
@@ -36,7 +36,7 @@ cut-long : (n : ℕ) (s : List ℕ) → n < length s → n < length (take (n + 1
 cut-long n s h = omega (arith, length-take-le (n + 1) s (omega arith))
 
 compose-long : (s : List ℕ) → maxFile < length s → composeSheet s ≡ refusedLine (refusal 16 0)
-unfolding composeSheet fileFault
+unfolding composeSheet composeSheetFault
 compose-long s h =
     ap {B = List ℕ}
     (λ (f : Refusal). let g = orElse f (trayFault (lettersIn s) (endsIn s)) in
@@ -54,7 +54,7 @@ abbrev printed : List ℕ → List ℕ → Refusal → List ℕ
 printed s x f = elim (f .number) [ zero ↦ findSheetOf (slipsOf (lettersIn s) (endsIn s)) (textOf x) | suc n ↦ refusedLine f ]
 
 find-file-long : (s x : List ℕ) → maxFile < length s → findSheet s x ≡ refusedLine (refusal 16 0)
-unfolding findSheet findFault
+unfolding findSheet findSheetFault
 find-file-long s x h = ap {B = List ℕ} (λ (f : Refusal). printed s x (orElse f (textFault (lettersIn s) (endsIn s) (textOf x)))) (file-long s h)
 
 -- a text over its limit
@@ -84,7 +84,7 @@ module _ (s : List ℕ) where
       omega arith
 
   find-text-long : (x : List ℕ) → maxText < length (textOf x) → findSheet s x ≡ refusedLine fault
-  unfolding findSheet findFault
+  unfolding findSheet findSheetFault
   find-text-long x h =
       ap (λ (f : Refusal). printed s x (orElse (readFault s maxFile endsNeed) f)) (text-long (lettersIn s) (endsIn s) (textOf x) h)
       ∙ go (fault .number) refl

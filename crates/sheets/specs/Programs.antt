@@ -1,12 +1,12 @@
 -- What the programs print, from the bytes of their files: the first row of document 01's table that turns back, or the sheet.
 --   lettersIn, endsIn file  == the letters and ends of a tray file
 --   traySheet s es          == what is printed of a tray: its refusal 1 to 6, or its `compose` sheet
---   fileFault file          == what turns a tray file back: 16 to 19, then 1 to 6
+--   composeSheetFault file          == what turns a tray file back: 16 to 19, then 1 to 6
 --   composeSheet file       == what `compose` prints
 --   textOf text             == the text of a text file: one final LF is not counted
 --   textFault s es t        == what turns a tray and a text back: 1 to 6, 12, 13, 14
 --   textSheet s es t        == what is printed of a tray and a text: a refusal, or the `find` sheet
---   findFault file text     == what turns a tray file and a text file back: 16 to 19, then these
+--   findSheetFault file text     == what turns a tray file and a text file back: 16 to 19, then these
 --   findSheet file text     == what `find` prints
 use mathlib.Core.Bool.{true, false}
 use mathlib.Core.List.{List, [], _∷_, _++_}
@@ -34,12 +34,12 @@ abbrev pub traySheet : List ℕ → List ℕ → List ℕ
 traySheet s es = let f = trayFault s es in elim (f .number) [ zero ↦ composeSheetOf (slipsOf s es) | suc n ↦ refusedLine f ]
 
 -- A program lends as many letters and ends as a file may need, so 15 is silent.
-unfoldable pub fileFault : List ℕ → Refusal
-fileFault file = orElse (readFault file maxFile endsNeed) (trayFault (lettersIn file) (endsIn file))
+unfoldable pub composeSheetFault : List ℕ → Refusal
+composeSheetFault file = orElse (readFault file maxFile endsNeed) (trayFault (lettersIn file) (endsIn file))
 
 unfoldable pub composeSheet : List ℕ → List ℕ
 composeSheet file =
-    let f = fileFault file in
+    let f = composeSheetFault file in
     elim (f .number) [ zero ↦ composeSheetOf (slipsOf (lettersIn file) (endsIn file)) | suc n ↦ refusedLine f ]
 
 -- One line; one final LF, if present, is not counted.
@@ -54,10 +54,10 @@ textSheet s es t =
     let f = textFault s es t in
     elim (f .number) [ zero ↦ findSheetOf (slipsOf s es) t | suc n ↦ refusedLine f ]
 
-unfoldable pub findFault : List ℕ → List ℕ → Refusal
-findFault file text = orElse (readFault file maxFile endsNeed) (textFault (lettersIn file) (endsIn file) (textOf text))
+unfoldable pub findSheetFault : List ℕ → List ℕ → Refusal
+findSheetFault file text = orElse (readFault file maxFile endsNeed) (textFault (lettersIn file) (endsIn file) (textOf text))
 
 unfoldable pub findSheet : List ℕ → List ℕ → List ℕ
 findSheet file text =
-    let f = findFault file text in
+    let f = findSheetFault file text in
     elim (f .number) [ zero ↦ findSheetOf (slipsOf (lettersIn file) (endsIn file)) (textOf text) | suc n ↦ refusedLine f ]

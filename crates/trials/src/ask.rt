@@ -1,8 +1,8 @@
 // Asking of a tray: whether it is accepted, one slip, and one pair.
-use crate::table;
-use crate::writing::bracketed;
-use crate::writing::put;
-use crate::writing::refusal;
+use case_lines::table;
+use case_lines::writing::bracketed;
+use case_lines::writing::put;
+use case_lines::writing::refusal;
 
 fn check(letters: &[u8], ends: &[u16]) {
     let fault = checking::check_tray(letters, ends);

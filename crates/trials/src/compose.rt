@@ -2,13 +2,13 @@
 ghost use Prim.Native.Nat.{_≤_};
 ghost use lib.ListN.{length};
 use crate::pairs;
-use crate::sums;
-use crate::table;
-use crate::writing;
-use crate::writing::put;
 use answers::Composed;
 use answers::Join;
 use answers::Place;
+use case_lines::sums;
+use case_lines::table;
+use case_lines::writing;
+use case_lines::writing::put;
 
 // How many cells, bytes and numbers are lent, and where the letters start in the line.
 struct Rooms {
@@ -124,7 +124,7 @@ fn over_records(a: Composed, legend: &[u8], joins: u32, places: u32, work: &[u16
 fn records(letters: &[u8], ends: &[u16], work: &mut [u16], legend: &mut [u8]) {
     let join_list = [join_mark(); 200];
     let place_list = [place_mark(); 200];
-    let made = bridge::compose(letters, ends, work, legend, join_list, place_list);
+    let made = record_arrays::compose(letters, ends, work, legend, join_list, place_list);
     let joins = made.joins;
     let places = made.places;
     over_records(
@@ -140,7 +140,7 @@ fn records(letters: &[u8], ends: &[u16], work: &mut [u16], legend: &mut [u8]) {
 fn two_records(letters: &[u8], ends: &[u16], work: &mut [u16], legend: &mut [u8]) {
     let join_list = [join_mark(); 2];
     let place_list = [place_mark(); 2];
-    let made = bridge::compose_two(letters, ends, work, legend, join_list, place_list);
+    let made = record_arrays::compose_two(letters, ends, work, legend, join_list, place_list);
     let joins = made.joins;
     let places = made.places;
     over_records(

@@ -1,12 +1,12 @@
 // Finding a tray's slips in a text: over lent numbers, and over records.
 ghost use Prim.Native.Nat.{_≤_};
 ghost use lib.ListN.{length};
-use crate::sums;
-use crate::table;
-use crate::writing;
-use crate::writing::put;
 use answers::Found;
 use answers::Search;
+use case_lines::sums;
+use case_lines::table;
+use case_lines::writing;
+use case_lines::writing::put;
 
 // How many cells and numbers are lent, and where the text starts in the line.
 struct Rooms {
@@ -67,7 +67,7 @@ fn mark() -> Found {
 // Over a list of 2,000 records.
 fn records(letters: &[u8], ends: &[u16], text: &[u8], work: &mut [u16]) {
     let list = [mark(); 2000];
-    let made = bridge::find(letters, ends, text, work, list);
+    let made = record_arrays::find(letters, ends, text, work, list);
     let found = made.found;
     answer(made.answer, sums::occurrences(found), work);
 }
@@ -75,7 +75,7 @@ fn records(letters: &[u8], ends: &[u16], text: &[u8], work: &mut [u16]) {
 // Over a list of two records.
 fn two_records(letters: &[u8], ends: &[u16], text: &[u8], work: &mut [u16]) {
     let list = [mark(); 2];
-    let made = bridge::find_two(letters, ends, text, work, list);
+    let made = record_arrays::find_two(letters, ends, text, work, list);
     let found = made.found;
     answer(made.answer, sums::two_occurrences(found), work);
 }

@@ -9,15 +9,13 @@
 // What was lent is filled with marks before a call, and its sum behind it is written.
 ghost use mathlib.Core.Path.{_≡_};
 ghost use lib.ListN.{length};
+use case_lines::table;
 
 mod ask;
 mod compose;
 mod find;
 mod pairs;
 mod read;
-mod sums;
-mod table;
-mod writing;
 
 fn row(line: &[u8]) {
     match table::byte_at(line, 0) {

@@ -1,10 +1,10 @@
 // Every slip and every pair of a small tray, with slip 0 and the one above the count.
 ghost use Prim.Native.Nat.{_≤_};
 ghost use lib.ListN.{length};
-use crate::sums;
-use crate::sums::mix;
-use crate::table;
-use crate::writing::put;
+use case_lines::sums;
+use case_lines::sums::mix;
+use case_lines::table;
+use case_lines::writing::put;
 
 fn pair(sum: u32, letters: &[u8], ends: &[u16], i: u32, j: u32) -> u32 {
     let found = asking::pair_overlap(letters, ends, i, j);

@@ -1,8 +1,8 @@
 // Reading a tray file into lent letters and ends.
-use crate::sums;
-use crate::table;
-use crate::writing;
-use crate::writing::put;
+use case_lines::sums;
+use case_lines::table;
+use case_lines::writing;
+use case_lines::writing::put;
 
 fn lent(file: &[u8], letters: &mut [u8], ends: &mut [u16]) {
     let read = files::read_tray(file, letters, ends);

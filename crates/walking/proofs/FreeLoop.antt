@@ -9,20 +9,20 @@ use lib.ListN.{length}
 use Rattle.words.specs.Lists.{headOr}
 use Rattle.trays.specs.Limits.{maxSlips}
 use Rattle.layout.specs.Tables.{Linked}
-use Rattle.walking.specs.Runs.{nextEnder, endersFrom, mark, waitingIn, Real, Listed}
-use Rattle.walking.specs.Walking.{Searches, Found, Chooses, partnerIn}
+use Rattle.walking.specs.Runs.{nextEnder, endersFrom, mark, waitingIn, Real, ListedFrom}
+use Rattle.walking.specs.Walking.{Searches, FoundPartner, Chooses, partnerIn}
 use Rattle.walking.proofs.RunLaws.{listed-none, listed-first, listed-next, listed-real, along-none}
 use Rattle.walking.proofs.ScanLaws.{waiting-stop, waiting-pass, partner-lowest, partner-second}
 
 pub record Searching (es w : List ℕ) (d : ℕ) (right : List ℕ) (from l : ℕ) : Type 0 where
-  pub list : Listed es d (nextEnder w es d) l
+  pub list : ListedFrom es d (nextEnder w es d) l
   pub same : waitingIn right (endersFrom w es d l) ≡ waitingIn right (endersFrom w es d from)
 
 pub free-start : {es w : List ℕ} {d : ℕ} {right : List ℕ} {from : ℕ} → Searches es w d right from → Searching es w d right from from
 free-start s = record { list = s .list; same = refl }
 
 module _ {es w : List ℕ} {d : ℕ} {right : List ℕ} {from l : ℕ} (s : Searching es w d right from l) where
-  pub free-none : l ≡ 0 → Found es w d right from 0
+  pub free-none : l ≡ 0 → FoundPartner es w d right from 0
   free-none z =
       let none = along-none (nextEnder w es d) maxSlips in
       let e : waitingIn right (endersFrom w es d from) ≡ [] = sym (s .same) ∙ rw (z, none) in
@@ -39,7 +39,7 @@ module _ {es w : List ℕ} {d : ℕ} {right : List ℕ} {from l : ℕ} (s : Sear
     free-within a = omega (arith, free-real .inside, a .sized .few, a .rights)
 
     module _ {taken : ℕ} (t : (taken ≡ mark right l) × (taken < 65536)) where
-      pub free-found : taken ≡ 0 → Found es w d right from l
+      pub free-found : taken ≡ 0 → FoundPartner es w d right from l
       free-found z =
           let e = waiting-stop right l (endersFrom w es d (nextEnder w es d l)) (sym (t .0) ∙ z) in
           record { rest = first ∙ sym e ∙ ap (waitingIn right) (sym first) ∙ s .same; list = s .list }
@@ -54,13 +54,13 @@ module _ {es w : List ℕ} {d : ℕ} {right : List ℕ} {from l : ℕ} (s : Sear
 
 -- the partner
 module _ {es w : List ℕ} {d : ℕ} {right : List ℕ} {l m : ℕ} (c : Chooses es w d right l m) where
-  abbrev list : Listed es d (nextEnder w es d) l
+  abbrev list : ListedFrom es d (nextEnder w es d) l
   list = c .search .list
 
   pub choose-first : (l ≡ m → ⊥) → l ≡ partnerIn right (endersFrom w es d l) m
   choose-first n = at l n (c .waits) list
     where
-      at : (l : ℕ) → (l ≡ m → ⊥) → waitingIn right (endersFrom w es d l) ≡ endersFrom w es d l → Listed es d (nextEnder w es d) l
+      at : (l : ℕ) → (l ≡ m → ⊥) → waitingIn right (endersFrom w es d l) ≡ endersFrom w es d l → ListedFrom es d (nextEnder w es d) l
           → l ≡ partnerIn right (endersFrom w es d l) m
       at l n h k =
           elim (ℕ-discrete l 0) [
@@ -82,7 +82,7 @@ module _ {es w : List ℕ} {d : ℕ} {right : List ℕ} {l m : ℕ} (c : Chooses
       choose-next =
           record { sized = c .search .sized; rights = c .search .rights; list = rw q (listed-next (nextEnder w es d) es d l list choose-some) }
 
-      pub choose-second : {r : ℕ} → Found es w d right next r → r ≡ partnerIn right (endersFrom w es d l) m
+      pub choose-second : {r : ℕ} → FoundPartner es w d right next r → r ≡ partnerIn right (endersFrom w es d l) m
       choose-second {r} f =
           let ls = endersFrom w es d (nextEnder w es d l) in
           let first = listed-first (nextEnder w es d) es d l list choose-some in

@@ -19,8 +19,8 @@ use Rattle.layout.specs.Layout.{JOINS}
 use Rattle.layout.specs.Tables.{cell}
 use Rattle.layout.specs.Staging.{joinIn, joinsIn}
 use Rattle.walking.specs.Runs.{mark}
-use Rattle.walking.specs.Marks.{endsIn}
-use Rattle.walking.specs.Walking.{JoinFits, JoinPut, EndsFit, EndsJoined}
+use Rattle.walking.specs.Marks.{chainEnds}
+use Rattle.walking.specs.Walking.{CanJoin, JoinPut, EndsFit, EndsJoined}
 use Rattle.walking.proofs.MarkLaws.{ends-mark, ends-set}
 
 pub joins-length : (w : List ℕ) (k : ℕ) → length (joinsIn w k) ≡ k
@@ -45,7 +45,7 @@ joins-same w w′ k h = at 0 k (omega arith)
         (rw (h (3 * i) (omega arith), h (3 * i + 1) (omega arith), h (3 * i + 2) (omega arith)))
         (at (suc i) n (omega arith))
 
-module _ (w : List ℕ) (count l r d : ℕ) (F : JoinFits w count l r d) where
+module _ (w : List ℕ) (count l r d : ℕ) (F : CanJoin w count l r d) where
   pub join-put : (a b w′ : List ℕ) → Put w JOINS (3 * count) l a → Put a JOINS (3 * count + 1) r b → Put b JOINS (3 * count + 2) d w′
       → JoinPut w count l r d w′ (count + 1)
   join-put a b w′ p q o =
@@ -66,7 +66,7 @@ module _ (w : List ℕ) (count l r d : ℕ) (F : JoinFits w count l r d) where
 
 module _ {first last : List ℕ} {l r : ℕ} (F : EndsFit first last l r) where
   module _ {begin : ℕ} (b : (begin ≡ mark first l) × (begin < 65536)) where
-    begin-is : begin ≡ endsIn first l
+    begin-is : begin ≡ chainEnds first l
     begin-is = b .0 ∙ sym (ends-mark first l (F .left .0) (omega (arith, F .left .1, F .firsts)))
 
     pub begin-some : 1 ≤ begin
@@ -76,7 +76,7 @@ module _ {first last : List ℕ} {l r : ℕ} (F : EndsFit first last l r) where
     begin-within = omega (arith, begin-is, F .begin, F .lasts)
 
   module _ {end : ℕ} (e : (end ≡ mark last r) × (end < 65536)) where
-    end-is : end ≡ endsIn last r
+    end-is : end ≡ chainEnds last r
     end-is = e .0 ∙ sym (ends-mark last r (F .right .0) (omega (arith, F .right .1, F .lasts)))
 
     pub end-some : 1 ≤ end
@@ -92,6 +92,6 @@ module _ {first last : List ℕ} {l r : ℕ} (F : EndsFit first last l r) where
       record {
         firsts = ap length p ∙ length-set first (end - 1) begin ∙ F .firsts;
         lasts = ap length q ∙ length-set last (begin - 1) end ∙ F .lasts;
-        first-is = ap endsIn p ∙ ends-set first end begin (end-some e) (end-within e) ∙ rw (begin-is b, end-is e);
-        last-is = ap endsIn q ∙ ends-set last begin end (begin-some b) (begin-within b) ∙ rw (begin-is b, end-is e);
+        first-is = ap chainEnds p ∙ ends-set first end begin (end-some e) (end-within e) ∙ rw (begin-is b, end-is e);
+        last-is = ap chainEnds q ∙ ends-set last begin end (begin-some b) (begin-within b) ∙ rw (begin-is b, end-is e);
       }

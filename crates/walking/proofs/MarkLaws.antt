@@ -29,7 +29,7 @@ use Rattle.greedy.proofs.Linked as L
 use Rattle.greedy.proofs.Threads.{threads-none, putAt, threads-join}
 use Rattle.layout.specs.Staging.{Neighbours}
 use Rattle.walking.specs.Runs.{mark}
-use Rattle.walking.specs.Marks.{endsIn, zeros, Marks}
+use Rattle.walking.specs.Marks.{chainEnds, zeros, Marks}
 use Rattle.walking.specs.Walking.{EndsFit, EndsJoined}
 
 -- a mark set, and every slip marked as its own
@@ -64,7 +64,7 @@ pub mark-at : (xs : List ℕ) (i : ℕ) → mark xs (suc i) ≡ getD xs i 0
 mark-at xs i = rw (sub-one (suc i))
 
 -- chain ends
-pub ends-mark : (xs : List ℕ) (i : ℕ) → 1 ≤ i → i ≤ length xs → endsIn xs i ≡ mark xs i
+pub ends-mark : (xs : List ℕ) (i : ℕ) → 1 ≤ i → i ≤ length xs → chainEnds xs i ≡ mark xs i
 ends-mark xs zero h l = absurd (omega arith)
 ends-mark xs (suc i) h l = rw (mark-at xs i) (at xs i (suc i) l)
   where
@@ -73,14 +73,14 @@ ends-mark xs (suc i) h l = rw (mark-at xs i) (at xs i (suc i) l)
     at (x ∷ xs) zero d h = refl
     at (x ∷ xs) (suc i) d h = at xs i d (omega arith)
 
-pub ends-beyond : (xs : List ℕ) (i : ℕ) → length xs < i → endsIn xs i ≡ i
+pub ends-beyond : (xs : List ℕ) (i : ℕ) → length xs < i → chainEnds xs i ≡ i
 ends-beyond xs zero h = absurd (omega arith)
 ends-beyond xs (suc i) h = List·getD-eq-default xs (suc i) (omega arith)
 
-pub ends-set : (xs : List ℕ) (a v : ℕ) → 1 ≤ a → a ≤ length xs → endsIn (set xs (a - 1) v) ≡ putAt (endsIn xs) a v
+pub ends-set : (xs : List ℕ) (a v : ℕ) → 1 ≤ a → a ≤ length xs → chainEnds (set xs (a - 1) v) ≡ putAt (chainEnds xs) a v
 ends-set xs a v h l = fun-ext at
   where
-    at : (i : ℕ) → endsIn (set xs (a - 1) v) i ≡ putAt (endsIn xs) a v i
+    at : (i : ℕ) → chainEnds (set xs (a - 1) v) i ≡ putAt (chainEnds xs) a v i
     at zero = rw (ne-eqb 0 a (λ e. omega arith))
     at (suc i) =
         elim (ℕ-discrete (suc i) a) [
@@ -90,7 +90,7 @@ ends-set xs a v h l = fun-ext at
           | no n ↦ rw (ne-eqb (suc i) a n) (getD-set-other xs (a - 1) i v (suc i) (λ e. n (omega arith)))
         ]
 
-pub ends-own : endsIn (upFrom 1 maxSlips) ≡ (λ i. i)
+pub ends-own : chainEnds (upFrom 1 maxSlips) ≡ (λ i. i)
 ends-own = fun-ext at
   where
     own : (n i k : ℕ) → getD (upFrom k n) i (k + i) ≡ k + i
@@ -98,12 +98,12 @@ ends-own = fun-ext at
     own (suc n) zero k = omega arith
     own (suc n) (suc i) k = let e : k + suc i ≡ suc k + i = omega arith in rw e (own n i (suc k))
 
-    at : (i : ℕ) → endsIn (upFrom 1 maxSlips) i ≡ i
+    at : (i : ℕ) → chainEnds (upFrom 1 maxSlips) i ≡ i
     at zero = refl
     at (suc i) = let e : 1 + i ≡ suc i = omega arith in rw e at (own maxSlips i 1)
 
 -- what has its end in the list stands in the list
-ends-within : (xs : List ℕ) (a e : ℕ) → endsIn xs a ≡ e → 1 ≤ e → e ≤ maxSlips → length xs ≡ maxSlips → (1 ≤ a) × (a ≤ maxSlips)
+ends-within : (xs : List ℕ) (a e : ℕ) → chainEnds xs a ≡ e → 1 ≤ e → e ≤ maxSlips → length xs ≡ maxSlips → (1 ≤ a) × (a ≤ maxSlips)
 ends-within xs zero e q h k s = absurd (omega arith)
 ends-within xs (suc a) e q h k s =
     elim (decLt maxSlips (suc a)) [
@@ -193,11 +193,11 @@ module _ {js : List Join} {left right overs first last : List ℕ} (M : Marks js
   marks-room r h l z = omega (arith, M .spare, zeros-some left (r - 1) (omega (arith, N .lefts)) z)
 
   -- a chain of a slip of the lists has both its ends there
-  begin-real : (l : ℕ) → 1 ≤ l → l ≤ maxSlips → rightOf l js ≡ 0 → (1 ≤ endsIn first l) × (endsIn first l ≤ maxSlips)
-  begin-real l h k z = ends-within last (endsIn first l) l (M .threads .first-is l z .1) h k (M .lasts)
+  begin-real : (l : ℕ) → 1 ≤ l → l ≤ maxSlips → rightOf l js ≡ 0 → (1 ≤ chainEnds first l) × (chainEnds first l ≤ maxSlips)
+  begin-real l h k z = ends-within last (chainEnds first l) l (M .threads .first-is l z .1) h k (M .lasts)
 
-  end-real : (r : ℕ) → 1 ≤ r → r ≤ maxSlips → leftOf r js ≡ 0 → (1 ≤ endsIn last r) × (endsIn last r ≤ maxSlips)
-  end-real r h k z = ends-within first (endsIn last r) r (M .threads .back r z) h k (M .firsts)
+  end-real : (r : ℕ) → 1 ≤ r → r ≤ maxSlips → leftOf r js ≡ 0 → (1 ≤ chainEnds last r) × (chainEnds last r ≤ maxSlips)
+  end-real r h k z = ends-within first (chainEnds last r) r (M .threads .back r z) h k (M .firsts)
 
   pub last-some : (r : ℕ) → 1 ≤ r → r ≤ maxSlips → mark left r ≡ 0 → 1 ≤ mark last r
   last-some r h l z =
@@ -282,7 +282,7 @@ module _ {js : List Join} {left right overs first last : List ℕ} (M : Marks js
           lasts = e .lasts;
           linked = L.linked-more js (M .linked) l r d (hl .0) (hr .0) right-none left-none;
           threads = rw (e .last-is, e .first-is)
-              (threads-join js (endsIn last) (endsIn first) l r d (M .linked) (M .threads) (hl .0) (hr .0) right-none left-none
+              (threads-join js (chainEnds last) (chainEnds first) l r d (M .linked) (M .threads) (hl .0) (hr .0) right-none left-none
               (λ q. cycle (sym q ∙ ends-mark last r (hr .0) (omega (arith, M .lasts)))));
           small = small-new;
           spare =

@@ -12,14 +12,14 @@ use Rattle.greedy.proofs.Scans as S
 use Rattle.layout.specs.Staging.{joinsIn}
 use Rattle.walking.specs.Runs.{endersFrom, mark}
 use Rattle.walking.specs.Marks.{Marks}
-use Rattle.walking.specs.Walking.{Chooses, partnerIn, Made, JoinFits, JoinPut, EndsFit, EndsJoined, Joinable, Offers}
+use Rattle.walking.specs.Walking.{Chooses, partnerIn, JoinsMade, CanJoin, JoinPut, EndsFit, EndsJoined, Joinable, Offers}
 use Rattle.walking.proofs.ScanLaws.{MarksOf, partner-among, partner-marks, offer-taken, offer-none, offer-made}
 use Rattle.walking.proofs.MarkLaws.{left-mark, right-mark, last-mark, last-some, marks-room, ends-fit, marks-join}
 use Rattle.walking.proofs.JoinCells.{joins-length}
 
 -- one join
 module _ {w : List ℕ} {count l r d : ℕ} {left right overs first last : List ℕ} (J : Joinable w count l r d left right overs first last) where
-  pub join-fits : JoinFits w count l r d
+  pub join-fits : CanJoin w count l r d
   join-fits =
       record {
         room = J .room;
@@ -35,7 +35,7 @@ module _ {w : List ℕ} {count l r d : ℕ} {left right overs first last : List 
   pub join-made : {w′ left′ right′ overs′ first′ last′ : List ℕ} {made : ℕ}
       → JoinPut w count l r d w′ made → left′ ≡ set left (r - 1) l → right′ ≡ set right (l - 1) r → overs′ ≡ set overs (l - 1) d →
       EndsJoined first last l r first′ last′
-      → Made w (joinsIn w count ++ (join l r d ∷ [])) w′ left′ right′ overs′ first′ last′ made
+      → JoinsMade w (joinsIn w count ++ (join l r d ∷ [])) w′ left′ right′ overs′ first′ last′ made
   join-made p a b o e =
       record {
         joins-are = p .joins-are;
@@ -61,13 +61,13 @@ module _ {es w : List ℕ} {d r l count : ℕ} {left right overs first last : Li
   offer-marks x m = let p = ender-small x m in right-mark (O .marks) x (p .0) (p .1)
 
   abbrev Same : ℕ → List ℕ → Type 0
-  Same made w′ = Made w (S.offer ls d r js) w′ left right overs first last made
+  Same made w′ = JoinsMade w (S.offer ls d r js) w′ left right overs first last made
 
   same : S.offer ls d r js ≡ js → Same count w
   same e = record { joins-are = sym e; marks = rw e (O .marks); only = only-refl }
 
   module _ {taken : ℕ} (t : (taken ≡ mark left r) × (taken < 65536)) where
-    pub offer-refused : (taken ≡ 0 → ⊥) → Made w (S.offer ls d r js) w left right overs first last count
+    pub offer-refused : (taken ≡ 0 → ⊥) → JoinsMade w (S.offer ls d r js) w left right overs first last count
     offer-refused n = same (offer-taken ls d r js (λ z. n (t .0 ∙ left-mark (O .marks) r (O .real .some) small ∙ z)))
 
     module _ (z : taken ≡ 0) {end : ℕ} (e : (end ≡ mark last r) × (end < 65536)) where
@@ -84,7 +84,7 @@ module _ {es w : List ℕ} {d r l count : ℕ} {left right overs first last : Li
         best-is : best ≡ S.partner ls (lastOf r js) js
         best-is = b ∙ ap (partnerIn right ls) end-is ∙ partner-marks right js ls (lastOf r js) offer-marks
 
-        pub offer-nobody : best ≡ 0 → Made w (S.offer ls d r js) w left right overs first last count
+        pub offer-nobody : best ≡ 0 → JoinsMade w (S.offer ls d r js) w left right overs first last count
         offer-nobody q = same (offer-none ls d r js (sym best-is ∙ q))
 
         module _ (n : best ≡ 0 → ⊥) where
@@ -105,6 +105,6 @@ module _ {es w : List ℕ} {d r l count : ℕ} {left right overs first last : Li
               }
 
           pub offer-joins : {w′ left′ right′ overs′ first′ last′ : List ℕ} {made : ℕ}
-              → Made w (joinsIn w count ++ (join best r d ∷ [])) w′ left′ right′ overs′ first′ last′ made
-              → Made w (S.offer ls d r js) w′ left′ right′ overs′ first′ last′ made
+              → JoinsMade w (joinsIn w count ++ (join best r d ∷ [])) w′ left′ right′ overs′ first′ last′ made
+              → JoinsMade w (S.offer ls d r js) w′ left′ right′ overs′ first′ last′ made
           offer-joins m = rw (offer-made ls d r js best (sym (left-mark (O .marks) r (O .real .some) small) ∙ unmarked) best-is n) m

@@ -1,8 +1,8 @@
--- The nodes by rows: of d letters, of one letter fewer, .. of one letter, each row by number.
---   row-num       == a number of the row of d letters is that of a node of d letters
---   row-asc       == a row ascends by the order of visits; rows-asc == so do the rows
+-- The nodes by rows: of d letters, of one letter fewer, .. of one letter, each nodesAt by number.
+--   row-num       == a number of the nodesAt of d letters is that of a node of d letters
+--   row-asc       == a nodesAt ascends by the order of visits; rows-asc == so do the rows
 --   rows-nodes    == the walk may go over the rows: they have every beginning
--- Numbers ascend by length, then byte order; the table of levels parts them by length. Within a row the order of numbers is byte order.
+-- Numbers ascend by length, then byte order; the table of levels parts them by length. Within a nodesAt the order of numbers is byte order.
 use mathlib.Core.Path.{_≡_, refl, sym, ap, _∙_}
 use mathlib.Core.Bool.{true}
 use mathlib.Core.Logic.{inl, inr}
@@ -25,7 +25,7 @@ use Rattle.matching.specs.Nodes.{lower, nodes, string, Num}
 use Rattle.matching.proofs.Endings.{slip-some}
 use Rattle.matching.proofs.NodeLaws.{nodes-numbered, node-of}
 use Rattle.layout.specs.Tables.{patterns, LevelIs}
-use Rattle.walking.specs.Walking.{row, rows}
+use Rattle.walking.specs.Walking.{nodesAt, rows}
 
 asc-map : {A B : Type 0} (R : A → A → Type 0) (S : B → B → Type 0) (f : A → B) (xs : List A) → Asc R xs
     → ((a b : A) → In a xs → In b xs → R a b → S (f a) (f b)) → Asc S (map f xs)
@@ -50,13 +50,13 @@ module _ (ps : List (List ℕ)) (level : ℕ → ℕ) (top : ℕ) (L : LevelIs p
   in-row : (d v : ℕ) → In v (upFrom (level d) (level (suc d) - level d)) → (level d ≤ v) × (v < level (suc d))
   in-row d v m = let r = in-upFrom (level d) (level (suc d) - level d) m in (r .0, omega arith)
 
-  row-length : (d : ℕ) (x : List ℕ) → 1 ≤ d → d ≤ top → In x (row ps level d) → length x ≡ d
+  row-length : (d : ℕ) (x : List ℕ) → 1 ≤ d → d ≤ top → In x (nodesAt ps level d) → length x ≡ d
   row-length d x h l m =
       let (v, i, e) = Memᴰ·of-map (string ps) (upFrom (level d) (level (suc d) - level d)) m in
       let (a, b) = in-row d v i in
       ap length (sym e) ∙ row-num d v h l a b .1
 
-  row-asc : (d : ℕ) → 1 ≤ d → d ≤ top → Asc (Less sooner) (row ps level d)
+  row-asc : (d : ℕ) → 1 ≤ d → d ≤ top → Asc (Less sooner) (nodesAt ps level d)
   row-asc d h l =
       asc-map _<_ (Less sooner) (string ps) (upFrom (level d) (level (suc d) - level d)) (asc-upFrom (level d) (level (suc d) - level d))
       (λ a b i k q.
@@ -72,7 +72,7 @@ module _ (ps : List (List ℕ)) (level : ℕ → ℕ) (top : ℕ) (L : LevelIs p
   rows-length : (d : ℕ) (x : List ℕ) → d ≤ top → In x (rows ps level d) → (1 ≤ length x) × (length x ≤ d)
   rows-length zero x l m = absurd (List·Memᴰ·not-nil m)
   rows-length (suc d) x l m =
-      elim (List·Memᴰ·append-cases (row ps level (suc d)) m) [
+      elim (List·Memᴰ·append-cases (nodesAt ps level (suc d)) m) [
         | inl i ↦ let e = row-length (suc d) x (omega arith) l i in (omega arith, omega arith)
         | inr i ↦ let r = rows-length d x (omega arith) i in (r .0, omega arith)
       ]
@@ -80,7 +80,7 @@ module _ (ps : List (List ℕ)) (level : ℕ → ℕ) (top : ℕ) (L : LevelIs p
   rows-asc : (d : ℕ) → d ≤ top → Asc (Less sooner) (rows ps level d)
   rows-asc zero l = tt
   rows-asc (suc d) l =
-      asc-append (Less sooner) (row ps level (suc d)) (rows ps level d) (row-asc (suc d) (omega arith) l) (rows-asc d (omega arith))
+      asc-append (Less sooner) (nodesAt ps level (suc d)) (rows ps level d) (row-asc (suc d) (omega arith) l) (rows-asc d (omega arith))
       (λ x y i k.
       lex-first down (length x) (length y) (before x y)
       (lt-ltb (length y) (length x) (omega (arith, row-length (suc d) x (omega arith) l i, rows-length d y (omega arith) k))))
@@ -97,7 +97,7 @@ module _ (ps : List (List ℕ)) (level : ℕ → ℕ) (top : ℕ) (L : LevelIs p
               | no q ↦ absurd (omega (arith, L .back (suc (suc d)) v (omega arith) (omega arith) n (omega arith)))
             ] in
             Memᴰ·append-left (rows ps level d) (Memᴰ·map (string ps) (upFrom-in (level (suc d)) (level (suc (suc d)) - level (suc d)) v low (omega arith)))
-        | no ne ↦ Memᴰ·append-right (row ps level (suc d)) (rows-in d v (omega arith) n h (omega arith))
+        | no ne ↦ Memᴰ·append-right (nodesAt ps level (suc d)) (rows-in d v (omega arith) n h (omega arith))
       ]
 
 module _ (ss : List (List ℕ)) (M K : List ℕ) (sub : (k : ℕ) → In k K → In k M) (level : ℕ → ℕ) (top : ℕ) (L : LevelIs (patterns ss M) level top) where

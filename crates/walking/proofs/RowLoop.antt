@@ -1,5 +1,5 @@
 -- The visits of the nodes of one length, by number.
---   RowWalking .. w made v end ..  == what is left of the row from node v on makes of the joins in w what the whole row makes
+--   RowWalking .. w made v end ..  == what is left of the nodesAt from node v on makes of the joins in w what the whole nodesAt makes
 use mathlib.Core.Path.{_≡_, refl, sym, ap, _∙_}
 use mathlib.Core.Bool.{true}
 use mathlib.Core.List.{List, [], _∷_, map}
@@ -23,7 +23,7 @@ use Rattle.layout.specs.Numbered.{patternsIn}
 use Rattle.layout.specs.Staging.{keptIn, joinsIn}
 use Rattle.walking.specs.Runs.{startersAt, endersAt}
 use Rattle.walking.specs.Marks.{Marks}
-use Rattle.walking.specs.Walking.{Made, Visits, Walkable, RowAsks, row, rowWalked}
+use Rattle.walking.specs.Walking.{JoinsMade, Visits, Walkable, RowAsks, nodesAt, rowWalked}
 use Rattle.walking.proofs.RowLaws.{row-num}
 use Rattle.walking.proofs.WalkableLaws.{kept-rises, here-sized, starters-are, enders-are, node-starts}
 use Rattle.walking.proofs.WalkableLaws.{node-ends, patterns-same, kept-same, walkable-kept}
@@ -71,7 +71,7 @@ module _ {s es : List ℕ} {n k count : ℕ} {w₀ : List ℕ} {d made₀ : ℕ}
   abbrev ps : List (List ℕ)
   ps = patternsIn s es n w₀
 
-  pub row-end : end ≤ v → Made w₀ (rowWalked s es n k w₀ d made₀) w left right overs first last made
+  pub row-end : end ≤ v → JoinsMade w₀ (rowWalked s es n k w₀ d made₀) w left right overs first last made
   row-end h =
       let z : end - v ≡ 0 = omega arith in
       let e : rowWalked s es n k w₀ d made₀ ≡ joinsIn w made = sym (T .rest) ∙ rw z in
@@ -119,7 +119,7 @@ module _ {s es : List ℕ} {n k count : ℕ} {w₀ : List ℕ} {d made₀ : ℕ}
         rw (e, those-yes counted x (map (string ps) (upFrom (suc v) (end - suc v))) (counted-some x (omega (arith, num .1, T .some))))
 
     pub row-turn : {w′ left′ right′ overs′ first′ last′ : List ℕ} {made′ : ℕ} (v′ : ℕ)
-        → Made w (S.scan (endersAt w es d v) d (startersAt w es d v) (joinsIn w made)) w′ left′ right′ overs′ first′ last′ made′ → v′ ≡ v + 1
+        → JoinsMade w (S.scan (endersAt w es d v) d (startersAt w es d v) (joinsIn w made)) w′ left′ right′ overs′ first′ last′ made′ → v′ ≡ v + 1
         → RowWalking s es n k count w₀ d made₀ w′ made′ v′ end left′ right′ overs′ first′ last′
     row-turn v′ m q =
         let e : v′ ≡ suc v = q ∙ add-one v in

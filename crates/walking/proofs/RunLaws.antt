@@ -14,7 +14,7 @@ use Rattle.trays.specs.Slips.{startOf, endOf}
 use Rattle.tables.specs.Tables.{Cells, Only}
 use Rattle.layout.specs.Layout.{STARTS-NEXT, ENDS-NEXT, JOINS}
 use Rattle.layout.specs.Tables.{Linked}
-use Rattle.walking.specs.Runs.{along, nextStarter, nextEnder, Real, Listed}
+use Rattle.walking.specs.Runs.{along, nextStarter, nextEnder, Real, ListedFrom}
 use Rattle.walking.specs.Walking.{Sized}
 use Rattle.walking.proofs.NextSlips.{start-short}
 
@@ -41,15 +41,15 @@ module _ (next : ℕ → ℕ) where
       (ap (λ l. x ∷ l) (linked-along n (next x) xs (e .1) (λ y m. p y (List·Memᴰ·tail m)) (omega arith)))
 
   module _ (es : List ℕ) (d : ℕ) where
-    pub listed-is : (i : ℕ) (xs : List ℕ) → Linked next i xs → Asc _<_ xs → ((x : ℕ) → In x xs → Real es d x) → length xs ≤ maxSlips → Listed es d next i
+    pub listed-is : (i : ℕ) (xs : List ℕ) → Linked next i xs → Asc _<_ xs → ((x : ℕ) → In x xs → Real es d x) → length xs ≤ maxSlips → ListedFrom es d next i
     listed-is i xs e a p h =
         let q = linked-along maxSlips i xs e (λ x m. p x m .some) h in
         record { linked = rw q e; ascending = rw q a; all = rw q p }
 
-    pub listed-none : Listed es d next 0
+    pub listed-none : ListedFrom es d next 0
     listed-none = listed-is 0 [] refl tt (λ x m. absurd (List·Memᴰ·not-nil m)) (omega arith)
 
-    module _ (i : ℕ) (L : Listed es d next i) (some : i ≡ 0 → ⊥) where
+    module _ (i : ℕ) (L : ListedFrom es d next i) (some : i ≡ 0 → ⊥) where
       first : along next maxSlips i ≡ i ∷ along next (maxSlips - 1) (next i)
       first = along-some (maxSlips - 1) i (omega arith)
 
@@ -65,7 +65,7 @@ module _ (next : ℕ → ℕ) where
       pub listed-first : along next maxSlips i ≡ i ∷ along next maxSlips (next i)
       listed-first = first ∙ ap (λ l. i ∷ l) (sym enough)
 
-      pub listed-next : Listed es d next (next i)
+      pub listed-next : ListedFrom es d next (next i)
       listed-next =
           record {
             linked = rw enough rest;

@@ -12,9 +12,9 @@ use Rattle.greedy.specs.Joins.{Join}
 use Rattle.greedy.proofs.Scans as S
 use Rattle.layout.specs.Layout.{STARTS, ENDS, JOINS}
 use Rattle.layout.specs.Staging.{joinsIn}
-use Rattle.walking.specs.Runs.{nextStarter, nextEnder, startersFrom, startersAt, endersFrom, endersAt, Real, Listed}
+use Rattle.walking.specs.Runs.{nextStarter, nextEnder, startersFrom, startersAt, endersFrom, endersAt, Real, ListedFrom}
 use Rattle.walking.specs.Marks.{Marks}
-use Rattle.walking.specs.Walking.{Sized, Searches, Found, Made, Offers, Visits}
+use Rattle.walking.specs.Walking.{Sized, Searches, FoundPartner, JoinsMade, Offers, Visits}
 use Rattle.walking.proofs.RunLaws.{listed-first, listed-next, listed-real, sized-kept, ender-kept, starter-kept}
 use Rattle.walking.proofs.ScanLaws.{MarksOf, waiting-twice, scan-waiting}
 use Rattle.walking.proofs.MarkLaws.{right-mark}
@@ -22,8 +22,8 @@ use Rattle.walking.proofs.MarkLaws.{right-mark}
 pub record Visiting (es : List ℕ) (d v : ℕ) (w₀ : List ℕ) (count : ℕ) (w : List ℕ) (made l r : ℕ) (left right overs first last : List ℕ) : Type 0 where
   pub sized : Sized es w₀ d
   pub only : Only (Cells JOINS 600) w₀ w
-  pub ends : Listed es d (nextEnder w₀ es d) l
-  pub starts : Listed es d (nextStarter w₀ es d) r
+  pub ends : ListedFrom es d (nextEnder w₀ es d) l
+  pub starts : ListedFrom es d (nextStarter w₀ es d) r
   pub marks : Marks (joinsIn w made) left right overs first last
   pub rest : S.scan (endersFrom w₀ es d l) d (startersFrom w₀ es d r) (joinsIn w made)
       ≡ S.scan (endersAt w₀ es d v) d (startersAt w₀ es d v) (joinsIn w₀ count)
@@ -55,7 +55,7 @@ module _ {es : List ℕ} {d v : ℕ} {w₀ : List ℕ} {count : ℕ} {w : List �
   pub visit-searches : Searches es w d right l
   visit-searches = record { sized = here-sized; rights = T .marks .neighbours .rights; list = rw same-enders (T .ends) }
 
-  pub visit-end : r ≡ 0 → Made w₀ (S.scan (endersAt w₀ es d v) d (startersAt w₀ es d v) (joinsIn w₀ count)) w left right overs first last made
+  pub visit-end : r ≡ 0 → JoinsMade w₀ (S.scan (endersAt w₀ es d v) d (startersAt w₀ es d v) (joinsIn w₀ count)) w left right overs first last made
   visit-end z =
       let e : S.scan (endersAt w₀ es d v) d (startersAt w₀ es d v) (joinsIn w₀ count) ≡ js = sym (T .rest) ∙ rw z in
       record { joins-are = sym e; marks = rw e (T .marks); only = T .only }
@@ -67,7 +67,7 @@ module _ {es : List ℕ} {d v : ℕ} {w₀ : List ℕ} {count : ℕ} {w : List �
     starters-first : startersFrom w₀ es d r ≡ r ∷ startersFrom w₀ es d (nextStarter w₀ es d r)
     starters-first = listed-first (nextStarter w₀ es d) es d r (T .starts) some
 
-    module _ {l′ : ℕ} (f : Found es w d right l l′) where
+    module _ {l′ : ℕ} (f : FoundPartner es w d right l l′) where
       pub visit-offers : Offers es w d r l′ made left right overs first last
       visit-offers =
           record {
@@ -86,7 +86,7 @@ module _ {es : List ℕ} {d v : ℕ} {w₀ : List ℕ} {count : ℕ} {w : List �
           rw (rw same-enders at (f .rest)) (sym (scan-waiting right js (endersFrom w₀ es d l) d (startersFrom w₀ es d r) ender-marks) ∙ T .rest)
 
       module _ {w′ left′ right′ overs′ first′ last′ : List ℕ} {made′ : ℕ}
-          (m : Made w (S.offer (endersFrom w es d l′) d r (joinsIn w made)) w′ left′ right′ overs′ first′ last′ made′) where
+          (m : JoinsMade w (S.offer (endersFrom w es d l′) d r (joinsIn w made)) w′ left′ right′ overs′ first′ last′ made′) where
         all-only : Only (Cells JOINS 600) w₀ w′
         all-only = only-trans (T .only) (m .only)
 

@@ -1,4 +1,4 @@
--- The walk, row by row, and what it has made in the end.
+-- The walk, nodesAt by nodesAt, and what it has made in the end.
 --   Walking .. w made d ..  == the rows of d letters and fewer, walked from the joins in w on, make the joins of the walk
 --   few-joins               == the plain rule makes no more joins than there are slips
 use mathlib.Core.Path.{_≡_, refl, sym, ap, _∙_}
@@ -18,7 +18,7 @@ use Rattle.tables.specs.Tables.{Cells, Only}
 use Rattle.tables.proofs.Tables.{only-refl, only-trans}
 use Rattle.greedy.specs.Joins.{plainFor}
 use Rattle.greedy.specs.Walk.{walkFrom, walkFor}
-use Rattle.greedy.proofs.Chains.{Chain, whole}
+use Rattle.greedy.proofs.Chains.{Chain, wholeChain}
 use Rattle.greedy.proofs.Represent.{plain-rep}
 use Rattle.greedy.proofs.Nodes.{walk-append, walk-nodes}
 use Rattle.greedy.proofs.OneList.{Ready, one-list, kept-ready}
@@ -27,7 +27,7 @@ use Rattle.layout.specs.Tables.{cell, members}
 use Rattle.layout.specs.Numbered.{patternsIn}
 use Rattle.layout.specs.Staging.{keptIn, joinsIn}
 use Rattle.walking.specs.Marks.{Marks}
-use Rattle.walking.specs.Walking.{Made, Walkable, RowAsks, row, rows, rowWalked, Fresh, Walked}
+use Rattle.walking.specs.Walking.{JoinsMade, Walkable, RowAsks, nodesAt, rows, rowWalked, Fresh, Walked}
 use Rattle.walking.proofs.MarkLaws.{marks-none}
 use Rattle.walking.proofs.JoinCells.{joins-length}
 use Rattle.walking.proofs.RowLaws.{rows-nodes}
@@ -42,7 +42,7 @@ few-joins counts ss K a p =
     ones [] = refl
     ones (x ∷ xs) = omega (arith, ones xs)
 
-    more : (Cs : List Chain) → sum (λ C. length (C .rest)) Cs ≤ sum (λ C. sum (λ x. 1) (whole C)) Cs
+    more : (Cs : List Chain) → sum (λ C. length (C .rest)) Cs ≤ sum (λ C. sum (λ x. 1) (wholeChain C)) Cs
     more [] = omega arith
     more (C ∷ Cs) = omega (arith, more Cs, ones (C .rest))
 
@@ -89,7 +89,7 @@ module _ {s es : List ℕ} {n k count : ℕ} {w₀ w : List ℕ} {made d : ℕ} 
     level-same : (i : ℕ) → i ≤ suc maxSlip → cell w LEVEL i ≡ cell w₀ LEVEL i
     level-same i l = T .only .kept (LEVEL + i) (λ q. omega (arith, q .from))
 
-    row-same : rowWalked s es n k w d made ≡ walkFrom ss K (those counted (row ps (cell w₀ LEVEL) d)) (joinsIn w made)
+    row-same : rowWalked s es n k w d made ≡ walkFrom ss K (those counted (nodesAt ps (cell w₀ LEVEL) d)) (joinsIn w made)
     row-same =
         rw (
           kept-same (T .walkable) (T .only),
@@ -99,14 +99,14 @@ module _ {s es : List ℕ} {n k count : ℕ} {w₀ w : List ℕ} {made d : ℕ} 
         )
 
     pub walk-turn : {w′ left′ right′ overs′ first′ last′ : List ℕ} {made′ : ℕ} (d′ : ℕ)
-        → Made w (rowWalked s es n k w d made) w′ left′ right′ overs′ first′ last′ made′ → d′ ≡ d - 1
+        → JoinsMade w (rowWalked s es n k w d made) w′ left′ right′ overs′ first′ last′ made′ → d′ ≡ d - 1
         → Walking s es n k count w₀ w′ made′ d′ left′ right′ overs′ first′ last′
     walk-turn d′ m q =
         let e : d ≡ suc d′ = omega arith in
-        let here = row ps (cell w₀ LEVEL) d in
+        let here = nodesAt ps (cell w₀ LEVEL) d in
         let less = rows ps (cell w₀ LEVEL) d′ in
         let split : those counted (rows ps (cell w₀ LEVEL) d) ≡ those counted here ++ those counted less =
-        rw e (those-append counted (row ps (cell w₀ LEVEL) (suc d′)) less) in
+        rw e (those-append counted (nodesAt ps (cell w₀ LEVEL) (suc d′)) less) in
         record {
           walkable = T .walkable;
           only = only-trans (T .only) (m .only);

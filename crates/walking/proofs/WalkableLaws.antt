@@ -28,10 +28,10 @@ use Rattle.matching.specs.Nodes.{nodes, string, Num}
 use Rattle.matching.proofs.NodeLaws.{node-some}
 use Rattle.layout.specs.Layout.{KEPT, STARTS, STARTS-NEXT, ENDS, ENDS-NEXT, JOINS, KID}
 use Rattle.layout.specs.Tables.{cell, members, patterns, starters, enders, Linked, StartsIs, EndsIs}
-use Rattle.layout.specs.Numbered.{patternsIn, Numbered, Kept}
+use Rattle.layout.specs.Numbered.{patternsIn, Numbered, SameBelow}
 use Rattle.layout.specs.Staging.{keptIn}
 use Rattle.layout.proofs.Frames.{only-kept, members-kept, patterns-kept, numbered-kept}
-use Rattle.walking.specs.Runs.{along, nextStarter, nextEnder, startersAt, endersAt, Real, Listed}
+use Rattle.walking.specs.Runs.{along, nextStarter, nextEnder, startersAt, endersAt, Real, ListedFrom}
 use Rattle.walking.specs.Walking.{Sized, Walkable}
 use Rattle.walking.proofs.NextSlips.{start-short}
 use Rattle.walking.proofs.RunLaws.{linked-along, listed-is}
@@ -130,19 +130,19 @@ module _ {s es : List ℕ} {n k count : ℕ} {w : List ℕ} (W : Walkable s es n
     pub enders-are : endersAt w es d v ≡ enders ss K x
     enders-are = linked-along (nextEnder w es d) maxSlips (cell w ENDS v) (enders ss K x) enders-linked (λ i m. ender-real i m .some) enders-few
 
-    pub node-starts : Listed es d (nextStarter w es d) (cell w STARTS v)
+    pub node-starts : ListedFrom es d (nextStarter w es d) (cell w STARTS v)
     node-starts =
         listed-is (nextStarter w es d) es d (cell w STARTS v) (starters ss K x) starters-linked
         (asc-those _<_ (λ r. begins x (slip ss r)) K kept-rises) starter-real starters-few
 
-    pub node-ends : Listed es d (nextEnder w es d) (cell w ENDS v)
+    pub node-ends : ListedFrom es d (nextEnder w es d) (cell w ENDS v)
     node-ends =
         listed-is (nextEnder w es d) es d (cell w ENDS v) (enders ss K x) enders-linked
         (asc-those _<_ (λ l. endsProperly x (slip ss l)) K kept-rises) ender-real enders-few
 
   -- only joins have been written
   module _ {w′ : List ℕ} (f : Only (Cells JOINS 600) w w′) where
-    below : Kept JOINS w w′
+    below : SameBelow JOINS w w′
     below = only-kept JOINS f (λ p q. q .from)
 
     pub members-same : members w′ n ≡ members w n

@@ -7,7 +7,7 @@
 --   endersAt w es d v        == those of node v
 --   waitingIn right ls       == ls from its first slip without a right neighbour on
 --   Real es d i              == i is a slip of the tray that ends d letters or more behind the tray's start
---   Listed es d next i       == from i along next run such slips, ascending, then 0
+--   ListedFrom es d next i       == from i along next run such slips, ascending, then 0
 use mathlib.Core.Bool.{true, false}
 use mathlib.Core.List.{List, [], _∷_}
 use Prim.Native.Nat.{ℕ, zero, suc, _+_, _-_, _≤_, _<_}
@@ -55,7 +55,7 @@ pub record Real (es : List ℕ) (d i : ℕ) : Type 0 where
   pub inside : i ≤ length es
   pub deep : d ≤ endOf es i
 
-pub record Listed (es : List ℕ) (d : ℕ) (next : ℕ → ℕ) (i : ℕ) : Type 0 where
+pub record ListedFrom (es : List ℕ) (d : ℕ) (next : ℕ → ℕ) (i : ℕ) : Type 0 where
   pub linked : Linked next i (along next maxSlips i)
   pub ascending : Asc _<_ (along next maxSlips i)
   pub all : (x : ℕ) → In x (along next maxSlips i) → Real es d x

@@ -1,7 +1,7 @@
 -- What the functions of the walk ask and leave.
 --   Sized es w d            == the tray is small enough, the work area large enough, and d is a length of slips
---   Made w js w′ .. r       == the joins js stand in w′, r of them, and in the five lists; nothing else of w has changed
---   row ps level d          == the strings of the nodes of d letters, by number
+--   JoinsMade w js w′ .. r       == the joins js stand in w′, r of them, and in the five lists; nothing else of w has changed
+--   nodesAt ps level d          == the strings of the nodes of d letters, by number
 --   rows ps level d         == those of d letters, of one letter fewer, .. of one letter
 --   Walkable s es n k c w   == the nodes of the n members are numbered, the k kept ones known, and for each node those that begin with it and
 --                              those that properly end with it
@@ -25,8 +25,8 @@ use Rattle.layout.specs.Layout.{LEVEL, STARTS, STARTS-NEXT, ENDS, ENDS-NEXT, JO
 use Rattle.layout.specs.Tables.{cell, members, StartsIs, EndsIs}
 use Rattle.layout.specs.Numbered.{patternsIn, Numbered}
 use Rattle.layout.specs.Staging.{keptIn, joinsIn, Neighbours}
-use Rattle.walking.specs.Runs.{nextStarter, nextEnder, endersFrom, mark, waitingIn, Real, Listed}
-use Rattle.walking.specs.Marks.{endsIn, Marks}
+use Rattle.walking.specs.Runs.{nextStarter, nextEnder, endersFrom, mark, waitingIn, Real, ListedFrom}
+use Rattle.walking.specs.Marks.{chainEnds, Marks}
 
 pub record Sized (es w : List ℕ) (d : ℕ) : Type 0 where
   pub room : workNeed ≤ length w
@@ -39,11 +39,11 @@ pub record Sized (es w : List ℕ) (d : ℕ) : Type 0 where
 pub record Searches (es w : List ℕ) (d : ℕ) (right : List ℕ) (l : ℕ) : Type 0 where
   pub sized : Sized es w d
   pub rights : length right ≡ maxSlips
-  pub list : Listed es d (nextEnder w es d) l
+  pub list : ListedFrom es d (nextEnder w es d) l
 
-pub record Found (es w : List ℕ) (d : ℕ) (right : List ℕ) (l r : ℕ) : Type 0 where
+pub record FoundPartner (es w : List ℕ) (d : ℕ) (right : List ℕ) (l r : ℕ) : Type 0 where
   pub rest : endersFrom w es d r ≡ waitingIn right (endersFrom w es d l)
-  pub list : Listed es d (nextEnder w es d) r
+  pub list : ListedFrom es d (nextEnder w es d) r
 
 -- the first of ls that has no right neighbour and is not m, 0 for none
 abbrev pub partnerIn : List ℕ → List ℕ → ℕ → ℕ
@@ -58,13 +58,13 @@ pub record Chooses (es w : List ℕ) (d : ℕ) (right : List ℕ) (l m : ℕ) : 
   pub waits : Waits right (endersFrom w es d l)
   pub real : 1 ≤ m
 
-pub record Made (w : List ℕ) (js : List Join) (w′ left right overs first last : List ℕ) (r : ℕ) : Type 0 where
+pub record JoinsMade (w : List ℕ) (js : List Join) (w′ left right overs first last : List ℕ) (r : ℕ) : Type 0 where
   pub joins-are : joinsIn w′ r ≡ js
   pub marks : Marks js left right overs first last
   pub only : Only (Cells JOINS 600) w w′
 
 -- one join more in the work area
-pub record JoinFits (w : List ℕ) (count l r d : ℕ) : Type 0 where
+pub record CanJoin (w : List ℕ) (count l r d : ℕ) : Type 0 where
   pub room : workNeed ≤ length w
   pub few : count < maxSlips
   pub left-small : l ≤ maxSlips
@@ -81,14 +81,14 @@ pub record EndsFit (first last : List ℕ) (l r : ℕ) : Type 0 where
   pub lasts : length last ≡ maxSlips
   pub left : (1 ≤ l) × (l ≤ maxSlips)
   pub right : (1 ≤ r) × (r ≤ maxSlips)
-  pub begin : (1 ≤ endsIn first l) × (endsIn first l ≤ maxSlips)
-  pub end : (1 ≤ endsIn last r) × (endsIn last r ≤ maxSlips)
+  pub begin : (1 ≤ chainEnds first l) × (chainEnds first l ≤ maxSlips)
+  pub end : (1 ≤ chainEnds last r) × (chainEnds last r ≤ maxSlips)
 
 pub record EndsJoined (first last : List ℕ) (l r : ℕ) (first′ last′ : List ℕ) : Type 0 where
   pub firsts : length first′ ≡ maxSlips
   pub lasts : length last′ ≡ maxSlips
-  pub first-is : endsIn first′ ≡ putAt (endsIn first) (endsIn last r) (endsIn first l)
-  pub last-is : endsIn last′ ≡ putAt (endsIn last) (endsIn first l) (endsIn last r)
+  pub first-is : chainEnds first′ ≡ putAt (chainEnds first) (chainEnds last r) (chainEnds first l)
+  pub last-is : chainEnds last′ ≡ putAt (chainEnds last) (chainEnds first l) (chainEnds last r)
 
 -- a join of l and r by d letters
 pub record Joinable (w : List ℕ) (count l r d : ℕ) (left right overs first last : List ℕ) : Type 0 where
@@ -111,16 +111,16 @@ pub record Offers (es w : List ℕ) (d r l count : ℕ) (left right overs first 
 pub record Visits (es w : List ℕ) (d v count : ℕ) (left right overs first last : List ℕ) : Type 0 where
   pub sized : Sized es w d
   pub node : v ≤ maxLetters
-  pub starts : Listed es d (nextStarter w es d) (cell w STARTS v)
-  pub ends : Listed es d (nextEnder w es d) (cell w ENDS v)
+  pub starts : ListedFrom es d (nextStarter w es d) (cell w STARTS v)
+  pub ends : ListedFrom es d (nextEnder w es d) (cell w ENDS v)
   pub marks : Marks (joinsIn w count) left right overs first last
 
-abbrev pub row : List (List ℕ) → (ℕ → ℕ) → ℕ → List (List ℕ)
-row ps level d = map (string ps) (upFrom (level d) (level (suc d) - level d))
+abbrev pub nodesAt : List (List ℕ) → (ℕ → ℕ) → ℕ → List (List ℕ)
+nodesAt ps level d = map (string ps) (upFrom (level d) (level (suc d) - level d))
 
 abbrev pub rows : List (List ℕ) → (ℕ → ℕ) → ℕ → List (List ℕ)
 rows ps level zero = []
-rows ps level (suc d) = row ps level (suc d) ++ rows ps level d
+rows ps level (suc d) = nodesAt ps level (suc d) ++ rows ps level d
 
 pub record Walkable (s es : List ℕ) (n k count : ℕ) (w : List ℕ) : Type 0 where
   pub numbered : Numbered s es n count w
@@ -138,7 +138,7 @@ pub record RowAsks (s es : List ℕ) (n k count : ℕ) (w : List ℕ) (d made : 
 
 abbrev pub rowWalked : List ℕ → List ℕ → ℕ → ℕ → List ℕ → ℕ → ℕ → List Join
 rowWalked s es n k w d made =
-    walkFrom (slipsOf s es) (keptIn w k) (those counted (row (patternsIn s es n w) (cell w LEVEL) d)) (joinsIn w made)
+    walkFrom (slipsOf s es) (keptIn w k) (those counted (nodesAt (patternsIn s es n w) (cell w LEVEL) d)) (joinsIn w made)
 
 -- Document 01: two lists of 200 marks, each starting as none; so the overlaps. The lists of chain ends may hold anything.
 pub record Fresh (left right overs first last : List ℕ) : Type 0 where

@@ -65,7 +65,7 @@ fn next_ender(work: &[u16], ends: &[u16], d: usize, l: usize) -> usize
 // The first slip without a right neighbour from `from` on among those that properly end with a node of `d` letters, 0 for none.
 fn next_free(work: &[u16], ends: &[u16], right: &[u16], d: usize, from: usize) -> usize
     requires { ⌜ W.Searches (now ends) (now work) d (now right) from ⌝ }
-    ensures { λ r. ⌜ W.Found (now (ends .entry)) (now (work .entry)) d (now (right .entry)) from r ⌝ }
+    ensures { λ r. ⌜ W.FoundPartner (now (ends .entry)) (now (work .entry)) d (now (right .entry)) from r ⌝ }
 {
     let mut l = from;
     while l != 0 {
@@ -92,7 +92,7 @@ fn partner(work: &[u16], ends: &[u16], right: &[u16], d: usize, l: usize, m: usi
 
 // Writes the join of `l` and `r` behind the first `count`. Answers how many there are then.
 fn put_join(work: &mut [u16], count: usize, l: usize, r: usize, d: usize) -> usize
-    requires { ⌜ W.JoinFits (now work) count l r d ⌝ }
+    requires { ⌜ W.CanJoin (now work) count l r d ⌝ }
     ensures { λ made. ⌜ W.JoinPut (now (work .entry)) count l r d (now (work .exit)) made ⌝ }
 {
     tables::put(work, layout::JOINS, 3 * count, l);
@@ -126,7 +126,7 @@ fn make_join(
     last: &mut [u16],
 ) -> usize
     requires { ⌜ W.Joinable (now work) count l r d (now left) (now right) (now overs) (now first) (now last) ⌝ }
-    ensures { λ made. ⌜ W.Made (now (work .entry)) (joinsIn (now (work .entry)) count ++ (join l r d ∷ []))
+    ensures { λ made. ⌜ W.JoinsMade (now (work .entry)) (joinsIn (now (work .entry)) count ++ (join l r d ∷ []))
         (now (work .exit)) (now (left .exit)) (now (right .exit)) (now (overs .exit)) (now (first .exit)) (now (last .exit)) made ⌝ }
 {
     let made = put_join(work, count, l, r, d);
@@ -153,7 +153,7 @@ fn offer(
     last: &mut [u16],
 ) -> usize
     requires { ⌜ W.Offers (now ends) (now work) d r l count (now left) (now right) (now overs) (now first) (now last) ⌝ }
-    ensures { λ made. ⌜ W.Made (now (work .entry))
+    ensures { λ made. ⌜ W.JoinsMade (now (work .entry))
         (S.offer (R.endersFrom (now (work .entry)) (now (ends .entry)) d l) d r (joinsIn (now (work .entry)) count))
         (now (work .exit)) (now (left .exit)) (now (right .exit)) (now (overs .exit)) (now (first .exit)) (now (last .exit)) made ⌝ }
 {
@@ -184,7 +184,7 @@ fn visit(
     last: &mut [u16],
 ) -> usize
     requires { ⌜ W.Visits (now ends) (now work) d v count (now left) (now right) (now overs) (now first) (now last) ⌝ }
-    ensures { λ made. ⌜ W.Made (now (work .entry))
+    ensures { λ made. ⌜ W.JoinsMade (now (work .entry))
         (S.scan (R.endersAt (now (work .entry)) (now (ends .entry)) d v) d (R.startersAt (now (work .entry)) (now (ends .entry)) d v)
         (joinsIn (now (work .entry)) count))
         (now (work .exit)) (now (left .exit)) (now (right .exit)) (now (overs .exit)) (now (first .exit)) (now (last .exit)) made ⌝ }
@@ -217,7 +217,7 @@ fn walk_row(
     last: &mut [u16],
 ) -> usize
     requires { ⌜ W.RowAsks (now letters) (now ends) n k nodes (now work) d count (now left) (now right) (now overs) (now first) (now last) ⌝ }
-    ensures { λ made. ⌜ W.Made (now (work .entry)) (W.rowWalked (now (letters .entry)) (now (ends .entry)) n k (now (work .entry)) d count) (now (work .exit)) (now (left .exit)) (now (right .exit)) (now (overs .exit)) (now (first .exit)) (now (last .exit)) made ⌝ }
+    ensures { λ made. ⌜ W.JoinsMade (now (work .entry)) (W.rowWalked (now (letters .entry)) (now (ends .entry)) n k (now (work .entry)) d count) (now (work .exit)) (now (left .exit)) (now (right .exit)) (now (overs .exit)) (now (first .exit)) (now (last .exit)) made ⌝ }
 {
     let mut made = count;
     let mut v = tables::at(work, layout::LEVEL, d);

@@ -1,7 +1,7 @@
 -- The steps of composing behind the walk: what each asks and gives.
 --   thirds xs n     == the sum of the overlaps of the first n joins, three numbers each
 --   KeptReal        == the first k numbers of a list are slips of an accepted tray
---   Walked          == the work area after the walk: kept slips and joins
+--   AfterWalk          == the work area after the walk: kept slips and joins
 --   Joined          == the work area and the lists of neighbours after the walk
 --   Pieces          == the pieces of the tray, staged
 --   Finished        == what the last step leaves
@@ -22,11 +22,11 @@ use Rattle.greedy.specs.Legends.{Piece, piecesFor}
 use Rattle.laying.specs.Laying.{staged}
 use Rattle.laying.specs.Chains.{piecesBy, PiecesAsk}
 use Rattle.layout.specs.Layout.{KEPT, JOINS, PLACES}
-use Rattle.layout.specs.Numbered.{Kept}
+use Rattle.layout.specs.Numbered.{SameBelow}
 use Rattle.layout.specs.Staging.{keptIn, joinsIn, Neighbours}
 use Rattle.answers.specs.WorkArea.{WorkKept}
 use Rattle.answers.specs.declared.Composed.{Composed}
-use Rattle.composing.specs.declared.Counts.{Counts}
+use Rattle.composing.specs.declared.LetterCounts.{LetterCounts}
 use Rattle.answers.specs.Composing.{beforeC, composeFault, composedOf, flatJoins, flatPlaces}
 
 abbrev pub thirds : List ℕ → ℕ → ℕ
@@ -39,7 +39,7 @@ pub record KeptReal (s es xs : List ℕ) (k : ℕ) : Type 0 where
   pub few : k ≤ maxSlips
   pub real : (i : ℕ) → i < k → (1 ≤ getD xs i 0) × (getD xs i 0 ≤ length es)
 
-pub record Walked (s es w : List ℕ) (k j : ℕ) : Type 0 where
+pub record AfterWalk (s es w : List ℕ) (k j : ℕ) : Type 0 where
   pub room : workNeed ≤ length w
   pub tray : trayFault s es .number ≡ 0
   pub kept-is : keptIn w k ≡ kept (slipsOf s es) (numbers (slipsOf s es))
@@ -48,7 +48,7 @@ pub record Walked (s es w : List ℕ) (k j : ℕ) : Type 0 where
   pub few-joins : j ≤ maxSlips
 
 pub record Joined (s es w : List ℕ) (k j : ℕ) (left right overs : List ℕ) : Type 0 where
-  pub walked : Walked s es w k j
+  pub walked : AfterWalk s es w k j
   pub neighbours : Neighbours (joinsIn w j) left right overs
 
 -- the pieces by the lists of neighbours, and what staging them asks and gives
@@ -70,17 +70,17 @@ pub record Pieces (s es : List ℕ) (k : ℕ) (xs : List ℕ) : Type 0 where
   pub are : staged xs 0 k ≡ piecesFor counted (slipsOf s es) (numbers (slipsOf s es))
 
 -- what is counted before anything is written
-pub record CountsAre (s es : List ℕ) (c : Counts) : Type 0 where
+pub record LetterCountsAre (s es : List ℕ) (c : LetterCounts) : Type 0 where
   pub letters-are : c .letters ≡ keptLetters (whole (slipsOf s es))
   pub saved-are : c .saved ≡ saved (joinsOf (whole (slipsOf s es)))
   pub need-is : c .need ≡ length (legendOf (whole (slipsOf s es)))
 
 -- the answer made of the counts
-abbrev pub outcomeBy : ℕ → ℕ → Counts → ℕ → Composed
+abbrev pub outcomeBy : ℕ → ℕ → LetterCounts → ℕ → Composed
 outcomeBy slips k c j =
     record { number = 0; detail = 0; slips = slips; kept = k; letters = c .letters; saved = c .saved; legend = c .need; joins = j }
 
-pub record OutcomeAsks (slips k : ℕ) (c : Counts) (j : ℕ) : Type 0 where
+pub record OutcomeAsks (slips k : ℕ) (c : LetterCounts) (j : ℕ) : Type 0 where
   pub slips-fit : slips < 2 ^ 32
   pub kept-fit : k < 2 ^ 32
   pub letters-fit : c .letters < 2 ^ 32
@@ -101,13 +101,13 @@ pub record PlacingAsks (s es w t : List ℕ) (xs : List ℕ) (k : ℕ) : Type 0 
   pub legend-is : t ≡ legendOf (whole (slipsOf s es))
   pub pieces : Pieces s es k xs
 
-pub record Placed (s es w w′ : List ℕ) : Type 0 where
-  pub below : Kept PLACES w w′
+pub record PlacesWritten (s es w w′ : List ℕ) : Type 0 where
+  pub below : SameBelow PLACES w w′
   pub places-are : table w′ PLACES (2 * length es) ≡ flatPlaces (whole (slipsOf s es))
 
 pub record Written (s es w w′ l l′ : List ℕ) : Type 0 where
   pub legend-is : l′ ≡ over (legendOf (whole (slipsOf s es))) l
-  pub placed : Placed s es w w′
+  pub placed : PlacesWritten s es w w′
 
 pub record Finished (s es w w′ l l′ : List ℕ) (j p : ℕ) (r : Composed) : Type 0 where
   pub answer-is : r ≡ composedOf s es (length w) (length l) j p

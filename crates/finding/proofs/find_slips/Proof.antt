@@ -41,10 +41,10 @@ use denote.Triple.Bound.{Bound}
 use denote.Triple.Table.{entered, cited}
 use denote.Triple.Walked.{Stays, gave-slice, stay-none-slice, walkOf, goes-gave-slice, goes-none-slice}
 use Rattle.words.specs.Lists.{over}
-use Rattle.stores.specs.Firsts.{firsts}
-use Rattle.stores.proofs.Walking.{begun, calls-to, ends-with, meets-by}
-use Rattle.stores.proofs.Locals.{full, frees-behind, relends}
-use Rattle.stores.proofs.Lending.{lends, takes-back, twice}
+use Rattle.record_loops.specs.Firsts.{firsts}
+use Rattle.record_loops.proofs.Walking.{begun, calls-to, ends-with, meets-by}
+use Rattle.record_loops.proofs.Locals.{full, frees-behind, relends}
+use Rattle.record_loops.proofs.Lending.{lends, takes-back, twice}
 use Rattle.answers.specs.declared.Found.{Found}
 use Rattle.searching.specs.declared.Begun.{Begun}
 use Rattle.searching.specs.steps.Searching.{foundAt, Left, CoreSays}

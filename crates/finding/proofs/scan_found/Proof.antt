@@ -1,5 +1,5 @@
 -- `scan_found` meets its contract: the scanning loop of `stores`, over `next_found`.
-use Rattle.stores.proofs.Scan.{scanned-by}
+use Rattle.record_loops.proofs.Scan.{scanned-by}
 use Rattle.searching.specs.steps.Searching.{foundAt, Ready, Next, Enough, Left}
 use Rattle.searching.proofs.Telling.{Telling, telling-start, telling-ready, telling-more}
 use Rattle.answers.proofs.Found as T

@@ -1,6 +1,6 @@
 -- Occurrences stored as numbers.
 --   FlatTo .. i o o′   == the first i occurrences are written over the numbers o
---   CanFlat, Flattened == what storing count of them asks, and leaves
+--   CanFlat, NumbersStored == what storing count of them asks, and leaves
 use mathlib.Core.Path.{_≡_}
 use mathlib.Core.List.{List}
 use Prim.Native.Nat.{ℕ, _*_, _≤_}
@@ -18,6 +18,6 @@ pub record CanFlat (s es t : List ℕ) (count : ℕ) (w o : List ℕ) : Type 0 w
   pub room : 2 * count ≤ length o
   pub enough : Enough s es t count w
 
-pub record Flattened (s es t : List ℕ) (count : ℕ) (w w′ o o′ : List ℕ) : Type 0 where
+pub record NumbersStored (s es t : List ℕ) (count : ℕ) (w w′ o o′ : List ℕ) : Type 0 where
   pub found-are : FlatTo s es t count o o′
   pub left : Left s es t count w w′

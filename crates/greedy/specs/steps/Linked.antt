@@ -1,5 +1,5 @@
 -- Joins that make chains, and tables that tell their ends.
---   Linked js                == the slips joined have numbers from 1, and the joins are apart from each other
+--   Chained js                == the slips joined have numbers from 1, and the joins are apart from each other
 --   Threads js lasts firsts  == lasts i is the last slip of the chain that i begins, firsts e the first of the chain that e ends
 --   putAt f at v             == the table f with v at the place at
 use mathlib.Core.Path.{_≡_}
@@ -13,7 +13,7 @@ use Rattle.greedy.specs.Joins.{Join, rightOf, leftOf, lastOf}
 abbrev pub Apart : Join → Join → Type 0
 Apart a b = (a .left ≡ b .left → ⊥) × (a .right ≡ b .right → ⊥)
 
-pub record Linked (js : List Join) : Type 0 where
+pub record Chained (js : List Join) : Type 0 where
   pub real : (j : Join) → In j js → (1 ≤ j .left) × (1 ≤ j .right)
   pub apart : Asc Apart js
 

@@ -37,22 +37,22 @@ use denote.Triple.Bound.{Bound}
 use denote.Triple.Table.{entered, cited}
 use denote.Triple.Walked.{Stays, gave-slice, stay-none-slice, walkOf, goes-gave-slice, goes-none-slice}
 use Rattle.words.specs.Lists.{over}
-use Rattle.stores.specs.Firsts.{firsts}
-use Rattle.stores.proofs.Walking.{begun, calls-to, ends-with, meets-by}
-use Rattle.stores.proofs.Locals.{full, frees-behind, relends}
-use Rattle.stores.proofs.Lending.{lends, takes-back, shares, twice}
+use Rattle.record_loops.specs.Firsts.{firsts}
+use Rattle.record_loops.proofs.Walking.{begun, calls-to, ends-with, meets-by}
+use Rattle.record_loops.proofs.Locals.{full, frees-behind, relends}
+use Rattle.record_loops.proofs.Lending.{lends, takes-back, shares, twice}
 use Rattle.answers.proofs.Composed as R
 use Rattle.answers.proofs.Composed.Laws as R′
 use Rattle.answers.specs.declared.Join.{Join}
 use Rattle.answers.specs.declared.Place.{Place}
-use Rattle.legends.specs.declared.Counted.{Counted}
+use Rattle.legends.specs.declared.ToStore.{ToStore}
 use Rattle.legends.specs.steps.Made.{joinAt, placeAt}
 use Rattle.legends.specs.steps.Made.{StagedCounts}
 use Rattle.legends.proofs.Composing.{joins-can, places-can, composing-says}
 use Rattle.answers.proofs.Join as J
 use Rattle.answers.proofs.Place as P
-use Rattle.legends.proofs.Counted as S
-use Rattle.legends.proofs.Counted.Laws as S′
+use Rattle.legends.proofs.ToStore as S
+use Rattle.legends.proofs.ToStore.Laws as S′
 use Rattle.legends.proofs.staged as core
 use Rattle.legends.proofs.staged.Symbol as core-def
 use Rattle.legends.proofs.staged.Met as core-thm
@@ -102,10 +102,10 @@ module _ {M : Type 1} (𝓤 : URA M) (H : Heap 𝓤) (A : Atoms 𝓤) (W : Given
     to-places γ ns n = ((κ₂, (κ₅, tt)), (q₂, (q₅, tt)), tt, (work γ ns, (ps, (n, tt))), (slice-vals wk, (slice-vals ps, (vint w64 n ∷ [], tt))))
 
     -- what whoever holds the staged answer knows of its numbers
-    joins-small : (r : Counted) {w : Val} → Is S.the-row r (w ∷ []) → r .joins < 2 ^ 64
+    joins-small : (r : ToStore) {w : Val} → Is S.the-row r (w ∷ []) → r .joins < 2 ^ 64
     joins-small r is = LL.owed S.the-type S′.the-laws r _ is .1 .0 .1
 
-    places-small : (r : Counted) {w : Val} → Is S.the-row r (w ∷ []) → r .places < 2 ^ 64
+    places-small : (r : ToStore) {w : Val} → Is S.the-row r (w ∷ []) → r .places < 2 ^ 64
     places-small r is = LL.owed S.the-type S′.the-laws r _ is .1 .1 .0 .1
 
     module _ (C : Calls 𝓤 H) (Λ : Loops 𝓤 H) (fm : FmC 𝓤 H (W .laws) C) (core-known : Triple 𝓤 (C core-def.name) Core) (joins-known : Triple 𝓤 (C joins-def.name) Joins) (places-known : Triple 𝓤 (C places-def.name) Places) where

@@ -2,7 +2,7 @@
 use Prim.Native.Nat.{_+_, _-_, _*_, _≤_}
 use native.Mathlib.Omega.{arith}
 use lib.ListN.{length}
-use Rattle.stores.proofs.Loop.{stored-by}
+use Rattle.record_loops.proofs.Loop.{stored-by}
 use Rattle.layout.specs.Layout.{JOINS}
 use Rattle.legends.specs.steps.Made.{joinAt}
 use Rattle.answers.proofs.Join as T

@@ -11,7 +11,7 @@ use Rattle.layout.specs.Tables.{cell}
 use Rattle.composing.specs.steps.Composing.{Staged}
 use Rattle.answers.specs.declared.Join.{Join}
 use Rattle.answers.specs.declared.Place.{Place}
-use Rattle.legends.specs.declared.Counted.{Counted}
+use Rattle.legends.specs.declared.ToStore.{ToStore}
 
 abbrev pub joinAt : List ℕ → ℕ → Join
 joinAt w i = record { left = cell w JOINS (3 * i); right = cell w JOINS (3 * i + 1); overlap = cell w JOINS (3 * i + 2) }
@@ -20,7 +20,7 @@ abbrev pub placeAt : List ℕ → ℕ → Place
 placeAt w i = record { slip = i + 1; place = cell w PLACES (2 * i); kept = eqb (cell w PLACES (2 * i + 1)) 1 }
 
 -- the counts of the answer, as numbers of elements
-pub record StagedCounts (s es w w′ l l′ : List ℕ) (j p : ℕ) (r : Counted) : Type 0 where
+pub record StagedCounts (s es w w′ l l′ : List ℕ) (j p : ℕ) (r : ToStore) : Type 0 where
   pub stages : Staged s es w w′ l l′ j p (r .answer)
   pub joins-is : r .joins ≡ r .answer .joins
   pub places-is : r .places ≡ r .answer .slips

@@ -4,13 +4,13 @@ use native.Mathlib.Omega.{arith}
 use borrow.Author.Needs.{needs}
 use Prim.Native.Nat.{_≤_, _-_}
 use mathlib.Core.Logic.{⊎-elim}
-use Rattle.numbering.specs.Stages.{Staged}
+use Rattle.numbering.specs.Stages.{AtStage}
 use Rattle.numbering.proofs.StageLoops.{level-slip, level-start, level-letterable, level-letter, level-short, level-few, level-room, level-done}
 use Rattle.numbering.proofs.number_level.Statement.{statement}
 use Rattle.numbering.proofs.number_level.Tie as tie
 
 abbrev Inv-loop : tie.InvT-loop
-Inv-loop letters ends work₀ n c count k₀ r₀ work k r = (r ≤ n) × Staged letters ends n c r work₀ k work
+Inv-loop letters ends work₀ n c count k₀ r₀ work k r = (r ≤ n) × AtStage letters ends n c r work₀ k work
 
 abbrev μ-loop : tie.MeasureT-loop
 μ-loop letters ends work₀ n c count k₀ r₀ work k r = n - r

@@ -2,13 +2,13 @@
 use borrow.Author.Needs.{needs}
 use Prim.Native.Nat.{_≤_, _-_}
 use Rattle.trays.specs.Limits.{maxSlip}
-use Rattle.numbering.specs.Stages.{Staged}
+use Rattle.numbering.specs.Stages.{AtStage}
 use Rattle.numbering.proofs.StageLoops.{nodes-begin, nodes-next, nodes-all}
 use Rattle.numbering.proofs.number_nodes.Statement.{statement}
 use Rattle.numbering.proofs.number_nodes.Tie as tie
 
 abbrev Inv-loop : tie.InvT-loop
-Inv-loop letters ends work₀ n count₀ c₀ work count c = (c ≤ maxSlip) × Staged letters ends n c 0 work₀ count work
+Inv-loop letters ends work₀ n count₀ c₀ work count c = (c ≤ maxSlip) × AtStage letters ends n c 0 work₀ count work
 
 abbrev μ-loop : tie.MeasureT-loop
 μ-loop letters ends work₀ n count₀ c₀ work count c = maxSlip - c

@@ -18,7 +18,8 @@ use Rattle.matching.specs.Occurrences as O
 use Rattle.matching.specs.Occurrences.{occurrences}
 use Rattle.layout.specs.Tables.{cell, members}
 use Rattle.outputs.specs.Outputs.{Told}
-use Rattle.scanning.specs.Scanning.{SCAN, Standing, scanIn}
+use Rattle.scanning.specs.Scanning.{Standing, scanIn}
+use Rattle.layout.specs.Layout.{SCAN}
 use Rattle.answers.specs.declared.Found.{Found}
 use Rattle.searching.specs.declared.Begun.{Begun}
 use Rattle.answers.specs.Finding.{findBefore, Answered}
@@ -36,7 +37,7 @@ abbrev pub scanAt : List ℕ → List ℕ → List ℕ → ℕ → List ℕ → 
 scanAt s es t i w = Standing s es t (length es) (cell w SCAN 0) w (scanIn w i)
 
 abbrev pub foundAt : List ℕ → List ℕ → List ℕ → ℕ → Found
-foundAt s es t i = foundRecord (getD (occurrences (slipsOf s es) t) i (O.found 0 0))
+foundAt s es t i = foundRecord (getD (occurrences (slipsOf s es) t) i (O.occurrence 0 0))
 
 pub record Ready (s es t : List ℕ) (i : ℕ) (w : List ℕ) : Type 0 where
   pub scan : scanAt s es t i w

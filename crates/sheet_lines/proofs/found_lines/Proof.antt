@@ -1,7 +1,7 @@
 -- Invariant: the lines of the first i occurrences stand in `out` from `at` up to `next`, and the rest of `out` is as it was.
 use Prim.Native.Nat.{_-_, _*_, _≤_}
 use Rattle.sheets.specs.Sheets.{foundSize, lines, foundLineAt}
-use Rattle.sheet_lines.specs.steps.Lines.{Put}
+use Rattle.sheet_lines.specs.steps.Lines.{Wrote}
 use Rattle.sheet_lines.proofs.Puts.{put-none}
 use Rattle.sheet_lines.proofs.LineLoops.{founds-end, found-place, found-slip, found-turn}
 use native.Mathlib.Omega.{arith}
@@ -10,7 +10,7 @@ use Rattle.sheet_lines.proofs.found_lines.Statement.{statement}
 use Rattle.sheet_lines.proofs.found_lines.Tie as tie
 
 abbrev Inv-loop : tie.InvT-loop
-Inv-loop out₀ at found count next₀ i₀ out next i = (i ≤ count) × Put at (foundSize * i) (lines (foundLineAt found) i) out₀ out next
+Inv-loop out₀ at found count next₀ i₀ out next i = (i ≤ count) × Wrote at (foundSize * i) (lines (foundLineAt found) i) out₀ out next
 
 abbrev μ-loop : tie.MeasureT-loop
 μ-loop out₀ at found count next₀ i₀ out next i = count - i

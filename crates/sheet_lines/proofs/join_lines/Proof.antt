@@ -1,7 +1,7 @@
 -- Invariant: the lines of the first i joins stand in `out` from `at` up to `next`, and the rest of `out` is as it was.
 use Prim.Native.Nat.{_-_, _*_, _≤_}
 use Rattle.sheets.specs.Sheets.{joinSize, lines, joinLineAt}
-use Rattle.sheet_lines.specs.steps.Lines.{Put}
+use Rattle.sheet_lines.specs.steps.Lines.{Wrote}
 use Rattle.sheet_lines.proofs.Puts.{put-none}
 use Rattle.sheet_lines.proofs.LineLoops.{joins-end, join-left, join-right, join-shared, join-turn}
 use native.Mathlib.Omega.{arith}
@@ -10,7 +10,7 @@ use Rattle.sheet_lines.proofs.join_lines.Statement.{statement}
 use Rattle.sheet_lines.proofs.join_lines.Tie as tie
 
 abbrev Inv-loop : tie.InvT-loop
-Inv-loop out₀ at joins n next₀ i₀ out next i = (i ≤ n) × Put at (joinSize * i) (lines (joinLineAt joins) i) out₀ out next
+Inv-loop out₀ at joins n next₀ i₀ out next i = (i ≤ n) × Wrote at (joinSize * i) (lines (joinLineAt joins) i) out₀ out next
 
 abbrev μ-loop : tie.MeasureT-loop
 μ-loop out₀ at joins n next₀ i₀ out next i = n - i

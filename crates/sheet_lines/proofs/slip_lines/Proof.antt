@@ -4,7 +4,7 @@ use Prim.Native.Nat.{_-_, _*_, _≤_}
 use mathlib.Core.Path.{_≡_, refl}
 use lib.ListN.{length}
 use Rattle.sheets.specs.Sheets.{slipSize, lines, slipLineAt}
-use Rattle.sheet_lines.specs.steps.Lines.{Put}
+use Rattle.sheet_lines.specs.steps.Lines.{Wrote}
 use Rattle.trays.specs.Slips.{endOf}
 use Rattle.sheet_lines.proofs.Puts.{put-none}
 use Rattle.sheet_lines.proofs.LineLoops.{slips-end, slip-rises, slip-small, slip-placed, slip-turn, here-turn}
@@ -15,7 +15,7 @@ use Rattle.sheet_lines.proofs.slip_lines.Tie as tie
 
 abbrev Inv-loop : tie.InvT-loop
 Inv-loop out₀ at ends places next₀ here₀ i₀ out next here i =
-    (i ≤ length ends) × (here ≡ endOf ends i) × Put at (slipSize * i) (lines (slipLineAt ends places) i) out₀ out next
+    (i ≤ length ends) × (here ≡ endOf ends i) × Wrote at (slipSize * i) (lines (slipLineAt ends places) i) out₀ out next
 
 abbrev μ-loop : tie.MeasureT-loop
 μ-loop out₀ at ends places next₀ here₀ i₀ out next here i = length ends - i

@@ -1,6 +1,6 @@
 -- What the functions that write lines into a lent buffer ask and leave.
---   behind at ys old        == a lent buffer that held old, with ys written behind its first `at` bytes
---   Put at n ys old new r   == that was done, with n bytes, and r is where the next one goes
+--   writtenBehind at ys old        == a lent buffer that held old, with ys written writtenBehind its first `at` bytes
+--   Wrote at n ys old new r   == that was done, with n bytes, and r is where the next one goes
 --   Printed ys old new r    == ys was written from the start on, and r counts its bytes
 --   ..Fits, ..Fit           == numbers that fit their columns
 --   ..Asks                  == what a function asks: such numbers, and room for the sheet
@@ -13,11 +13,11 @@ use Rattle.trays.specs.Slips.{endOf}
 use Rattle.answers.specs.declared.Composed.{Composed}
 use Rattle.sheets.specs.Sheets.{placeWidth, countWidth, traySize, slipSize, joinSize, findSize, foundSize}
 
-abbrev pub behind : ℕ → List ℕ → List ℕ → List ℕ
-behind at ys old = take at old ++ over ys (drop at old)
+abbrev pub writtenBehind : ℕ → List ℕ → List ℕ → List ℕ
+writtenBehind at ys old = take at old ++ over ys (drop at old)
 
-pub record Put (at n : ℕ) (ys old new : List ℕ) (r : ℕ) : Type 0 where
-  pub is : new ≡ behind at ys old
+pub record Wrote (at n : ℕ) (ys old new : List ℕ) (r : ℕ) : Type 0 where
+  pub is : new ≡ writtenBehind at ys old
   pub many : length ys ≡ n
   pub room : at + n ≤ length old
   pub size : length new ≡ length old

@@ -1,0 +1,2 @@
+-- The tables read off the automaton for composing.
+pub mod KeptLists

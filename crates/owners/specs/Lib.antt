@@ -1,2 +1,0 @@
--- The tables read off the automaton for composing.
-pub mod Owners
