@@ -144,6 +144,6 @@ find-fits s es t acc small =
     let few : length (slipsOf s es) ≤ maxSlips = compose-fits s es acc .slips in
     record {
       moves-few = omega (arith, few-moves s es t acc);
-      occurrence = occurrences-fit (slipsOf s es) few t small;
+      found = occurrences-fit (slipsOf s es) few t small;
       count = occurrences-few (slipsOf s es) few t small;
     }

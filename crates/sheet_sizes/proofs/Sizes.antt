@@ -177,7 +177,7 @@ module _ (s es : List ℕ) (acc : trayFault s es .number ≡ 0) where
           letters = omega arith;
           moves = omega (arith, find-fits s es t acc small .moves-few);
           count = omega arith;
-          occurrence = found-fit;
+          found = found-fit;
           room-is = omega arith;
         }
 
