@@ -11,7 +11,7 @@ use Prim.Native.Nat.{ℕ, suc, _+_, _≤_, _<_}
 use native.Mathlib.Numerals.{add-one}
 use native.Mathlib.Omega.{arith}
 use lib.ListN.{length, length-append}
-use Rattle.words.specs.Lists.{those, headOr, tailOf}
+use Rattle.words.specs.Lists.{headOr, tailOf}
 use Rattle.words.specs.Words.{same}
 use Rattle.words.proofs.Tests.{tell}
 use Rattle.words.proofs.Orders.{same-is, same-at}
@@ -28,7 +28,7 @@ use Rattle.layout.specs.Tables.{cell, members, owners}
 use Rattle.layout.specs.Numbered.{patternsIn, Numbered}
 use Rattle.kept_lists.specs.KeptLists.{Judged}
 use Rattle.layout.proofs.Heads.{linked-head}
-use Rattle.kept_lists.proofs.MemberNodes.{in-member, node-num}
+use Rattle.heads.proofs.MemberNodes.{in-member, node-num}
 
 -- the first of an ascending list
 head-least : (xs : List ℕ) (k : ℕ) → Asc _<_ xs → In k xs → headOr 0 xs ≤ k

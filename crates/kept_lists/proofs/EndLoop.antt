@@ -13,7 +13,7 @@ use mathlib.Core.List.{List, [], _∷_}
 use Prim.Native.Nat.{ℕ, _+_, _-_, _≤_, _<_}
 use native.Mathlib.Decide.{ℕ-discrete, decLt}
 use native.Mathlib.Omega.{arith}
-use lib.Dec.{ltb, leb}
+use lib.Dec.{ltb}
 use lib.ListN.{length, drop, replicate, drop-of-length-le}
 use borrow.Author.Tests.{ltb-true, ltb-false, lt-ltb, le-ltb, le-leb}
 use Rattle.words.specs.Lists.{tailOf}
@@ -34,14 +34,15 @@ use Rattle.matching.proofs.Finds.{endsProperly-fail}
 use Rattle.matching.proofs.Numbered.{fail-shorter}
 use Rattle.matching.proofs.NodeLaws.{node-root, node-some, node-one}
 use Rattle.layout.specs.Layout.{AT, FAIL, LEVEL, KEPT, STARTS, ENDS, ENDS-NEXT}
-use Rattle.layout.specs.Tables.{cell, members, enders}
+use Rattle.layout.specs.Tables.{cell, enders}
 use Rattle.layout.specs.Numbered.{patternsIn, Numbered, SameBelow}
 use Rattle.layout.specs.Staging.{keptIn}
 use Rattle.layout.proofs.Frames.{kept-lower, members-kept}
-use Rattle.kept_lists.specs.KeptLists.{CanPush, Pushed, Lists, endKey, KeptFound, Ending, Ended, EndsFilled}
-use Rattle.kept_lists.proofs.Threading.{front, those-front, in-front, push-lists}
-use Rattle.kept_lists.proofs.Keeping.{kept-refl, kept-trans, kept-filled, kept-pushed}
-use Rattle.kept_lists.proofs.MemberNodes.{Member, member-node, node-num, node-most, num-most}
+use Rattle.kept_lists.specs.KeptLists.{endKey, KeptFound, Ending, Ended, EndsFilled}
+use Rattle.heads.specs.Heads.{CanPush, Pushed, Lists}
+use Rattle.heads.proofs.Threading.{front, those-front, in-front, push-lists}
+use Rattle.heads.proofs.Keeping.{kept-refl, kept-trans, kept-filled, kept-pushed}
+use Rattle.heads.proofs.MemberNodes.{Member, member-node, node-num, node-most, num-most}
 use Rattle.kept_lists.proofs.KeptMembers.{kept-length, got-kept, drop-got, kept-apart, kept-same, staged-kept}
 
 -- proper endings and failures

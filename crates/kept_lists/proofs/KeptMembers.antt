@@ -20,8 +20,8 @@ use Rattle.layout.specs.Numbered.{SameBelow}
 use Rattle.layout.specs.Staging.{keptIn}
 use Rattle.layout.proofs.Frames.{kept-lower, members-kept, automaton-kept}
 use Rattle.kept_lists.specs.KeptLists.{KeptFound}
-use Rattle.kept_lists.proofs.Threading.{in-drop, drop-here, drop-later}
-use Rattle.kept_lists.proofs.MemberNodes.{Member, in-member, spans-apart}
+use Rattle.heads.proofs.Threading.{in-drop, drop-here, drop-later}
+use Rattle.heads.proofs.MemberNodes.{Member, in-member, spans-apart}
 
 module _ {s es : List ℕ} {n k count : ℕ} {w : List ℕ} (S : KeptFound s es n k count w) where
   pub kept-length : length (keptIn w k) ≡ k

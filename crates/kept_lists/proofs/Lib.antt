@@ -1,8 +1,4 @@
 -- The loops that read the tables off the automaton, and the proofs of the functions.
-pub mod Threading
-pub mod MemberNodes
-pub mod Keeping
-pub mod HeadLoop
 pub mod MarkLoop
 pub mod AsideTest
 pub mod KeptLoop

@@ -15,8 +15,8 @@ use Rattle.layout.specs.Tables.{cell}
 use Rattle.layout.specs.Numbered.{patternsIn, Numbered, SameBelow, Headed}
 use Rattle.layout.proofs.Frames.{patterns-kept}
 use Rattle.kept_lists.specs.KeptLists.{MarksFilled}
-use Rattle.kept_lists.proofs.Keeping.{kept-trans, kept-filled, kept-put}
-use Rattle.kept_lists.proofs.MemberNodes.{node-most, num-most}
+use Rattle.heads.proofs.Keeping.{kept-trans, kept-filled, kept-put}
+use Rattle.heads.proofs.MemberNodes.{node-most, num-most}
 use Rattle.layout.proofs.Heads.{headed-kept}
 
 pub record Marking (s es : List ℕ) (n count : ℕ) (w : List ℕ) (v : ℕ) : Type 0 where

@@ -15,10 +15,11 @@ use Rattle.layout.specs.Tables.{cell, members, starters, StartsIs}
 use Rattle.layout.specs.Numbered.{patternsIn, SameBelow}
 use Rattle.layout.specs.Staging.{keptIn}
 use Rattle.layout.proofs.Frames.{kept-lower, members-kept}
-use Rattle.kept_lists.specs.KeptLists.{KeptFound, HeadsFilled, MarksFilled, KeptFilled, StartsFilled, EndsFilled, ListsFilled}
+use Rattle.kept_lists.specs.KeptLists.{KeptFound, MarksFilled, KeptFilled, StartsFilled, EndsFilled, ListsFilled}
+use Rattle.heads.specs.Heads.{HeadsFilled}
 use Rattle.layout.proofs.Heads.{linked-same}
-use Rattle.kept_lists.proofs.Keeping.{kept-trans}
-use Rattle.kept_lists.proofs.MemberNodes.{num-most}
+use Rattle.heads.proofs.Keeping.{kept-trans}
+use Rattle.heads.proofs.MemberNodes.{num-most}
 use Rattle.kept_lists.proofs.KeptMembers.{kept-member, kept-same}
 
 -- what is written behind STARTS-NEXT leaves its lists as they are

@@ -28,14 +28,15 @@ use Rattle.tables.proofs.Tables.{filled-at, replicate-at}
 use Rattle.matching.specs.Nodes.{string, IsNode, Num}
 use Rattle.matching.proofs.NodeLaws.{node-some, node-one}
 use Rattle.layout.specs.Layout.{AT, KEPT, STARTS, STARTS-NEXT}
-use Rattle.layout.specs.Tables.{cell, members, starters}
+use Rattle.layout.specs.Tables.{cell, starters}
 use Rattle.layout.specs.Numbered.{patternsIn, Numbered, SameBelow}
 use Rattle.layout.specs.Staging.{keptIn}
 use Rattle.layout.proofs.Frames.{members-kept}
-use Rattle.kept_lists.specs.KeptLists.{CanPush, Pushed, Lists, startKey, KeptFound, Starting, StartsTo, StartsFilled}
-use Rattle.kept_lists.proofs.Threading.{front, those-front, in-front, push-lists}
-use Rattle.kept_lists.proofs.Keeping.{kept-refl, kept-trans, kept-filled, kept-pushed}
-use Rattle.kept_lists.proofs.MemberNodes.{Member, node-num, node-most, num-most}
+use Rattle.kept_lists.specs.KeptLists.{startKey, KeptFound, Starting, StartsTo, StartsFilled}
+use Rattle.heads.specs.Heads.{CanPush, Pushed, Lists}
+use Rattle.heads.proofs.Threading.{front, those-front, in-front, push-lists}
+use Rattle.heads.proofs.Keeping.{kept-refl, kept-trans, kept-filled, kept-pushed}
+use Rattle.heads.proofs.MemberNodes.{Member, node-num, node-most, num-most}
 use Rattle.kept_lists.proofs.KeptMembers.{kept-length, got-kept, drop-got, kept-apart, kept-same, staged-kept}
 
 abbrev reached : List (List ℕ) → List ℕ → ℕ → List ℕ → ℕ → ℕ → Bool

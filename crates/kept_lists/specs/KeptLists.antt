@@ -1,8 +1,5 @@
 -- What the functions that read the tables off the automaton ask and leave, in the work area w of a tray with letters s and ends es. Its n
 -- members stand in w, and the nodes of their letters have the numbers up to count. Each leaves the cells below its own tables as they were.
---   Among .. i                 == i is one of the members
---   Pushed w h u x p i w′      == w′ is w with i put before the list of node u, whose heads stand at h, and the rest of it at place p of x
---   Lists P key head next list == for every v of P: from head v along next run the numbers of list v, where next of r stands at key v r
 --   startKey, endKey           == the place of a node's last letter in a slip that begins with it, of its first in a slip that ends with it
 --   MarkIs ps fail mark        == mark is 1 exactly at the nodes that are the failure link of a node
 --   Marked                     == HEAD, TWIN and MARK are filled
@@ -13,48 +10,23 @@
 use mathlib.Core.Path.{_≡_}
 use mathlib.Core.List.{List}
 use Prim.Native.Nat.{ℕ, _+_, _-_, _≤_, _<_}
-use lib.ListN.{length, getD, drop}
+use lib.ListN.{length, drop}
 use Rattle.words.specs.Members.{In}
 use Rattle.trays.specs.Limits.{maxSlips}
 use Rattle.trays.specs.Slips.{slipsOf, startOf, endOf}
 use Rattle.trays.specs.Aside.{kept}
 use Rattle.matching.specs.Nodes.{nodes, string, Num}
 use Rattle.layout.specs.Layout.{FAIL, HEAD, MARK, KEPT, STARTS, STARTS-NEXT, ENDS, ENDS-NEXT}
-use Rattle.layout.specs.Tables.{cell, members, Linked, starters, enders, StartsIs, EndsIs}
+use Rattle.layout.specs.Tables.{cell, members, starters, enders, StartsIs, EndsIs}
 use Rattle.layout.specs.Numbered.{patternsIn, Automaton, SameBelow, Headed}
 use Rattle.layout.specs.Staging.{keptIn}
-
--- a member of the automaton
-pub record Among (s es : List ℕ) (n count : ℕ) (w : List ℕ) (i : ℕ) : Type 0 where
-  pub automaton : Automaton s es n count w
-  pub member : In i (members w n)
-
--- one more number before a list
-pub record CanPush (w : List ℕ) (heads u nexts p i : ℕ) : Type 0 where
-  pub head : heads + u < nexts
-  pub next : nexts + p < length w
-  pub small : i < 65536
-
-pub record Pushed (w : List ℕ) (heads u nexts p i : ℕ) (w′ : List ℕ) : Type 0 where
-  pub same : length w′ ≡ length w
-  pub head : cell w′ heads u ≡ i
-  pub next : cell w′ nexts p ≡ cell w heads u
-  pub others : (q : ℕ) → (q ≡ heads + u → ⊥) → (q ≡ nexts + p → ⊥) → getD w′ q 0 ≡ getD w q 0
-
--- lists threaded through a table
-abbrev pub Lists : (ℕ → Type 0) → (ℕ → ℕ → ℕ) → (ℕ → ℕ) → (ℕ → ℕ) → (ℕ → List ℕ) → Type 0
-Lists P key head next list = (v : ℕ) → P v → Linked (λ r. next (key v r)) (head v) (list v)
+use Rattle.heads.specs.Heads.{Lists}
 
 abbrev pub startKey : List (List ℕ) → List ℕ → ℕ → ℕ → ℕ
 startKey ps es v r = startOf es r + (length (string ps v) - 1)
 
 abbrev pub endKey : List (List ℕ) → List ℕ → ℕ → ℕ → ℕ
 endKey ps es v l = endOf es l - length (string ps v)
-
--- HEAD, TWIN
-pub record HeadsFilled (s es : List ℕ) (n count : ℕ) (w w′ : List ℕ) : Type 0 where
-  pub headed : Headed s es n count w′
-  pub below : SameBelow HEAD w w′
 
 -- MARK
 pub record MarkIs (ps : List (List ℕ)) (fail mark : ℕ → ℕ) : Type 0 where

@@ -4,46 +4,9 @@ ghost use mathlib.Core.Path.{_≡_};
 ghost use Prim.Native.Nat.{_+_};
 ghost use Rattle.trays.specs.Slips.{slip, slipsOf};
 ghost use Rattle.trays.specs.Aside.{isAside};
-ghost use Rattle.matching.specs.Nodes.{IsNode};
 ghost use Rattle.layout.specs.Tables.{members};
-ghost use Rattle.layout.specs.Numbered.{patternsIn, Automaton, Headed};
+ghost use Rattle.layout.specs.Numbered.{Automaton, Headed};
 ghost use Rattle.kept_lists.specs.KeptLists as O;
-
-// Puts `i` before the list of node `u`: the heads of the lists stand at `heads`, and what is behind `i` goes to place `p` of `nexts`.
-fn push(work: &mut [u16], heads: usize, u: usize, nexts: usize, p: usize, i: usize)
-    requires { ⌜ O.CanPush (now work) heads u nexts p i ⌝ }
-    ensures { λ _. ⌜ O.Pushed (now (work .entry)) heads u nexts p i (now (work .exit)) ⌝ }
-{
-    let first = tables::at(work, heads, u);
-    tables::put(work, nexts, p, first);
-    tables::put(work, heads, u, i);
-}
-
-// The node of all letters of member `i`: that of its last letter.
-fn node_of(letters: &[u8], ends: &[u16], work: &[u16], n: usize, count: usize, i: usize) -> usize
-    requires { ⌜ O.Among (now letters) (now ends) n count (now work) i ⌝ }
-    ensures { λ r. ⌜ IsNode (patternsIn (now (letters .entry)) (now (ends .entry)) n (now (work .entry))) r
-        (slip (slipsOf (now (letters .entry)) (now (ends .entry))) i) ⌝ }
-{
-    let span = spans::slip_span(ends, i);
-    let end = span.end;
-    tables::at(work, layout::AT, end - 1)
-}
-
-// Fills HEAD and TWIN: from the last member on, each goes before those of its node, so that these ascend.
-pub fn fill_heads(letters: &[u8], ends: &[u16], work: &mut [u16], n: usize, count: usize)
-    requires { ⌜ Automaton (now letters) (now ends) n count (now work) ⌝ }
-    ensures { λ _. ⌜ O.HeadsFilled (now (letters .entry)) (now (ends .entry)) n count (now (work .entry)) (now (work .exit)) ⌝ }
-{
-    tables::clear(work, layout::HEAD, count + 1);
-    let mut j = n;
-    while 0 < j {
-        j -= 1;
-        let i = tables::at(work, layout::MEMBERS, j);
-        let v = node_of(letters, ends, work, n, count, i);
-        push(work, layout::HEAD, v, layout::TWIN, i, i);
-    }
-}
 
 // Fills MARK.
 pub fn fill_marks(letters: &[u8], ends: &[u16], work: &mut [u16], n: usize, count: usize)
@@ -64,7 +27,7 @@ fn is_aside(letters: &[u8], ends: &[u16], work: &[u16], n: usize, count: usize, 
     requires { ⌜ O.Judged (now letters) (now ends) n count (now work) i ⌝ }
     ensures { λ r. ⌜ r ≡ isAside (slipsOf (now (letters .entry)) (now (ends .entry))) (members (now (work .entry)) n) i ⌝ }
 {
-    let f = node_of(letters, ends, work, n, count, i);
+    let f = heads::node_of(letters, ends, work, n, count, i);
     let kid = tables::at(work, layout::KID, f);
     let end = tables::at(work, layout::KID, f + 1);
     if kid < end {
@@ -121,7 +84,7 @@ fn add_starts(
     let mut p = span.start;
     while p < end {
         let u = tables::at(work, layout::AT, p);
-        push(work, layout::STARTS, u, layout::STARTS_NEXT, p, i);
+        heads::push(work, layout::STARTS, u, layout::STARTS_NEXT, p, i);
         p += 1;
     }
 }
@@ -166,7 +129,7 @@ fn add_ends(
         if u < first {
             d -= 1;
         } else {
-            push(work, layout::ENDS, u, layout::ENDS_NEXT, end - d, i);
+            heads::push(work, layout::ENDS, u, layout::ENDS_NEXT, end - d, i);
             u = tables::at(work, layout::FAIL, u);
             d -= 1;
         }
@@ -191,7 +154,7 @@ pub fn fill_lists(letters: &[u8], ends: &[u16], work: &mut [u16], n: usize, coun
     requires { ⌜ Automaton (now letters) (now ends) n count (now work) ⌝ }
     ensures { λ k. ⌜ O.ListsFilled (now (letters .entry)) (now (ends .entry)) n count (now (work .entry)) k (now (work .exit)) ⌝ }
 {
-    fill_heads(letters, ends, work, n, count);
+    heads::fill_heads(letters, ends, work, n, count);
     fill_marks(letters, ends, work, n, count);
     let k = fill_kept(letters, ends, work, n, count);
     fill_starts(letters, ends, work, n, k, count);

@@ -14,7 +14,7 @@ use Rattle.layout.specs.Numbered.{Numbered}
 use Rattle.answers.specs.WorkArea.{WorkKept}
 use Rattle.layout.proofs.Frames.{members-kept}
 use Rattle.automaton.specs.Built.{Built}
-use Rattle.kept_lists.specs.KeptLists.{HeadsFilled}
+use Rattle.heads.specs.Heads.{HeadsFilled}
 use Rattle.outputs.specs.Outputs.{OutputsFilled}
 use Rattle.scanning.specs.declared.TextCounts.{TextCounts}
 use Rattle.scanning.specs.declared.Scan.{Scan}

@@ -58,7 +58,7 @@ fn prepare(letters: &[u8], ends: &[u16], work: &mut [u16]) -> usize
 {
     let n = ends.len();
     let count = automaton::build(letters, ends, work);
-    kept_lists::fill_heads(letters, ends, work, n, count);
+    heads::fill_heads(letters, ends, work, n, count);
     outputs::fill_outputs(letters, ends, work, n, count);
     count
 }

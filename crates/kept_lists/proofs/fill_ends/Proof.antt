@@ -3,7 +3,7 @@
 use Rattle.layout.specs.Layout.{ENDS}
 use Rattle.layout.specs.Numbered.{SameBelow}
 use Rattle.kept_lists.specs.KeptLists.{Ending}
-use Rattle.kept_lists.proofs.Keeping.{kept-refl}
+use Rattle.heads.proofs.Keeping.{kept-refl}
 use Rattle.kept_lists.proofs.EndLoop.{ending-start, ending-before, kept-ended, ending-all}
 use borrow.Author.Needs.{needs}
 use Rattle.kept_lists.proofs.fill_ends.Statement.{statement}

@@ -2,7 +2,7 @@
 use Rattle.layout.specs.Layout.{STARTS}
 use Rattle.layout.specs.Numbered.{SameBelow}
 use Rattle.kept_lists.specs.KeptLists.{Starting}
-use Rattle.kept_lists.proofs.Keeping.{kept-refl}
+use Rattle.heads.proofs.Keeping.{kept-refl}
 use Rattle.kept_lists.proofs.StartLoop.{starting-start, starting-before, kept-started, starting-all}
 use borrow.Author.Needs.{needs}
 use Rattle.kept_lists.proofs.fill_starts.Statement.{statement}

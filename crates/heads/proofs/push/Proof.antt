@@ -1,7 +1,7 @@
-use Rattle.kept_lists.proofs.Threading.{pushed}
+use Rattle.heads.proofs.Threading.{pushed}
 use borrow.Author.Needs.{needs}
-use Rattle.kept_lists.proofs.push.Statement.{statement}
-use Rattle.kept_lists.proofs.push.Tie as tie
+use Rattle.heads.proofs.push.Statement.{statement}
+use Rattle.heads.proofs.push.Tie as tie
 
 returns : tie.Need-returns
 returns c = search pushed

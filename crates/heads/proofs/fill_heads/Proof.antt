@@ -1,12 +1,12 @@
 -- Invariant: the list of each node in HEAD holds the members from the j-th on that have just its letters, ascending; no cell below HEAD has changed.
 use Rattle.layout.specs.Layout.{HEAD}
 use Rattle.layout.specs.Numbered.{SameBelow}
-use Rattle.kept_lists.proofs.Keeping.{kept-refl, kept-trans}
-use Rattle.kept_lists.proofs.HeadLoop.{Heading, heading-room, heading-start, heading-place, heading-among}
-use Rattle.kept_lists.proofs.HeadLoop.{heading-can, heading-more, heading-kept, heading-all}
+use Rattle.heads.proofs.Keeping.{kept-refl, kept-trans}
+use Rattle.heads.proofs.HeadLoop.{Heading, heading-room, heading-start, heading-place, heading-among}
+use Rattle.heads.proofs.HeadLoop.{heading-can, heading-more, heading-kept, heading-all}
 use borrow.Author.Needs.{needs}
-use Rattle.kept_lists.proofs.fill_heads.Statement.{statement}
-use Rattle.kept_lists.proofs.fill_heads.Tie as tie
+use Rattle.heads.proofs.fill_heads.Statement.{statement}
+use Rattle.heads.proofs.fill_heads.Tie as tie
 
 abbrev Inv-loop : tie.InvT-loop
 Inv-loop letters ends work₀ n count j₀ work j = Heading letters ends n count work j × SameBelow HEAD work₀ work

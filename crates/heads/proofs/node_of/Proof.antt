@@ -1,6 +1,6 @@
-use Rattle.kept_lists.proofs.MemberNodes.{among-some, among-most, among-end, among-place, among-node}
-use Rattle.kept_lists.proofs.node_of.Statement.{statement}
-use Rattle.kept_lists.proofs.node_of.Tie as tie
+use Rattle.heads.proofs.MemberNodes.{among-some, among-most, among-end, among-place, among-node}
+use Rattle.heads.proofs.node_of.Statement.{statement}
+use Rattle.heads.proofs.node_of.Tie as tie
 
 slip-span-requires : tie.Need-slip-span-requires
 slip-span-requires c κs = (search among-some, search among-most)

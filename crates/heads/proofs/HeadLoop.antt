@@ -22,10 +22,10 @@ use Rattle.layout.specs.Layout.{MEMBERS, HEAD, TWIN}
 use Rattle.layout.specs.Tables.{cell, members, owners}
 use Rattle.layout.specs.Numbered.{patternsIn, Automaton, SameBelow}
 use Rattle.layout.proofs.Frames.{members-kept, automaton-kept}
-use Rattle.kept_lists.specs.KeptLists.{Among, CanPush, Pushed, Lists, HeadsFilled}
-use Rattle.kept_lists.proofs.Threading.{drop-here, drop-later, push-lists}
-use Rattle.kept_lists.proofs.Keeping.{kept-trans, kept-filled, kept-pushed}
-use Rattle.kept_lists.proofs.MemberNodes.{Member, got-member, members-length, node-num, node-most, num-most}
+use Rattle.heads.specs.Heads.{Among, CanPush, Pushed, Lists, HeadsFilled}
+use Rattle.heads.proofs.Threading.{drop-here, drop-later, push-lists}
+use Rattle.heads.proofs.Keeping.{kept-trans, kept-filled, kept-pushed}
+use Rattle.heads.proofs.MemberNodes.{Member, got-member, members-length, node-num, node-most, num-most}
 
 pub record Heading (s es : List ℕ) (n count : ℕ) (w : List ℕ) (j : ℕ) : Type 0 where
   pub automaton : Automaton s es n count w

@@ -9,7 +9,7 @@ use mathlib.Core.List.{List}
 use Prim.Native.Nat.{ℕ, zero, suc, _+_, _-_, _≤_, _<_}
 use native.Mathlib.Decide.{ℕ-discrete}
 use native.Mathlib.Omega.{arith}
-use lib.ListN.{length, getD, take, drop, length-take, length-drop}
+use lib.ListN.{length, length-take, length-drop}
 use lib.Seq.{take-all}
 use Rattle.words.proofs.Members.{In}
 use Rattle.words.proofs.Picks.{getD-in}
@@ -21,12 +21,12 @@ use Rattle.trays.specs.declared.Span.{Span}
 use Rattle.trays.proofs.Accepted.{accepted-tells, span-rises, span-fits, span-slip}
 use Rattle.tables.specs.Tables.{Got}
 use Rattle.tables.proofs.Tables.{table-length, table-at}
-use Rattle.matching.specs.Nodes.{nodes, string, IsNode, Num}
+use Rattle.matching.specs.Nodes.{string, IsNode, Num}
 use Rattle.matching.proofs.NodeLaws.{node-root}
 use Rattle.layout.specs.Layout.{MEMBERS, AT}
 use Rattle.layout.specs.Tables.{cell, members}
 use Rattle.layout.specs.Numbered.{patternsIn, Numbered}
-use Rattle.kept_lists.specs.KeptLists.{Among}
+use Rattle.heads.specs.Heads.{Among}
 
 module _ (s es : List ℕ) (acc : trayFault s es .number ≡ 0) where
   pub slip-length : (i : ℕ) → 1 ≤ i → i ≤ length es → length (slip (slipsOf s es) i) ≡ endOf es i - startOf es i

@@ -1,0 +1,5 @@
+-- Laws.
+pub mod Keeping
+pub mod MemberNodes
+pub mod Threading
+pub mod HeadLoop

@@ -1,0 +1,2 @@
+-- The members of each node.
+pub mod Heads
