@@ -4,22 +4,23 @@
 --   pair-..     == rows 1 to 6, 10, 10, 11
 use mathlib.Core.Path.{_≡_, refl, sym, _∙_, ap}
 use mathlib.Core.List.{List, [], _∷_}
-use Prim.Native.Nat.{ℕ, zero, suc, _-_, _^_, _≤_, _<_}
+use Prim.Native.Nat.{ℕ, zero, suc, _-_, _^_, _≤_, _<_, _+_}
 use borrow.Author.Tests.{ltb-false, lt-ltb, le-ltb, eq-eqb, ne-eqb, eqb-false}
 use native.Mathlib.Omega.{arith}
 use lib.Dec.{ltb, eqb}
-use lib.ListN.{length}
+use lib.ListN.{length, take, drop}
 use Rattle.words.specs.Words.{overlap, overlapFor}
 use Rattle.words.proofs.Tests.{by-test}
 use Rattle.words.proofs.Overlaps.{overlapFor-nonEmpty, overlapFor-fits}
 use Rattle.trays.specs.declared.Refusal.{Refusal}
 use Rattle.trays.specs.declared.Pair.{Pair}
-use Rattle.trays.specs.Slips.{slipsOf, slip}
+use Rattle.trays.specs.declared.Span.{Span}
+use Rattle.trays.specs.Slips.{slipsOf, slip, spanOf}
 use Rattle.trays.specs.Aside.{counted}
 use Rattle.trays.specs.Faults.{refusal, accepted, orElse, firstRow, trayRows, trayFault, slipRow, slipFault, pairRow, pairFault}
-use Rattle.trays.specs.Answers.{stretchOf, Stretch, pairOf}
+use Rattle.trays.specs.Answers.{stretchOf, stretchStart, Stretch, pairOf}
 use Rattle.trays.proofs.Rows.{or-zero, or-some, or-assoc, both-silent, by-number, rows-append}
-use Rattle.spans.proofs.Stretches.{slip-small}
+use Rattle.spans.proofs.Stretches.{slip-small, part-rises, part-fits, part-is}
 
 pub request-zero : (es : List ℕ) (i : ℕ) → i ≡ 0 → refusal 10 i ≡ slipRow es i
 request-zero es i e = rw (eq-eqb i 0 e)
@@ -103,19 +104,40 @@ pub overlap-counted : (a b : List ℕ) (n : ℕ) → n ≡ overlap a b → n ≡
 overlap-counted a b n e = e ∙ sym (overlapFor-nonEmpty a b)
 
 module _ (s es : List ℕ) (i : ℕ) (f : Refusal) (e : f ≡ slipFault s es i) where
-  pub stretch-refused : (f .number ≡ 0 → ⊥) → Stretch s es i [] (f .number) (f .detail)
-  stretch-refused z = record { letters-are = nothing (f .number) z (ap (λ (r : Refusal). r .number) e); number-is = rw e; detail-is = rw e }
+  pub stretch-refused : (f .number ≡ 0 → ⊥) → (p : ℕ × ℕ) → Stretch s es i p [] (p .0, 0 + p .1) (f .number) (f .detail)
+  stretch-refused z p =
+      let (none, first) = nothing (f .number) z (ap (λ (r : Refusal). r .number) e) in
+      record { letters-are = none; place-is = ap (λ (n : ℕ). (p .0, n + p .1)) first; number-is = rw e; detail-is = rw e }
     where
-      nothing : (n : ℕ) → (n ≡ 0 → ⊥) → n ≡ slipFault s es i .number → [] ≡ stretchOf s es i
+      nothing : (n : ℕ) → (n ≡ 0 → ⊥) → n ≡ slipFault s es i .number → ([] ≡ stretchOf s es i) × (0 ≡ stretchStart s es i)
       nothing zero w h = absurd (w refl)
-      nothing (suc n) w h = rw (sym h, stretchOf)
+      nothing (suc n) w h = (rw (sym h, stretchOf), rw (sym h, stretchStart))
 
   module _ (z : f .number ≡ 0) where
     pub request-tells : (trayFault s es .number ≡ 0) × (1 ≤ i) × (i ≤ length es)
     request-tells = slip-good s es i (rw e at z)
 
-    pub stretch-good : (x : List ℕ) → x ≡ slip (slipsOf s es) i → Stretch s es i x (f .number) (f .detail)
-    stretch-good x h = record { letters-are = h ∙ rw (rw e at z, stretchOf); number-is = rw e; detail-is = rw e }
+    -- where the slip stands
+    module _ (n : ℕ) (q : n ≡ i) (span : Span) (h : span ≡ spanOf es n) where
+      at-i : span ≡ spanOf es i
+      at-i = rw (← q) h
+
+      pub stretch-rises : span .start ≤ span .end
+      stretch-rises = let t = request-tells in part-rises s es i span at-i (t .0) (t .1) (t .2)
+
+      pub stretch-fits : span .end ≤ length s
+      stretch-fits = let t = request-tells in part-fits s es i span at-i (t .0) (t .1) (t .2)
+
+      pub stretch-good : (p : ℕ × ℕ) →
+          Stretch s es i p (take (span .end - span .start) (drop (span .start) s)) (p .0, span .start + p .1) (f .number) (f .detail)
+      stretch-good p =
+          let t = request-tells in
+          record {
+            letters-are = part-is s es i span at-i (t .0) (t .1) (t .2) ∙ rw (rw e at z, stretchOf);
+            place-is = ap (λ (m : ℕ). (p .0, m + p .1)) (ap (λ (x : Span). x .start) at-i ∙ rw (rw e at z, stretchStart));
+            number-is = rw e;
+            detail-is = rw e;
+          }
 
 module _ (s es : List ℕ) (i j : ℕ) (f : Refusal) (e : f ≡ pairFault s es i j) where
   pub pair-refused : (f .number ≡ 0 → ⊥) → _≡_ {A = Pair} (record { number = f .number; detail = f .detail; letters = 0 }) (pairOf s es i j)

@@ -7,6 +7,7 @@ ghost use Rattle.trays.specs.Faults as F;
 ghost use Rattle.trays.specs.Answers.{Stretch, pairOf};
 use checking::check_tray;
 use spans::slip_part;
+use spans::slip_span;
 use trays::Pair;
 use trays::Refusal;
 
@@ -51,7 +52,7 @@ pub fn slip_letters<'a>(
     number: &mut u8,
     detail: &mut u32,
 ) -> &'a [u8]
-    ensures { λ r. ⌜ Stretch (now (letters .entry)) (now (ends .entry)) slip (now r) (now (number .exit)) (now (detail .exit)) ⌝ }
+    ensures { λ r. ⌜ Stretch (now (letters .entry)) (now (ends .entry)) slip (letters .entry .ptr) (now r) (r .ptr) (now (number .exit)) (now (detail .exit)) ⌝ }
 {
     let fault = check_slip(letters, ends, slip);
     *number = fault.number;
@@ -59,7 +60,10 @@ pub fn slip_letters<'a>(
     if fault.number != 0 {
         return &letters[0..0];
     }
-    slip_part(letters, ends, slip as usize)
+    let span = slip_span(ends, slip as usize);
+    let start = span.start;
+    let end = span.end;
+    &letters[start..end]
 }
 
 // Refusals 1 to 6, 10 and 11, for a pair of slip numbers.

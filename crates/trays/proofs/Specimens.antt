@@ -74,9 +74,14 @@ pairs : (pairFault letters bounds 6 0 ∷ pairFault letters bounds 6 6 ∷ pairF
 unfolding pairFault
 pairs = refl
 
-refused : Stretch letters bounds 6 [] 10 6
+refused : Stretch letters bounds 6 (3, 20) [] (3, 20) 10 6
 unfolding slipFault
-refused = record { letters-are = refl; number-is = refl; detail-is = refl }
+refused = record { letters-are = refl; place-is = refl; number-is = refl; detail-is = refl }
+
+-- slip 3 of a tray whose letters stand at offset 20 stands at offset 30
+handed-out : Stretch letters bounds 3 (3, 20) (word "CAESAVG") (3, 30) 0 0
+unfolding slipFault
+handed-out = record { letters-are = refl; place-is = refl; number-is = refl; detail-is = refl }
 
 -- a buffer of three: two letters over its first part, or what it held before
 buffers :

@@ -1,10 +1,10 @@
 -- What the calls on a tray answer, for every input.
 use mathlib.Core.Path.{_≡_}
 use mathlib.Core.List.{List, []}
-use Prim.Native.Nat.{ℕ, zero, suc}
+use Prim.Native.Nat.{ℕ, zero, suc, _+_}
 use Rattle.words.specs.Words.{overlapFor}
 use Rattle.trays.specs.declared.Pair.{Pair}
-use Rattle.trays.specs.Slips.{slipsOf, slip}
+use Rattle.trays.specs.Slips.{slipsOf, slip, startOf}
 use Rattle.trays.specs.Aside.{counted}
 use Rattle.trays.specs.Faults.{slipFault, pairFault}
 
@@ -12,9 +12,15 @@ use Rattle.trays.specs.Faults.{slipFault, pairFault}
 abbrev pub stretchOf : List ℕ → List ℕ → ℕ → List ℕ
 stretchOf s es i = elim (slipFault s es i .number) [ zero ↦ slip (slipsOf s es) i | suc n ↦ [] ]
 
--- slip_letters: the letters handed out, and the refusal in the two lent numbers
-pub record Stretch (s es : List ℕ) (i : ℕ) (letters : List ℕ) (number detail : ℕ) : Type 0 where
+-- where they start in the letters of the tray, 0 if refused
+abbrev pub stretchStart : List ℕ → List ℕ → ℕ → ℕ
+stretchStart s es i = elim (slipFault s es i .number) [ zero ↦ startOf es i | suc n ↦ 0 ]
+
+-- slip_letters: the letters handed out, where they stand in memory (a block and an offset) if those of the tray stand at `tray`, and the
+-- refusal in the two lent numbers. So it is that stretch of the lent tray itself, and not an equal one elsewhere.
+pub record Stretch (s es : List ℕ) (i : ℕ) (tray : ℕ × ℕ) (letters : List ℕ) (place : ℕ × ℕ) (number detail : ℕ) : Type 0 where
   pub letters-are : letters ≡ stretchOf s es i
+  pub place-is : place ≡ (tray .0, stretchStart s es i + tray .1)
   pub number-is : number ≡ slipFault s es i .number
   pub detail-is : detail ≡ slipFault s es i .detail
 
