@@ -2,7 +2,7 @@
 --   request-..  == row 10
 --   slip-..     == rows 1 to 6, then 10
 --   pair-..     == rows 1 to 6, 10, 10, 11
-use mathlib.Core.Path.{_≡_, refl, sym, _∙_, ap}
+use mathlib.Core.Path.{_≡_, refl, sym, _∙_, ap, ap₂}
 use mathlib.Core.List.{List, [], _∷_}
 use Prim.Native.Nat.{ℕ, zero, suc, _-_, _^_, _≤_, _<_, _+_}
 use borrow.Author.Tests.{ltb-false, lt-ltb, le-ltb, eq-eqb, ne-eqb, eqb-false}
@@ -15,11 +15,13 @@ use Rattle.words.proofs.Overlaps.{overlapFor-nonEmpty, overlapFor-fits}
 use Rattle.trays.specs.declared.Refusal.{Refusal}
 use Rattle.trays.specs.declared.Pair.{Pair}
 use Rattle.trays.specs.declared.Span.{Span}
+use Rattle.trays.specs.declared.Located.{Located}
 use Rattle.trays.specs.Slips.{slipsOf, slip, spanOf}
 use Rattle.trays.specs.Aside.{counted}
 use Rattle.trays.specs.Faults.{refusal, accepted, orElse, firstRow, trayRows, trayFault, slipRow, slipFault, pairRow, pairFault}
-use Rattle.trays.specs.Answers.{stretchOf, stretchStart, Stretch, pairOf}
+use Rattle.trays.specs.Answers.{stretchOf, stretchStart, stretchEnd, Stretch, locatedOf, pairOf}
 use Rattle.trays.proofs.Rows.{or-zero, or-some, or-assoc, both-silent, by-number, rows-append}
+use Rattle.trays.proofs.Accepted.{accepted-tells}
 use Rattle.spans.proofs.Stretches.{slip-small, part-rises, part-fits, part-is}
 
 pub request-zero : (es : List ℕ) (i : ℕ) → i ≡ 0 → refusal 10 i ≡ slipRow es i
@@ -103,6 +105,10 @@ module _ (s es : List ℕ) (i j : ℕ) where
 pub overlap-counted : (a b : List ℕ) (n : ℕ) → n ≡ overlap a b → n ≡ overlapFor counted a b
 overlap-counted a b n e = e ∙ sym (overlapFor-nonEmpty a b)
 
+-- the refusal of a slip, and two places
+abbrev located : List ℕ → List ℕ → ℕ → ℕ → ℕ → Located
+located s es i m n = record { number = slipFault s es i .number; detail = slipFault s es i .detail; start = m; end = n }
+
 module _ (s es : List ℕ) (i : ℕ) (f : Refusal) (e : f ≡ slipFault s es i) where
   pub stretch-refused : (f .number ≡ 0 → ⊥) → (p : ℕ × ℕ) → Stretch s es i p [] (p .0, 0 + p .1) (f .number) (f .detail)
   stretch-refused z p =
@@ -112,6 +118,15 @@ module _ (s es : List ℕ) (i : ℕ) (f : Refusal) (e : f ≡ slipFault s es i) 
       nothing : (n : ℕ) → (n ≡ 0 → ⊥) → n ≡ slipFault s es i .number → ([] ≡ stretchOf s es i) × (0 ≡ stretchStart s es i)
       nothing zero w h = absurd (w refl)
       nothing (suc n) w h = (rw (sym h, stretchOf), rw (sym h, stretchStart))
+
+  pub place-refused : (f .number ≡ 0 → ⊥) → _≡_ {A = Located} (record { number = f .number; detail = f .detail; start = 0; end = 0 }) (locatedOf s es i)
+  place-refused z =
+      let (a, b) = nothing (f .number) z (ap (λ (r : Refusal). r .number) e) in
+      rw e (ap₂ (located s es i) a b)
+    where
+      nothing : (n : ℕ) → (n ≡ 0 → ⊥) → n ≡ slipFault s es i .number → (0 ≡ stretchStart s es i) × (0 ≡ stretchEnd s es i)
+      nothing zero w h = absurd (w refl)
+      nothing (suc n) w h = (rw (sym h, stretchStart), rw (sym h, stretchEnd))
 
   module _ (z : f .number ≡ 0) where
     pub request-tells : (trayFault s es .number ≡ 0) × (1 ≤ i) × (i ≤ length es)
@@ -128,13 +143,28 @@ module _ (s es : List ℕ) (i : ℕ) (f : Refusal) (e : f ≡ slipFault s es i) 
       pub stretch-fits : span .end ≤ length s
       stretch-fits = let t = request-tells in part-fits s es i span at-i (t .0) (t .1) (t .2)
 
+      pub start-small : span .start < 2 ^ 32
+      start-small = let t = request-tells in omega (arith, stretch-rises, stretch-fits, accepted-tells s es (t .0) .small)
+
+      pub end-small : span .end < 2 ^ 32
+      end-small = let t = request-tells in omega (arith, stretch-fits, accepted-tells s es (t .0) .small)
+
+      start-is : span .start ≡ stretchStart s es i
+      start-is = ap (λ (x : Span). x .start) at-i ∙ rw (rw e at z, stretchStart)
+
+      end-is : span .end ≡ stretchEnd s es i
+      end-is = ap (λ (x : Span). x .end) at-i ∙ rw (rw e at z, stretchEnd)
+
+      pub place-found : _≡_ {A = Located} (record { number = f .number; detail = f .detail; start = span .start; end = span .end }) (locatedOf s es i)
+      place-found = rw e (ap₂ (located s es i) start-is end-is)
+
       pub stretch-good : (p : ℕ × ℕ) →
           Stretch s es i p (take (span .end - span .start) (drop (span .start) s)) (p .0, span .start + p .1) (f .number) (f .detail)
       stretch-good p =
           let t = request-tells in
           record {
             letters-are = part-is s es i span at-i (t .0) (t .1) (t .2) ∙ rw (rw e at z, stretchOf);
-            place-is = ap (λ (m : ℕ). (p .0, m + p .1)) (ap (λ (x : Span). x .start) at-i ∙ rw (rw e at z, stretchStart));
+            place-is = ap (λ (m : ℕ). (p .0, m + p .1)) start-is;
             number-is = rw e;
             detail-is = rw e;
           }

@@ -4,10 +4,11 @@ ghost use Prim.Native.Nat.{_<_};
 ghost use Rattle.words.specs.Words.{overlapFor};
 ghost use Rattle.trays.specs.Aside.{counted};
 ghost use Rattle.trays.specs.Faults as F;
-ghost use Rattle.trays.specs.Answers.{Stretch, pairOf};
+ghost use Rattle.trays.specs.Answers.{Stretch, locatedOf, pairOf};
 use checking::check_tray;
 use spans::slip_part;
 use spans::slip_span;
+use trays::Located;
 use trays::Pair;
 use trays::Refusal;
 
@@ -64,6 +65,28 @@ pub fn slip_letters<'a>(
     let start = span.start;
     let end = span.end;
     &letters[start..end]
+}
+
+// Where the letters of one slip start and end in those of its tray, as numbers; 0 and 0 if refused.
+pub fn slip_place(letters: &[u8], ends: &[u16], slip: u32) -> Located
+    ensures { λ r. ⌜ r ≡ locatedOf (now (letters .entry)) (now (ends .entry)) slip ⌝ }
+{
+    let fault = check_slip(letters, ends, slip);
+    if fault.number != 0 {
+        return Located {
+            number: fault.number,
+            detail: fault.detail,
+            start: 0,
+            end: 0,
+        };
+    }
+    let span = slip_span(ends, slip as usize);
+    Located {
+        number: fault.number,
+        detail: fault.detail,
+        start: span.start as u32,
+        end: span.end as u32,
+    }
 }
 
 // Refusals 1 to 6, 10 and 11, for a pair of slip numbers.

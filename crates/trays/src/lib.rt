@@ -17,6 +17,13 @@ pub struct Pair {
     pub detail: u32,
     pub letters: u32,
 }
+// Where a slip starts and ends in the letters of its tray, or the refusal and 0 and 0.
+pub struct Located {
+    pub number: u8,
+    pub detail: u32,
+    pub start: u32,
+    pub end: u32,
+}
 // Where a slip starts and ends in the letters of its tray.
 pub struct Span {
     pub start: usize,
