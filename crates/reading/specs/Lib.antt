@@ -1,0 +1,2 @@
+-- What only proofs of reading need.
+pub mod steps

@@ -1,0 +1,2 @@
+-- Steps of the passes over a file.
+pub mod Copying
