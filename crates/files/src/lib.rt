@@ -14,11 +14,9 @@ pub struct Read {
     pub letters: u32,
     pub slips: u32,
 }
-// A line: its fault and 0s, or 0 with where its letters start and end and where the next line starts.
+// A line: what turns it back, or 0, and where the next line starts.
 pub struct Line {
     pub fault: u8,
-    pub start: usize,
-    pub end: usize,
     pub next: usize,
 }
 // A reader remembers the file and how far it has come.

@@ -1,5 +1,5 @@
--- Where the first line from a place on ends: the loop that looks for the LF, and what is known of the place behind it.
---   end-..   == the loop stands at i, and no LF stands between `at` and it; end-within, end-positive: the place found
+-- Where the first line from a place on ends: the loop that looks for the LF, and that it stands in the file.
+--   end-..   == the loop stands at i, and no LF stands between `at` and it
 use mathlib.Core.Path.{_≡_, ap}
 use mathlib.Core.List.{List, [], _∷_}
 use Prim.Native.Nat.{ℕ, suc, _+_, _≤_, _<_}
@@ -9,7 +9,7 @@ use native.Mathlib.Omega.{arith}
 use lib.ListN.{length, getD, drop, length-drop, drop-of-length-le}
 use lib.Seq.{drop-cons}
 use Rattle.files.specs.Lines.{lf, firstLine}
-use Rattle.files.proofs.FirstLines.{first-lf, first-more, first-length, first-some}
+use Rattle.files.proofs.FirstLines.{first-lf, first-more, first-length}
 
 -- the loop stands at i, and no LF stands between `at` and it
 module _ (s : List ℕ) (at i : ℕ) (k : at + length (firstLine (drop at s)) ≡ i + length (firstLine (drop i s))) where
@@ -27,13 +27,5 @@ module _ (s : List ℕ) (at i : ℕ) (k : at + length (firstLine (drop at s)) �
   pub end-none : length s ≤ i → i ≡ at + length (firstLine (drop at s))
   end-none h = let p : length (firstLine (drop i s)) ≡ 0 = rw (drop-of-length-le s h) in omega arith
 
--- where the line ends
-module _ (s : List ℕ) (at next : ℕ) (h : at < length s) (e : next ≡ at + length (firstLine (drop at s))) where
-  end-after : at < next
-  end-after = omega (arith, first-some (drop at s) (rw length-drop (omega arith)))
-
-  pub end-within : next ≤ length s
-  end-within = omega (arith, first-length (drop at s), length-drop at s)
-
-  pub end-positive : 1 ≤ next
-  end-positive = omega (arith, end-after)
+pub end-within : (s : List ℕ) (at next : ℕ) → at < length s → next ≡ at + length (firstLine (drop at s)) → next ≤ length s
+end-within s at next h e = omega (arith, first-length (drop at s), length-drop at s)

@@ -4,9 +4,9 @@
 use mathlib.Core.Path.{_≡_, refl, sym, _∙_}
 use mathlib.Core.Bool.{true}
 use mathlib.Core.List.{List}
-use Prim.Native.Nat.{ℕ, zero, suc, _+_, _-_, _≤_, _<_}
+use Prim.Native.Nat.{ℕ, suc, _+_, _-_, _≤_, _<_}
 use borrow.Author.Tests.{le-leb, lt-leb, eq-eqb, ne-eqb}
-use native.Mathlib.Nat.{add-sub-cancel-left}
+use native.Mathlib.Nat.{add-zero, add-sub-cancel-left}
 use native.Mathlib.Omega.{arith}
 use lib.Dec.{eqb}
 use lib.ListN.{length, getD, take, drop, drop-of-length-le}
@@ -15,7 +15,7 @@ use Rattle.trays.proofs.CheckLoops.{last-some}
 use Rattle.files.specs.Lines.{lf, blank, field, firstLine, isLaidOut}
 use Rattle.files.specs.Faults.{lineFault}
 use Rattle.files.specs.declared.Line.{Line}
-use Rattle.lines.specs.Parsed.{badLine, lineAt}
+use Rattle.lines.specs.Parsed.{lineAt}
 use Rattle.files.proofs.FirstLines.{first-take}
 use Rattle.files.proofs.LineFaults.{letters-length}
 
@@ -57,23 +57,12 @@ module _ (l : List ℕ) (k : ℕ) where
               pub line-good : stated - 1 ≡ length l - 10 → 0 ≡ lineFault k l .number
               line-good m = rw (laid, ← s, eq-eqb slip (suc k) (omega arith), ← t, letters-length l, eq-eqb stated (suc (length l - 10)) (omega arith))
 
-bad-is : (s : List ℕ) (at k n : ℕ) → lineFault k (firstLine (drop at s)) .number ≡ n → (n ≡ 0 → ⊥) → badLine n ≡ lineAt s at k
-bad-is s at k zero p q = absurd (q refl)
-bad-is s at k (suc n) p q = rw (p, lineAt)
-
 -- the line that starts at `at` ends before `next`
-module _ (s : List ℕ) (at k next fault : ℕ) (e : next ≡ at + length (firstLine (drop at s)))
-    (f : fault ≡ lineFault k (take (next - at) (drop at s)) .number) where
-  faulty : lineFault k (firstLine (drop at s)) .number ≡ fault
-  faulty =
-      let p : take (next - at) (drop at s) ≡ firstLine (drop at s) = rw (e, add-sub-cancel-left) (first-take (drop at s)) in
-      rw (f, p)
+pub parse-line : (s : List ℕ) (at k next fault : ℕ) → next ≡ at + length (firstLine (drop at s))
+    → fault ≡ lineFault k (take (next - at) (drop at s)) .number → _≡_ {A = Line} (record { fault = fault; next = next }) (lineAt s at k)
+parse-line s at k next fault e f =
+    let p : take (next - at) (drop at s) ≡ firstLine (drop at s) = rw (e, add-sub-cancel-left) (first-take (drop at s)) in
+    rw (f, p, e)
 
-  pub parse-bad : (r : Line) → (fault ≡ 0 → ⊥) → r ≡ badLine fault → r ≡ lineAt s at k
-  parse-bad r z b = b ∙ bad-is s at k fault faulty z
-
-  pub parse-good : fault ≡ 0 → _≡_ {A = Line} (record { fault = 0; start = at + 9; end = next - 1; next = next }) (lineAt s at k)
-  parse-good z = rw (e, faulty, z, lineAt)
-
-pub parse-behind : (s : List ℕ) (at k : ℕ) (r : Line) → length s ≤ at → r ≡ badLine 17 → r ≡ lineAt s at k
-parse-behind s at k r h e = e ∙ bad-is s at k 17 (rw (drop-of-length-le s h)) (λ q. absurd (omega arith))
+pub parse-behind : (s : List ℕ) (at k : ℕ) → length s ≤ at → _≡_ {A = Line} (record { fault = 17; next = at }) (lineAt s at k)
+parse-behind s at k h = rw (drop-of-length-le s h, add-zero)

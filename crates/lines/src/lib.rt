@@ -7,7 +7,7 @@ ghost use Prim.Native.Nat.{_+_, _≤_};
 ghost use lib.ListN.{length, drop};
 ghost use Rattle.files.specs.Lines as L;
 ghost use Rattle.files.specs.Faults as F;
-ghost use Rattle.lines.specs.Parsed.{badLine, lineAt};
+ghost use Rattle.lines.specs.Parsed.{lineAt};
 
 fn wide(x: u8) -> usize
     ensures { λ r. ⌜ r ≡ x ⌝ }
@@ -91,7 +91,7 @@ fn line_fault(line: &[u8], k: usize) -> u8
 }
 
 // Where the line that starts at a place ends: behind its LF, or where the file ends.
-fn line_end(file: &[u8], at: usize) -> usize
+pub fn line_end(file: &[u8], at: usize) -> usize
     ensures { λ r. ⌜ r ≡ at + length (L.firstLine (drop at (now (file .entry)))) ⌝ }
 {
     let mut i = at;
@@ -104,34 +104,17 @@ fn line_end(file: &[u8], at: usize) -> usize
     i
 }
 
-// The answer for a line with a fault.
-fn bad_line(fault: u8) -> Line
-    ensures { λ r. ⌜ r ≡ badLine fault ⌝ }
-{
-    Line {
-        fault,
-        start: 0,
-        end: 0,
-        next: 0,
-    }
-}
-
-// The line parser: line k, which starts at a place of the file.
+// The line parser: line k, which starts at a place of the file. Behind the file's end the line is empty.
 pub fn line_at(file: &[u8], at: usize, k: usize) -> Line
     ensures { λ r. ⌜ r ≡ lineAt (now (file .entry)) at k ⌝ }
 {
     if file.len() <= at {
-        return bad_line(17);
+        return Line {
+            fault: 17,
+            next: at,
+        };
     }
     let next = line_end(file, at);
     let fault = line_fault(&file[at..next], k);
-    if fault != 0 {
-        return bad_line(fault);
-    }
-    Line {
-        fault: 0,
-        start: at + 9,
-        end: next - 1,
-        next,
-    }
+    Line { fault, next }
 }

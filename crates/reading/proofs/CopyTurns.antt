@@ -1,6 +1,6 @@
 -- The pass that copies letters and ends, turn by turn.
 --   Passed s a b a′ b′ at count slips   == the first `slips` lines of the file s, up to `at`, with `count` letters, are copied over a and b
---   Turn s a′ b′ at count slips line    == what a turn knows of the line at `at` and of the room for it
+--   Turn s a′ b′ at count slips next    == what a turn knows of the line from `at` to `next` and of the room for it
 -- Each turn takes one line more into the part that is copied. A good line has 10 bytes beside its letters, so a file of 16,384 bytes has
 -- at most 1,638 lines, and every end fits 16 bits.
 use mathlib.Core.Path.{_≡_, refl, sym, _∙_, ap}
@@ -16,17 +16,14 @@ use Rattle.words.specs.Lists.{over}
 use Rattle.words.proofs.Buffers.{length-over, over-set}
 use Rattle.trays.specs.Limits.{maxFile, endsNeed}
 use Rattle.trays.specs.Faults.{accepted}
-use Rattle.files.specs.declared.Line.{Line}
 use Rattle.files.specs.Lines.{linesOf, firstLine, filed, letters}
 use Rattle.files.specs.Faults.{lineFault, linesFault}
 use Rattle.files.specs.Answers.{lettersOf, endsFrom}
-use Rattle.lines.specs.Parsed.{lineAt}
 use Rattle.reading.specs.steps.Copying.{Lent, Copied}
 use Rattle.files.proofs.FirstLines.{lines-at, first-take, first-length}
 use Rattle.files.proofs.LineFaults.{letters-length, or-accepted, long-enough}
 use Rattle.files.proofs.SlipsRead.{length-ends}
 use Rattle.reading.proofs.LentParts.{over-mid}
-use Rattle.reading.proofs.CheckTurns.{parsed-start, parsed-end, parsed-next}
 
 -- one member more
 next-drop : {A : Type 0} (n : ℕ) (xs : List A) {x : A} {rest : List A} → drop n xs ≡ x ∷ rest → drop (suc n) xs ≡ rest
@@ -41,7 +38,8 @@ letters-snoc : (ls : List (List ℕ)) (l : List ℕ) → lettersOf (ls ++ (l ∷
 letters-snoc [] l = append-nil (letters l)
 letters-snoc (x ∷ ls) l = rw (letters-snoc ls l) (sym (append-assoc (letters x) (lettersOf ls) (letters l)))
 
-ends-snoc : (here : ℕ) (ls : List (List ℕ)) (l : List ℕ) → endsFrom here (ls ++ (l ∷ [])) ≡ endsFrom here ls ++ ((here + length (lettersOf ls) + length (letters l)) ∷ [])
+ends-snoc : (here : ℕ) (ls : List (List ℕ)) (l : List ℕ)
+    → endsFrom here (ls ++ (l ∷ [])) ≡ endsFrom here ls ++ ((here + length (lettersOf ls) + length (letters l)) ∷ [])
 ends-snoc here [] l = rw add-zero
 ends-snoc here (x ∷ ls) l =
     rw (length-append, ← add-assoc) (ap (λ r. (here + length (letters x)) ∷ r) (ends-snoc (here + length (letters x)) ls l))
@@ -61,10 +59,8 @@ pub record Passed (s a b a′ b′ : List ℕ) (at count slips : ℕ) : Type 0 w
   pub letters-are : a′ ≡ over (lettersOf (take slips (linesOf s))) a
   pub ends-are : b′ ≡ over (endsFrom 0 (take slips (linesOf s))) b
 
-pub record Turn (s a′ b′ : List ℕ) (at count slips : ℕ) (line : Line) : Type 0 where
-  pub start-is : line .start ≡ at + 9
-  pub end-is : line .end ≡ at + length (firstLine (drop at s)) - 1
-  pub next-is : line .next ≡ at + length (firstLine (drop at s))
+pub record Turn (s a′ b′ : List ℕ) (at count slips next : ℕ) : Type 0 where
+  pub next-is : next ≡ at + length (firstLine (drop at s))
   pub long : 10 ≤ length (firstLine (drop at s))
   pub inside : at + length (firstLine (drop at s)) ≤ length s
   pub small : length s ≤ maxFile
@@ -94,7 +90,7 @@ module _ (s a b a′ b′ : List ℕ) (at count slips : ℕ) (t : Lent s a b) (i
   pub ends-long : length b′ ≡ length b
   ends-long = rw (i .ends-are) (length-over (endsFrom 0 (take slips (linesOf s))) b (omega (arith, t, i, ends-count)))
 
-  module _ (line : Line) (h : at < length s) (e : line ≡ lineAt s at (slips + 1)) where
+  module _ (next : ℕ) (h : at < length s) (e : next ≡ at + length (firstLine (drop at s))) where
     abbrev l : List ℕ
     l = firstLine (drop at s)
 
@@ -104,41 +100,44 @@ module _ (s a b a′ b′ : List ℕ) (at count slips : ℕ) (t : Lent s a b) (i
     faultless : (lineFault (suc slips) l .number ≡ 0) × (linesFault (suc (suc slips)) (linesOf (drop (at + length l) s)) ≡ accepted)
     faultless = or-accepted (lineFault (suc slips) l) _ (rw next-lines at (i .good))
 
-    pub turn : Turn s a′ b′ at count slips line
-    turn =
-        let z : lineFault (slips + 1) l .number ≡ 0 = rw add-one (faultless .0) in
-        record {
-          start-is = parsed-start s at (slips + 1) line e z;
-          end-is = parsed-end s at (slips + 1) line e z;
-          next-is = parsed-next s at (slips + 1) line e z;
-          long = long-enough (slips + 1) l z;
-          inside = omega (arith, first-length (drop at s), length-drop at s);
-          small = t .small;
-          before = sym (i .sum);
-          room = rw letters-long (t .room);
-          slots = rw ends-long (t .slots);
-        }
+    pub turn : Turn s a′ b′ at count slips next
+    turn = record {
+      next-is = e;
+      long = long-enough (suc slips) l (faultless .0);
+      inside = omega (arith, first-length (drop at s), length-drop at s);
+      small = t .small;
+      before = sym (i .sum);
+      room = rw letters-long (t .room);
+      slots = rw ends-long (t .slots);
+    }
 
-    filed-letters : map filed (take (line .end - line .start) (drop (line .start) s)) ≡ letters l
+    -- how many letters the line has
+    abbrev many : ℕ
+    many = next - 1 - (at + 9)
+
+    filed-letters : map filed (take many (drop (at + 9) s)) ≡ letters l
     filed-letters =
-        let n : line .end - line .start ≡ length l - 10 = omega (arith, turn) in
+        let n : many ≡ length l - 10 = omega (arith, turn) in
         let x : l ++ drop (length l) (drop at s) ≡ drop at s = rw (first-take (drop at s)) at (take-append-drop (length l) (drop at s)) in
-        rw (n, turn .start-is, ← drop-drop 9 at s) (ap (map filed) (line-letters (drop at s) l _ (sym x) (turn .long)))
+        rw (n, ← drop-drop 9 at s) (ap (map filed) (line-letters (drop at s) l _ (sym x) (turn .long)))
 
-    pub passed-more : (p : List ℕ) → p ≡ over (map filed (take (line .end - line .start) (drop (line .start) s))) (take (length a′ - count) (drop count a′)) →
-        Passed s a b (putMid count (length a′ - count) a′ p) (set b′ slips (count + (line .end - line .start))) (line .next) (count + (line .end - line .start)) (slips + 1)
+    pub passed-more : (p : List ℕ) → p ≡ over (map filed (take many (drop (at + 9) s))) (take (length a′ - count) (drop count a′))
+        → Passed s a b (putMid count (length a′ - count) a′ p) (set b′ slips (count + many)) next (count + many) (slips + 1)
     passed-more p f = record {
-      left = rw (turn .next-is, add-one) (sym (next-drop slips (linesOf s) next-lines));
+      left = rw (e, add-one) (sym (next-drop slips (linesOf s) next-lines));
       few = omega (arith, ap length next-lines, length-drop slips (linesOf s));
       good = rw (add-one, next-drop slips (linesOf s) next-lines) (faultless .1);
       sum = omega (arith, turn, i);
       within = omega (arith, turn);
-      counted = rw (add-one, next-take slips (linesOf s) next-lines, letters-snoc, length-append, letters-length l, ← i .counted) (omega (arith, turn));
+      counted =
+          rw (add-one, next-take slips (linesOf s) next-lines, letters-snoc, length-append, letters-length l, ← i .counted)
+          (omega (arith, turn));
       letters-are =
           rw (add-one, next-take slips (linesOf s) next-lines, letters-snoc)
           (over-mid (lettersOf (take slips (linesOf s))) (letters l) a a′ p count (sym (i .counted)) (i .letters-are) (rw filed-letters at f));
       ends-are =
-          let v : count + (line .end - line .start) ≡ 0 + length (lettersOf (take slips (linesOf s))) + length (letters l) = omega (arith, turn, i .counted, letters-length l) in
+          let v : count + many ≡ 0 + length (lettersOf (take slips (linesOf s))) + length (letters l) =
+          omega (arith, turn, i .counted, letters-length l) in
           rw (add-one, next-take slips (linesOf s) next-lines, ends-snoc, v, i .ends-are)
           (over-set 0 (endsFrom 0 (take slips (linesOf s))) b slips _ ends-count (omega (arith, t, i)));
     }

@@ -63,7 +63,8 @@ module _ (s a b : List ℕ) (f : Refusal) (e : f ≡ readFault s (length a) (len
               | yes m ↦ absurd (silent 15 (place-long s (length a) (length b) (omega arith) (omega arith) m))
               | no m ↦ record {
                 good =
-                    let q : f ≡ linesFault 1 (linesOf s) = e ∙ sym (place-lines s (length a) (length b) (omega arith) (omega arith) (linesFault 1 (linesOf s)) (omega arith) refl) in
+                    let q : f ≡ linesFault 1 (linesOf s) =
+                    e ∙ sym (place-lines s (length a) (length b) (omega arith) (omega arith) (linesFault 1 (linesOf s)) (omega arith) refl) in
                     lines-accepted 1 (linesOf s) (rw q at z);
                 small = omega arith;
                 room = omega arith;

@@ -1,2 +1,3 @@
--- What only proofs of reading need.
+-- What the reader promises; and steps, which only proofs need.
+pub mod Readers
 pub mod steps

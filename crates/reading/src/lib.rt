@@ -14,52 +14,82 @@ ghost use Rattle.trays.specs.Limits.{maxFile};
 ghost use Rattle.files.specs.Lines as L;
 ghost use Rattle.files.specs.Faults as F;
 ghost use Rattle.files.specs.Answers.{Reading};
-ghost use Rattle.lines.specs.Parsed.{lineAt};
+ghost use Rattle.reading.specs.Readers.{Handed};
+ghost use Rattle.reading.specs.steps.Checking.{begunAt, judged};
 ghost use Rattle.reading.specs.steps.Copying.{Lent, Copied};
 
-// A reader that has come to a place of the file.
-pub fn open<'a>(file: &'a [u8], at: usize) -> Reader<'a>
-    ensures { λ r. ⌜ (r .file ≡ file .entry) × (r .at ≡ at) ⌝ }
-{
-    Reader { file, at }
+// How far the check has come: what turns the file back so far, the number of the line that comes next, and whether to read it.
+struct Checked {
+    found: Refusal,
+    line: usize,
+    more: bool,
 }
 
-// The line at which a reader stands, as line k.
-pub fn next<'a>(r: Reader<'a>, k: usize) -> Line
-    ensures { λ l. ⌜ l ≡ lineAt (now (r .entry .file)) (r .entry .at) k ⌝ }
+// Before the first line of a file of so many bytes.
+fn begun(size: usize) -> Checked
+    ensures { λ r. ⌜ r ≡ begunAt size ⌝ }
 {
-    lines::line_at(r.file, r.at, k)
+    let found = Refusal {
+        number: 0,
+        detail: 0,
+    };
+    Checked {
+        found,
+        line: 1,
+        more: 0 < size,
+    }
 }
 
-// The line at a place of the file, asked of a reader opened there. Callers with a plain slice go line after line by it.
-pub fn next_line(file: &[u8], at: usize, k: usize) -> Line
-    ensures { λ l. ⌜ l ≡ lineAt (now (file .entry)) at k ⌝ }
+// Behind one line more of it: the first line with a fault is the last one read.
+fn judge(state: Checked, line: Line, size: usize) -> Checked
+    requires { ⌜ state .line ≤ maxFile ⌝ }
+    ensures { λ r. ⌜ r ≡ judged state line size ⌝ }
 {
-    next(open(file, at), k)
+    if line.fault != 0 {
+        let found = Refusal {
+            number: line.fault,
+            detail: state.line as u32,
+        };
+        return Checked {
+            found,
+            line: state.line,
+            more: false,
+        };
+    }
+    let found = Refusal {
+        number: 0,
+        detail: 0,
+    };
+    Checked {
+        found,
+        line: state.line + 1,
+        more: line.next < size,
+    }
 }
 
-// Refusals 17, 18, 19 of the first bad line.
+// The line at which a reader stands, as line k. The reader moves behind it, behind a bad line too.
+pub fn next<'s, 'a>(r: &'s mut Reader<'a>, k: usize) -> Line
+    ensures { λ l. ⌜ Handed (now (r .entry)) (now (r .exit)) k l ⌝ }
+{
+    let line = lines::line_at(r.file, r.at, k);
+    r.at = line.next;
+    line
+}
+
+// Refusals 17, 18, 19 of the first bad line: one reader goes through the file.
 fn check_lines(file: &[u8]) -> Refusal
     requires { ⌜ length (now file) ≤ maxFile ⌝ }
     ensures { λ r. ⌜ r ≡ F.linesFault 1 (L.linesOf (now (file .entry))) ⌝ }
 {
-    let mut at: usize = 0;
-    let mut k: usize = 1;
-    while at < file.len() {
-        let line = next_line(file, at, k);
-        if line.fault != 0 {
-            return Refusal {
-                number: line.fault,
-                detail: k as u32,
-            };
-        }
-        at = line.next;
-        k += 1;
+    let size = file.len();
+    let mut reader = Reader { file, at: 0 };
+    let mut state = begun(size);
+    while state.more {
+        let line = next(&mut reader, state.line);
+        let judged = judge(state, line, size);
+        state = judged;
     }
-    Refusal {
-        number: 0,
-        detail: 0,
-    }
+    state.found
 }
 
 // Place A: refusals 15 to 19 of a file, where so many letters and ends are lent.
@@ -115,14 +145,15 @@ fn copy_file(file: &[u8], letters: &mut [u8], ends: &mut [u16]) -> Read
     let mut count: usize = 0;
     let mut slips: usize = 0;
     while at < file.len() {
-        let line = next_line(file, at, slips + 1);
-        let start = line.start;
-        let end = line.end;
+        let next = lines::line_end(file, at);
+        // a good line has its letters behind 9 columns, and an LF behind them
+        let start = at + 9;
+        let end = next - 1;
         file_letters(&file[start..end], &mut letters[count..]);
         count += end - start;
         ends[slips] = count as u16;
         slips += 1;
-        at = line.next;
+        at = next;
     }
     Read {
         number: 0,
