@@ -45,8 +45,8 @@ unfolding readFault
 layouts = refl
 
 numbers-and-lengths :
-    map found ("   2   2 AVG\n" ∷ "   0   3 AVG\n" ∷ "   1   2 AVG\n" ∷ "   1   3 AVG\n   1   3 AES\n" ∷ "   1   3 AVG\n   2   0 \n"
-    ∷ "   1  10 IMPCAESAVG\n" ∷ [])
+    map found ("   2   2 AVG\n" ∷ "   0   3 AVG\n" ∷ "   1   2 AVG\n" ∷ "   1   3 AVG\n   1   3 AES\n"
+    ∷ "   1   3 AVG\n   2   0 \n" ∷ "   1  10 IMPCAESAVG\n" ∷ [])
     ≡ refusal 18 1 ∷ refusal 18 1 ∷ refusal 19 1 ∷ refusal 18 2 ∷ refusal 0 0 ∷ refusal 0 0 ∷ []
 unfolding readFault
 numbers-and-lengths = refl

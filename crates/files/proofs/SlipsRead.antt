@@ -1,4 +1,5 @@
 -- What a caller has of a file that was read: the first part of each lent buffer, and the slips that they hold.
+--   length-ends     == there are as many ends as lines
 --   letters-first   == the lent letters begin with the letters of the file
 --   ends-first      == the lent ends begin with its ends
 --   slips-read      == the slips of that tray are the letters of the file's lines
@@ -14,7 +15,10 @@ use Rattle.files.specs.declared.Read.{Read}
 use Rattle.files.specs.Lines.{linesOf, letters}
 use Rattle.files.specs.Faults.{readFault}
 use Rattle.files.specs.Answers.{lettersOf, endsFrom, goodOf, readOf, Reading}
-use Rattle.files.proofs.CopyTurns.{length-ends}
+
+pub length-ends : (here : ℕ) (ls : List (List ℕ)) → length (endsFrom here ls) ≡ length ls
+length-ends here [] = refl
+length-ends here (x ∷ ls) = ap suc (length-ends (here + length (letters x)) ls)
 
 from-ends : (here : ℕ) (ls : List (List ℕ)) → slipsFrom here (lettersOf ls) (endsFrom here ls) ≡ map letters ls
 from-ends here [] = refl

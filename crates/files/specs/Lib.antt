@@ -2,4 +2,3 @@
 pub mod Lines
 pub mod Faults
 pub mod Answers
-pub mod Passes

@@ -18,8 +18,7 @@ use Rattle.files.specs.declared.Read.{Read}
 use Rattle.files.specs.Lines.{linesOf}
 use Rattle.files.specs.Faults.{readFault}
 use Rattle.files.specs.Answers.{goodOf, readOf, Reading}
-use Rattle.files.proofs.CopyTurns.{length-ends}
-use Rattle.files.proofs.SlipsRead.{letters-first, ends-first}
+use Rattle.files.proofs.SlipsRead.{length-ends, letters-first, ends-first}
 use Rattle.sheets.specs.Sheets.{detailWidth, refusedLine, refusedSize, composeSheetOf, findSheetOf}
 use Rattle.sheet_lines.specs.steps.Lines.{Printed}
 use Rattle.sheets.specs.Programs.{lettersIn, endsIn, traySheet, composeSheetFault, composeSheet, textOf, textFault, textSheet, findSheetFault, findSheet}

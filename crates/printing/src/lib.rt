@@ -2,13 +2,12 @@
 ghost use Rattle.sheet_lines.specs.steps.Lines.{Printed};
 ghost use Rattle.sheets.specs.Programs.{traySheet, composeSheet, textSheet, findSheet};
 ghost use Rattle.printing.specs.Lent.{TrayRoom, ComposeRoom, TextRoom, FindRoom, Trimmed};
+use files::LF;
 use layout::JOINS;
 use layout::PLACES;
 
 // So many joins and places are taken: no accepted tray has more.
 const ROWS: usize = 200;
-
-const LF: u8 = b'\n';
 
 // The sheet of a tray, or the line of its refusal. Answers how many bytes it has.
 fn tray_sheet(
@@ -50,7 +49,7 @@ pub fn compose_sheet(
     requires { ⌜ ComposeRoom (now letters) (now ends) (now work) (now legend) (now out) ⌝ }
     ensures { λ r. ⌜ Printed (composeSheet (now (file .entry))) (now (out .entry)) (now (out .exit)) r ⌝ }
 {
-    let read = files::read_tray(file, letters, ends);
+    let read = reading::read_tray(file, letters, ends);
     if read.number != 0 {
         return sheet_lines::refused_line(read.number, read.detail, out);
     }
@@ -109,7 +108,7 @@ pub fn find_sheet(
     requires { ⌜ FindRoom (now letters) (now ends) (now work) (now found) (now out) ⌝ }
     ensures { λ r. ⌜ Printed (findSheet (now (tray .entry)) (now (text .entry))) (now (out .entry)) (now (out .exit)) r ⌝ }
 {
-    let got = files::read_tray(tray, letters, ends);
+    let got = reading::read_tray(tray, letters, ends);
     if got.number != 0 {
         return sheet_lines::refused_line(got.number, got.detail, out);
     }

@@ -9,8 +9,7 @@ ghost use Rattle.files.specs.Lines.{blank};
 ghost use Rattle.sheets.specs.Sheets as S;
 ghost use Rattle.sheet_lines.specs.steps.Lines as P;
 use answers::Composed;
-
-const LF: u8 = b'\n';
+use files::LF;
 
 const BLANK: u8 = b' ';
 

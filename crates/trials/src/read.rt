@@ -5,7 +5,7 @@ use case_lines::writing;
 use case_lines::writing::put;
 
 fn lent(file: &[u8], letters: &mut [u8], ends: &mut [u16]) {
-    let read = files::read_tray(file, letters, ends);
+    let read = reading::read_tray(file, letters, ends);
     io::write_all(1, b"T");
     writing::refusal(read.number, read.detail);
     put(read.letters);

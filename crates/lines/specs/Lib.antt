@@ -1,0 +1,2 @@
+-- The parser of a line.
+pub mod Parsed

@@ -1,0 +1,25 @@
+-- What the pass that copies asks and leaves.
+--   Lent    == the file s has no fault, and the lent letters a and ends b have room for it
+--   Copied  == the letters and ends of s are written over a and b
+use mathlib.Core.Path.{_≡_}
+use mathlib.Core.List.{List}
+use Prim.Native.Nat.{ℕ, _≤_}
+use lib.ListN.{length}
+use Rattle.words.specs.Lists.{over}
+use Rattle.trays.specs.Limits.{maxFile, endsNeed}
+use Rattle.trays.specs.Faults.{accepted}
+use Rattle.files.specs.declared.Read.{Read}
+use Rattle.files.specs.Lines.{linesOf}
+use Rattle.files.specs.Faults.{linesFault}
+use Rattle.files.specs.Answers.{lettersOf, endsFrom, goodOf}
+
+pub record Lent (s a b : List ℕ) : Type 0 where
+  pub good : linesFault 1 (linesOf s) ≡ accepted
+  pub small : length s ≤ maxFile
+  pub room : maxFile ≤ length a
+  pub slots : endsNeed ≤ length b
+
+pub record Copied (s a a′ b b′ : List ℕ) (r : Read) : Type 0 where
+  pub answer-is : r ≡ goodOf s
+  pub letters-are : a′ ≡ over (lettersOf (linesOf s)) a
+  pub ends-are : b′ ≡ over (endsFrom 0 (linesOf s)) b
