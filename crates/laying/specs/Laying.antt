@@ -6,8 +6,7 @@ use mathlib.Core.Path.{_≡_}
 use mathlib.Core.List.{List, [], _∷_}
 use Prim.Native.Nat.{ℕ, zero, suc, _+_, _*_, _≤_, _<_}
 use lib.ListN.{length, getD}
-use Rattle.words.proofs.Sums.{All}
-use Rattle.words.specs.Lists.{over}
+use Rattle.words.specs.Lists.{over, All}
 use Rattle.trays.specs.Slips.{slipsOf, slip}
 use Rattle.trays.specs.Faults.{trayFault}
 use Rattle.greedy.specs.Legends.{Piece, piece, added, spelled}
