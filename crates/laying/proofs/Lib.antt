@@ -2,7 +2,7 @@
 pub mod CopyLoop
 pub mod PlaceLoop
 pub mod LayStep
-pub mod ChainLoop
+pub mod ChainStep
 pub mod PiecesLoop
 pub mod NeighbourPieces
 pub mod PlacesLoop

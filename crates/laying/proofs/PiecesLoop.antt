@@ -1,4 +1,4 @@
--- All chains written one after another; and that the lists of neighbours give the pieces of the joins.
+-- All chains written one after another.
 use mathlib.Core.Path.{_≡_, refl, sym, _∙_, ap}
 use mathlib.Core.List.{List, [], _∷_, _++_, append-nil}
 use Prim.Native.Nat.{ℕ, suc, _+_, _-_, _≤_, _<_}
@@ -10,27 +10,26 @@ use lib.Seq.{take-suc, take-take}
 use Rattle.words.proofs.Members.{each-append}
 use Rattle.trays.specs.Limits.{maxSlips}
 use Rattle.greedy.specs.Legends.{Piece}
-use Rattle.laying.specs.Laying.{staged}
 use Rattle.laying.specs.Chains.{chainBy, chainOf, piecesBy, PiecesAsk, AddAsks, ChainAsks, Flattened}
+use Rattle.laying.proofs.ChainStep.{behind-none, behind-append}
 
 -- one slip: its chain, if it begins one
-module _ (left right overs : List ℕ) (n i : ℕ) (xs : List ℕ) (m mark : ℕ) (a : AddAsks left right overs n i xs m) (w : (mark ≡ getD left (i - 1) 0) × (mark < 65536)) where
+module _ (left right overs : List ℕ) (n i : ℕ) (xs : List ℕ) (m mark : ℕ) (e : mark ≡ getD left (i - 1) 0) where
   pub add-none : (mark ≡ 0 → ⊥) → Flattened (chainOf left right overs n i) m xs xs m
-  add-none z =
-      let e : chainOf left right overs n i ≡ [] = rw (ne-eqb (getD left (i - 1) 0) 0 (λ q. z (w .0 ∙ q)), chainOf) in
-      rw e (record { count-is = omega arith; pieces-are = sym (append-nil (staged xs 0 m)); same = refl })
+  add-none z = rw (ne-eqb (getD left (i - 1) 0) 0 (λ q. z (e ∙ q)), chainOf) (behind-none xs m)
 
   module _ (z : mark ≡ 0) where
     chain-is : chainOf left right overs n i ≡ chainBy right overs n i 0
-    chain-is = rw (eq-eqb (getD left (i - 1) 0) 0 (sym (w .0) ∙ z), chainOf)
+    chain-is = rw (eq-eqb (getD left (i - 1) 0) 0 (sym e ∙ z), chainOf)
 
-    pub add-asks : ChainAsks right overs n i xs m
-    add-asks =
+    pub add-asks : AddAsks left right overs n i xs m → ChainAsks right overs n i 0 xs m
+    add-asks a =
         record {
           rights = a .rights;
           over-all = a .over-all;
           right-small = a .right-small;
           small = a .small;
+          over-small = omega arith;
           cells = a .cells;
           room = rw chain-is at (a .room);
         }
@@ -79,12 +78,7 @@ module _ (kept : List ℕ) (n : ℕ) (left right overs : List ℕ) (turns : ℕ)
 
     pub pieces-turn : (xs′ : List ℕ) (r : ℕ) → Flattened (chainOf left right overs turns slip) count xs xs′ r → Flattened (by (take (k + 1) kept)) 0 xs₀ xs′ r
     pieces-turn xs′ r g =
-        rw (add-one k)
-        (record {
-          count-is = omega (arith, g .count-is, f .count-is, count-more);
-          pieces-are = g .pieces-are ∙ ap (λ (q : List Piece). q ++ chainOf left right overs turns slip) (f .pieces-are) ∙ sym more;
-          same = g .same ∙ f .same;
-        })
+        rw (add-one k, more) (behind-append (by (take k kept)) (chainOf left right overs turns slip) 0 count r xs₀ xs xs′ f g)
 
   pub pieces-end : (k count : ℕ) (xs : List ℕ) → k ≤ n → n ≤ k → Flattened (by (take k kept)) 0 xs₀ xs count → Flattened (by (take n kept)) 0 xs₀ xs count
   pieces-end k count xs l m f = let e : k ≡ n = omega arith in rw (← e) f

@@ -29,18 +29,15 @@ pub record Flattened (ps : List Piece) (m : ℕ) (xs xs′ : List ℕ) (r : ℕ)
   pub pieces-are : staged xs′ 0 r ≡ staged xs 0 m ++ ps
   pub same : length xs′ ≡ length xs
 
--- one piece more; and what a chain's loop asks
-pub record PieceLaid (xs : List ℕ) (m i o : ℕ) (xs′ : List ℕ) : Type 0 where
-  pub pieces-are : staged xs′ 0 (suc m) ≡ staged xs 0 m ++ (piece i o ∷ [])
-  pub same : length xs′ ≡ length xs
-
-pub record ChainAsks (right overs : List ℕ) (n i : ℕ) (xs : List ℕ) (m : ℕ) : Type 0 where
+-- what following a chain asks
+pub record ChainAsks (right overs : List ℕ) (n i o : ℕ) (xs : List ℕ) (m : ℕ) : Type 0 where
   pub rights : length right ≡ maxSlips
   pub over-all : length overs ≡ maxSlips
   pub right-small : (k : ℕ) → k < maxSlips → getD right k 0 ≤ maxSlips
   pub small : i ≤ maxSlips
+  pub over-small : o < 65536
   pub cells : 2 * maxSlips ≤ length xs
-  pub room : m + length (chainBy right overs n i 0) ≤ maxSlips
+  pub room : m + length (chainBy right overs n i o) ≤ maxSlips
 
 pub record AddAsks (left right overs : List ℕ) (n i : ℕ) (xs : List ℕ) (m : ℕ) : Type 0 where
   pub lefts : length left ≡ maxSlips

@@ -1,15 +1,15 @@
 // Laying: letters copied into a lent buffer, the legend laid piece by piece, and the lowest place of a string.
 ghost use mathlib.Core.Path.{_≡_};
-ghost use mathlib.Core.Bool.{true};
+ghost use mathlib.Core.List.{[], _∷_};
 ghost use Prim.Native.Nat.{_+_, _*_, _≤_, _<_};
 ghost use lib.ListN.{length, take, set};
 ghost use Rattle.words.specs.Lists.{over};
-ghost use Rattle.words.specs.Words.{standsIn};
 ghost use Rattle.trays.specs.Slips.{slipsOf};
 ghost use Rattle.trays.specs.Faults as F;
 ghost use Rattle.greedy.specs.Legends as G;
+ghost use Rattle.greedy.specs.Legends.{piece};
 ghost use Rattle.laying.specs.Laying.{pieceAt, staged, CanLayOne, LaidOne, CanLay};
-ghost use Rattle.laying.specs.Chains.{PieceLaid, ChainAsks, AddAsks, chainBy, chainOf, piecesBy, PiecesAsk, Flattened};
+ghost use Rattle.laying.specs.Chains.{ChainAsks, AddAsks, chainBy, chainOf, piecesBy, PiecesAsk, Flattened};
 ghost use Rattle.laying.specs.Places.{placedBy, asideAt, asideBy, PlaceAsks, PlacedOne, PlacesAsk, AsideAsks};
 
 // Copies `from` over the first part of `to`.
@@ -33,39 +33,37 @@ fn wide(x: u16) -> usize
 // Writes the `m`-th piece.
 fn put_piece(pieces: &mut [u16], m: usize, slip: usize, shared: usize)
     requires { ⌜ (2 * m + 1 < length (now pieces)) × (slip < 65536) × (shared < 65536) ⌝ }
-    ensures { λ _. ⌜ PieceLaid (now (pieces .entry)) m slip shared (now (pieces .exit)) ⌝ }
+    ensures { λ _. ⌜ Flattened (piece slip shared ∷ []) m (now (pieces .entry)) (now (pieces .exit)) (m + 1) ⌝ }
 {
     pieces[2 * m] = slip as u16;
     pieces[2 * m + 1] = shared as u16;
 }
 
-// Writes the chain that `first` begins behind the first `m` pieces: at most `turns` slips. Answers how many pieces there are then.
+// Writes the chain from `slip` on behind the first `m` pieces, at most `turns` slips: by its first slip, which shares `shared` letters with the slip before,
+// then the rest in the same manner with one slip fewer. A chain has at most 200 slips, and so many calls may stand open, and the last that finds no slip.
+// Answers how many pieces there are then.
 fn chain_pieces(
     right: &[u16],
     overs: &[u16],
     turns: usize,
-    first: usize,
+    slip: usize,
+    shared: usize,
     pieces: &mut [u16],
     m: usize,
 ) -> usize
-    requires { ⌜ ChainAsks (now right) (now overs) turns first (now pieces) m ⌝ }
-    ensures { λ r. ⌜ Flattened (chainBy (now (right .entry)) (now (overs .entry)) turns first 0) m (now (pieces .entry)) (now (pieces .exit)) r ⌝ }
+    requires { ⌜ ChainAsks (now right) (now overs) turns slip shared (now pieces) m ⌝ }
+    ensures { λ r. ⌜ Flattened (chainBy (now (right .entry)) (now (overs .entry)) turns slip shared) m (now (pieces .entry)) (now (pieces .exit)) r ⌝ }
 {
-    let mut count = m;
-    let mut slip = first;
-    let mut shared: usize = 0;
-    let mut left = turns;
-    while 0 < left {
-        if slip == 0 {
-            return count;
-        }
-        put_piece(pieces, count, slip, shared);
-        count += 1;
-        shared = wide(overs[slip - 1]);
-        slip = wide(right[slip - 1]);
-        left -= 1;
+    if turns == 0 {
+        return m;
     }
-    count
+    if slip == 0 {
+        return m;
+    }
+    put_piece(pieces, m, slip, shared);
+    let next = wide(right[slip - 1]);
+    let common = wide(overs[slip - 1]);
+    chain_pieces(right, overs, turns - 1, next, common, pieces, m + 1)
 }
 
 // The same if `slip` has no left neighbour; nothing otherwise.
@@ -85,7 +83,7 @@ fn add_chain(
     if mark != 0 {
         return m;
     }
-    chain_pieces(right, overs, turns, slip, pieces, m)
+    chain_pieces(right, overs, turns, slip, 0, pieces, m)
 }
 
 // Writes the chains of the first `n` slips of `kept` that have no left neighbour, one after another: at most `turns` slips each.

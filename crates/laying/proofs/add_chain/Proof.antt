@@ -4,7 +4,7 @@ use Rattle.laying.proofs.add_chain.Statement.{statement}
 use Rattle.laying.proofs.add_chain.Tie as tie
 
 returns : tie.Need-returns
-returns c = add-none _ _ _ _ _ _ _ _ (c .before .before .before .before .before .before .before .pre) (c .before .wide .ensures) (c .if1 .taken)
+returns c = search add-none
 
 chain-pieces-requires : tie.Need-chain-pieces-requires
 chain-pieces-requires c κs = search add-asks

@@ -1,4 +1,4 @@
-use Rattle.laying.proofs.ChainLoop.{piece-put}
+use Rattle.laying.proofs.ChainStep.{piece-put}
 use borrow.Author.Needs.{needs}
 use Rattle.laying.proofs.put_piece.Statement.{statement}
 use Rattle.laying.proofs.put_piece.Tie as tie
