@@ -1,11 +1,11 @@
 -- One piece laid, then the rest.
 use mathlib.Core.Path.{_≡_, refl, sym, _∙_}
-use mathlib.Core.List.{List, [], append-nil}
+use mathlib.Core.List.{List, [], _++_, append-nil}
 use Prim.Native.Nat.{ℕ, zero, suc, _+_, _-_, _*_, _≤_}
 use native.Mathlib.Numerals.{add-one, sub-one}
 use native.Mathlib.Omega.{arith}
 use lib.ListN.{length, getD, take, drop, length-append, length-drop, drop-of-length-le}
-use lib.Seq.{take-all}
+use lib.Seq.{take-all, take-length}
 use borrow.Rule.Slice.PartMut.{putMid}
 use Rattle.words.specs.Lists.{over}
 use Rattle.words.proofs.Buffers.{length-over, over-part}
@@ -24,8 +24,9 @@ module _ (s es xs : List ℕ) (k room i o : ℕ) (part : List ℕ) (c : CanLayOn
   pub piece-room : length (take (length part - o) (drop o part)) ≤ room
   piece-room = rw piece-added (c .room-is)
 
-  pub piece-laid : (l l′ : List ℕ) → l′ ≡ over (take (length part - o) (drop o part)) l → LaidOne (slipsOf s es) (pieceAt xs k) l l′ (length (take (length part - o) (drop o part)))
-  piece-laid l l′ e = record { letters-are = rw piece-added at e; count-is = rw piece-added }
+  pub piece-laid : (l l′ q : List ℕ) (r : ℕ) → q ≡ take (length part - o) (drop o part) → l′ ≡ take (length q) q ++ drop (length q) l → r ≡ length q
+      → LaidOne (slipsOf s es) (pieceAt xs k) l l′ r
+  piece-laid l l′ q r h e n = record { letters-are = e ∙ rw (take-length, h, piece-added); count-is = n ∙ rw (h, piece-added) }
 
 rest-is : (l : List ℕ) (r : ℕ) → take (length l - r) (drop r l) ≡ drop r l
 rest-is l r = take-all (length l - r) (drop r l) (rw length-drop (omega arith))

@@ -1,5 +1,4 @@
 -- Laws of laying.
-pub mod CopyLoop
 pub mod PlaceLoop
 pub mod LayStep
 pub mod ChainStep

@@ -1,4 +1,4 @@
-// Laying: letters copied into a lent buffer, the legend laid piece by piece, and the lowest place of a string.
+// Laying: chains flattened into pieces, the legend laid piece by piece, and the places of the slips in it.
 ghost use mathlib.Core.Path.{_≡_};
 ghost use mathlib.Core.List.{[], _∷_};
 ghost use Prim.Native.Nat.{_+_, _*_, _≤_, _<_};
@@ -11,18 +11,6 @@ ghost use Rattle.greedy.specs.Legends.{piece};
 ghost use Rattle.laying.specs.Laying.{pieceAt, staged, CanLayOne, LaidOne, CanLay};
 ghost use Rattle.laying.specs.Chains.{ChainAsks, AddAsks, chainBy, chainOf, piecesBy, PiecesAsk, Flattened};
 ghost use Rattle.laying.specs.Places.{placedBy, asideAt, asideBy, PlaceAsks, PlacedOne, PlacesAsk, AsideAsks};
-
-// Copies `from` over the first part of `to`.
-pub fn copy(from: &[u8], to: &mut [u8])
-    requires { ⌜ length (now from) ≤ length (now to) ⌝ }
-    ensures { λ _. ⌜ now (to .exit) ≡ over (now (from .entry)) (now (to .entry)) ⌝ }
-{
-    let mut i: usize = 0;
-    while i < from.len() {
-        to[i] = from[i];
-        i += 1;
-    }
-}
 
 fn wide(x: u16) -> usize
     ensures { λ r. ⌜ (r ≡ x) × (r < 65536) ⌝ }
@@ -117,9 +105,7 @@ fn lay_piece(letters: &[u8], ends: &[u16], pieces: &[u16], k: usize, legend: &mu
     let slip = wide(pieces[2 * k]);
     let shared = wide(pieces[2 * k + 1]);
     let part = trays::slip_part(letters, ends, slip);
-    let rest = &part[shared..];
-    copy(rest, legend);
-    rest.len()
+    bytes::copy(&part[shared..], legend)
 }
 
 // Lays the `n` pieces from the `k`-th on: by the first slip, then the rest in the same manner with one slip fewer.
