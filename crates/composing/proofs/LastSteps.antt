@@ -23,8 +23,8 @@ use Rattle.greedy.specs.Joins.{Join, plainJoins, rightOf}
 use Rattle.greedy.specs.Legends.{legendOf, pieces, piecesFor}
 use Rattle.greedy.proofs.Relabel.{plain-in}
 use Rattle.greedy.proofs.Demand3.{composed}
-use Rattle.laying.specs.Laying.{staged}
-use Rattle.laying.proofs.NeighbourPieces.{pieces-by}
+use Rattle.chains.specs.Pieces.{piecesIn}
+use Rattle.chains.proofs.NeighbourPieces.{pieces-by}
 use Rattle.layout.specs.Layout.{KEPT, JOINS}
 use Rattle.layout.specs.Staging.{joinIn, joinsIn}
 use Rattle.composing.specs.declared.Composed.{Composed}
@@ -142,7 +142,7 @@ module _ (s es w : List ℕ) (k j : ℕ) (left right overs : List ℕ) (a : Join
               tray = walked .tray;
               need-is = h .need-is;
               space = q;
-              pieces = record { size = p .size; count-is = count-kept; are = subst (λ (n : ℕ). staged xs 0 n ≡ piecesFor counted ss (numbers ss)) (pieces-count s es (walked .tray) ∙ sym count-kept) (rw here-pieces at (p .are)) };
+              pieces = record { size = p .size; count-is = count-kept; are = subst (λ (n : ℕ). piecesIn xs 0 n ≡ piecesFor counted ss (numbers ss)) (pieces-count s es (walked .tray) ∙ sym count-kept) (rw here-pieces at (p .are)) };
             }
 
         pub last-good : (w′ l′ : List ℕ) (r : Composed) → j ≤ jr → length es ≤ pr → Written s es w w′ l l′ → r ≡ outcomeBy (length es) k c j → Finished s es w w′ l l′ jr pr r

@@ -13,10 +13,10 @@ use Rattle.trays.specs.Aside.{counted}
 use Rattle.trays.specs.Faults.{trayFault}
 use Rattle.trays.proofs.Accepted.{accepted-tells, slips-count}
 use Rattle.greedy.specs.Legends.{legendOf, piecesFor}
-use Rattle.laying.specs.Laying.{staged}
-use Rattle.laying.specs.Chains.{piecesBy, PiecesAsk, Flattened}
-use Rattle.laying.specs.Places.{placedBy, asideBy, PlacesAsk}
-use Rattle.laying.proofs.PlacesAre.{placed-length, aside-length}
+use Rattle.chains.specs.Pieces.{piecesIn, PiecesBehind}
+use Rattle.chains.specs.Chains.{piecesBy, PiecesAsk}
+use Rattle.placing.specs.Places.{placedBy, asideBy, PlacesAsk}
+use Rattle.placing.proofs.PlacesAre.{placed-length, aside-length}
 use Rattle.layout.specs.Layout.{KEPT, PLACES}
 use Rattle.composing.specs.Answers.{flatPlaces}
 use Rattle.composing.specs.Steps.{piecesHere, StageAsks, PiecesStaged, PlacingAsks, Placed}
@@ -31,9 +31,9 @@ module _ (w : List ℕ) (k j : ℕ) (left right overs : List ℕ) where
   pub stage-asks : StageAsks w k j left right overs → PiecesAsk (take (KEPT + maxSlips - KEPT) (drop KEPT w)) k left right overs (j + 1) (replicate (2 * maxSlips) 0)
   stage-asks a = rw (kept-part w) (a .asks)
 
-  pub stage-gives : (xs : List ℕ) (r : ℕ) → Flattened (piecesBy left right overs (j + 1) (take k (take (KEPT + maxSlips - KEPT) (drop KEPT w)))) 0 (replicate (2 * maxSlips) 0) xs r → PiecesStaged w k j left right overs xs
+  pub stage-gives : (xs : List ℕ) (r : ℕ) → PiecesBehind (piecesBy left right overs (j + 1) (take k (take (KEPT + maxSlips - KEPT) (drop KEPT w)))) 0 (replicate (2 * maxSlips) 0) xs r → PiecesStaged w k j left right overs xs
   stage-gives xs r f =
-      let g : Flattened (piecesHere w k j left right overs) 0 (replicate (2 * maxSlips) 0) xs r = rw (kept-part w) at f in
+      let g : PiecesBehind (piecesHere w k j left right overs) 0 (replicate (2 * maxSlips) 0) xs r = rw (kept-part w) at f in
       let e : r ≡ length (piecesHere w k j left right overs) = omega (arith, g .count-is) in
       record { size = g .same ∙ length-replicate {A = ℕ} (2 * maxSlips) 0; are = rw (← e) (g .pieces-are) }
 
@@ -78,9 +78,9 @@ module _ (s es w t xs : List ℕ) (k : ℕ) (a : PlacingAsks s es w t xs k) (w�
         fits = rw (a .pieces .are) (pieces-places s es (a .tray));
       }
 
-  module _ (p₁ : List ℕ) (e₁ : p₁ ≡ placedBy ss (mine w₁) 1 (staged xs 0 k)) where
+  module _ (p₁ : List ℕ) (e₁ : p₁ ≡ placedBy ss (mine w₁) 1 (piecesIn xs 0 k)) where
     first-length : length p₁ ≡ size
-    first-length = rw e₁ (placed-length ss (staged xs 0 k) (mine w₁) 1 ∙ blank-length)
+    first-length = rw e₁ (placed-length ss (piecesIn xs 0 k) (mine w₁) 1 ∙ blank-length)
 
     first : Filled PLACES size p₁ w₁ (back w₁ p₁)
     first = back-is w₁ p₁ (omega (arith, a .room, long)) first-length

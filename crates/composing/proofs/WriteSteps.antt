@@ -8,7 +8,8 @@ use lib.Seq.{take-at}
 use Rattle.words.specs.Lists.{over}
 use Rattle.trays.specs.Slips.{slipsOf}
 use Rattle.greedy.specs.Legends.{spelled, legendOf}
-use Rattle.laying.specs.Laying.{staged, CanLay}
+use Rattle.chains.specs.Pieces.{piecesIn}
+use Rattle.laying.specs.Laying.{CanLay}
 use Rattle.composing.specs.Steps.{PlacingAsks, Placed, WritingAsks, Written}
 use Rattle.composing.proofs.PiecesFit.{pieces-fit, kept-few}
 
@@ -22,7 +23,7 @@ module _ (s es w l xs : List ℕ) (k need : ℕ) (a : WritingAsks s es w l xs k 
         room-is = rw (a .pieces .are) (omega (arith, a .need-is, a .space));
       }
 
-  module _ (l₁ : List ℕ) (e : l₁ ≡ over (spelled (slipsOf s es) (staged xs 0 k)) l) where
+  module _ (l₁ : List ℕ) (e : l₁ ≡ over (spelled (slipsOf s es) (piecesIn xs 0 k)) l) where
     laid-is : l₁ ≡ over (legendOf (slipsOf s es)) l
     laid-is = e ∙ rw (a .pieces .are)
 

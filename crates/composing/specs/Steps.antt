@@ -18,8 +18,8 @@ use Rattle.trays.specs.Faults.{trayFault, written}
 use Rattle.greedy.specs.Joins.{plainJoins, saved}
 use Rattle.greedy.specs.Legends.{Piece, legendOf, piecesFor}
 use Rattle.greedy.specs.Claims.{keptLetters}
-use Rattle.laying.specs.Laying.{staged}
-use Rattle.laying.specs.Chains.{piecesBy, PiecesAsk}
+use Rattle.chains.specs.Pieces.{piecesIn}
+use Rattle.chains.specs.Chains.{piecesBy, PiecesAsk}
 use Rattle.layout.specs.Layout.{KEPT, JOINS, PLACES}
 use Rattle.layout.specs.Numbered.{Kept}
 use Rattle.layout.specs.Staging.{keptIn, joinsIn, Neighbours}
@@ -60,12 +60,12 @@ pub record StageAsks (w : List ℕ) (k j : ℕ) (left right overs : List ℕ) : 
 
 pub record PiecesStaged (w : List ℕ) (k j : ℕ) (left right overs xs : List ℕ) : Type 0 where
   pub size : length xs ≡ 2 * maxSlips
-  pub are : staged xs 0 (length (piecesHere w k j left right overs)) ≡ piecesHere w k j left right overs
+  pub are : piecesIn xs 0 (length (piecesHere w k j left right overs)) ≡ piecesHere w k j left right overs
 
 pub record Pieces (s es : List ℕ) (k : ℕ) (xs : List ℕ) : Type 0 where
   pub size : length xs ≡ 2 * maxSlips
   pub count-is : k ≡ length (kept (slipsOf s es) (numbers (slipsOf s es)))
-  pub are : staged xs 0 k ≡ piecesFor counted (slipsOf s es) (numbers (slipsOf s es))
+  pub are : piecesIn xs 0 k ≡ piecesFor counted (slipsOf s es) (numbers (slipsOf s es))
 
 -- what is counted before anything is written
 pub record CountsAre (s es : List ℕ) (c : Counts) : Type 0 where
