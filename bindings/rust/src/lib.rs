@@ -1,7 +1,8 @@
 //! Coin legends composed from worn readings: a safe form over the proved library.
 //!
 //! Slips of letters, together a tray, are joined by their overlaps into one legend, and found in a text. [`compose_tray`]
-//! and [`find_slips`] take care of all buffers; [`compose`] and [`find`] are for callers who lend their own.
+//! and [`find_slips`] take care of all buffers; [`compose`] and [`find`] are for callers who lend their own. [`Tray::read`] reads
+//! a tray file, [`Tray::slip`] and [`Tray::overlap`] answer for one slip and for a pair.
 //!
 //! ```
 //! use kotsghane::{compose_tray, Tray};
@@ -18,10 +19,12 @@
 //! ```
 #![deny(missing_docs, unsafe_code)]
 
+mod asking;
 mod finding;
 mod refusal;
 mod tray;
 
+pub use asking::{read_tray, Read};
 pub use finding::{find, find_slips, Finding, Found, Search};
 pub use refusal::Refusal;
 pub use tray::{compose_tray, Legend, Tray};
@@ -40,6 +43,12 @@ pub const MAX_LETTERS: usize = 2_000;
 
 /// The most letters that a text has (refusal 12).
 pub const MAX_TEXT: usize = 2_000;
+
+/// The most bytes that a tray file has (refusal 16), and so many letters are lent for one (refusal 15).
+pub const MAX_FILE: usize = 16_384;
+
+/// So many ends are lent for a tray file (refusal 15).
+pub const FILE_ENDS: usize = 1_700;
 
 /// Two slips joined: the right one is laid behind the left one and shares `overlap` letters with it.
 #[repr(C)]

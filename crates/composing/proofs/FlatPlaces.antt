@@ -18,8 +18,8 @@ use Rattle.trays.specs.Slips.{numbers}
 use Rattle.trays.specs.Aside.{isAside, counted}
 use Rattle.greedy.specs.Legends.{Piece, piecesFor, placeFor}
 use Rattle.greedy.specs.Composing.{whole, legendOf, placeOf}
-use Rattle.laying.specs.Places.{placedBy, asideBy}
-use Rattle.laying.proofs.PlacesAre.{laid, Once, placed-here, placed-other, aside-mark, aside-cell}
+use Rattle.placing.specs.Places.{placedBy, asideBy}
+use Rattle.placing.proofs.PlacesAre.{isLaid, LaidOnce, placed-here, placed-other, aside-mark, aside-cell}
 use Rattle.answers.specs.Composing.{flatPlaces}
 
 module _ (a b : ℕ → ℕ) where
@@ -60,20 +60,20 @@ module _ (ss : List (List ℕ)) (xs : List ℕ) (room : 2 * length ss ≤ length
   abbrev after : List ℕ
   after = asideBy ss (legendOf (whole ss)) (placedBy ss xs 1 ps) (length ss)
 
-  module _ (once : Once ps) (which : (k : ℕ) → k < length ss → laid (suc k) ps ≡ not (isAside ss (numbers ss) (suc k)))
+  module _ (once : LaidOnce ps) (which : (k : ℕ) → k < length ss → isLaid (suc k) ps ≡ not (isAside ss (numbers ss) (suc k)))
       (longer : length (placedBy ss xs 1 ps) ≡ length xs) where
     cells : (k : ℕ) → k < length ss → (getD after (2 * k) 0 ≡ placeOf (whole ss) (suc k)) × (getD after (2 * k + 1) 0 ≡ cond (isAside ss (numbers ss) (suc k)) 0 1)
     cells k h =
         by-test (isAside ss (numbers ss) (suc k))
         (λ t.
-        let l : laid (suc k) ps ≡ false = which k h ∙ rw t in
+        let l : isLaid (suc k) ps ≡ false = which k h ∙ rw t in
         let o = placed-other ss ps xs 1 k (2 * k) once l refl in
         let z : getD (placedBy ss xs 1 ps) (2 * k + 1) 0 ≡ 0 = o .1 ∙ blank k h in (
           aside-cell ss (legendOf (whole ss)) (placedBy ss xs 1 ps) (length ss) k h (omega arith) ∙ rw (z, t, placeFor),
           aside-mark ss (legendOf (whole ss)) (placedBy ss xs 1 ps) (length ss) k ∙ z ∙ rw t,
         ))
         (λ t.
-        let l : laid (suc k) ps ≡ true = which k h ∙ rw t in
+        let l : isLaid (suc k) ps ≡ true = which k h ∙ rw t in
         let o = placed-here ss ps xs 1 k (2 * k) once l refl (omega arith) in (
           aside-cell ss (legendOf (whole ss)) (placedBy ss xs 1 ps) (length ss) k h (omega arith) ∙ rw (o .1, t, placeFor) (o .0),
           aside-mark ss (legendOf (whole ss)) (placedBy ss xs 1 ps) (length ss) k ∙ o .1 ∙ rw t,

@@ -24,8 +24,8 @@ use Rattle.greedy.specs.Composing.{whole, joinsOf, legendOf}
 use Rattle.greedy.specs.Legends.{pieces, piecesFor}
 use Rattle.greedy.proofs.Relabel.{plain-in}
 use Rattle.greedy.proofs.Demand3.{composed}
-use Rattle.laying.specs.Laying.{staged}
-use Rattle.laying.proofs.NeighbourPieces.{pieces-by}
+use Rattle.chains.specs.Pieces.{piecesIn}
+use Rattle.chains.proofs.NeighbourPieces.{pieces-by}
 use Rattle.layout.specs.Layout.{KEPT, JOINS}
 use Rattle.layout.specs.Staging.{joinIn, joinsIn}
 use Rattle.answers.specs.declared.Composed.{Composed}
@@ -148,7 +148,7 @@ module _ (s es w : List ℕ) (k j : ℕ) (left right overs : List ℕ) (a : Join
               pieces = record {
                 size = p .size;
                 count-is = count-kept;
-                are = subst (λ (n : ℕ). staged xs 0 n ≡ piecesFor counted ss (numbers ss))
+                are = subst (λ (n : ℕ). piecesIn xs 0 n ≡ piecesFor counted ss (numbers ss))
                     (pieces-count s es (walked .tray) ∙ sym count-kept) (rw here-pieces at (p .are));
               };
             }

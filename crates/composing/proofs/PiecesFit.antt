@@ -27,8 +27,8 @@ use Rattle.greedy.proofs.Chains.{Chain, Rep}
 use Rattle.greedy.proofs.Bound.{kept-rep}
 use Rattle.greedy.proofs.Letters.{Order, weight, over-most, legend-order, pieces-numbers, saving-of}
 use Rattle.laying.specs.Laying.{PieceFits}
-use Rattle.laying.specs.Places.{Placeable}
-use Rattle.laying.proofs.PlacesAre.{laid, Once}
+use Rattle.placing.specs.Places.{Placeable}
+use Rattle.placing.proofs.PlacesAre.{isLaid, LaidOnce}
 
 -- how often slip i is among pieces
 abbrev times : ℕ → List Piece → ℕ
@@ -40,12 +40,12 @@ is-same i k e = rw (eq-eqb i k e)
 is-other : (i k : ℕ) → eqb i k ≡ false → is i k ≡ 0
 is-other i k e = rw e
 
-laid-times : (i : ℕ) (ps : List Piece) → 1 ≤ times i ps → laid i ps ≡ true
+laid-times : (i : ℕ) (ps : List Piece) → 1 ≤ times i ps → isLaid i ps ≡ true
 laid-times i [] h = absurd (omega arith)
 laid-times i (p ∷ ps) h =
     by-test (eqb i (p .number)) (λ t. rw t) (λ t. rw t (laid-times i ps (omega (arith, is-other i (p .number) t))))
 
-times-none : (i : ℕ) (ps : List Piece) → times i ps ≡ 0 → laid i ps ≡ false
+times-none : (i : ℕ) (ps : List Piece) → times i ps ≡ 0 → isLaid i ps ≡ false
 times-none i [] h = refl
 times-none i (p ∷ ps) h =
     by-test (eqb i (p .number))
@@ -53,7 +53,7 @@ times-none i (p ∷ ps) h =
     (λ t. rw t (times-none i ps (omega arith)))
 
 -- each named at most once
-once-times : (ps : List Piece) → ((i : ℕ) → times i ps ≤ 1) → All (λ p. 1 ≤ p .number) ps → Once ps
+once-times : (ps : List Piece) → ((i : ℕ) → times i ps ≤ 1) → All (λ p. 1 ≤ p .number) ps → LaidOnce ps
 once-times [] h a = tt
 once-times (p ∷ ps) h a = (
   a .0,
@@ -149,12 +149,12 @@ module _ (s es : List ℕ) (acc : trayFault s es .number ≡ 0) where
   real : (i : ℕ) → 1 ≤ times i ps → (1 ≤ i) × (i ≤ length es)
   real i h = kept-real i (held-in i K (omega (arith, times-held i)))
 
-  pub pieces-once : Once ps
+  pub pieces-once : LaidOnce ps
   pieces-once =
       once-times ps (λ i. omega (arith, times-held i, asc-once K (kept-asc ss (numbers ss) (numbers-rise ss)) i))
       (all-times (λ i. 1 ≤ i) ps (λ i h. real i h .0))
 
-  pub pieces-which : (k : ℕ) → k < length ss → laid (suc k) ps ≡ not (isAside ss (numbers ss) (suc k))
+  pub pieces-which : (k : ℕ) → k < length ss → isLaid (suc k) ps ≡ not (isAside ss (numbers ss) (suc k))
   pieces-which k h =
       by-test (isAside ss (numbers ss) (suc k))
       (λ t. rw t (times-none (suc k) ps (times-held (suc k) ∙ none t)))

@@ -14,10 +14,11 @@ use Rattle.trays.specs.Faults.{trayFault}
 use Rattle.trays.proofs.Accepted.{accepted-tells, slips-count}
 use Rattle.greedy.specs.Legends.{piecesFor}
 use Rattle.greedy.specs.Composing.{whole, legendOf}
-use Rattle.laying.specs.Laying.{staged}
-use Rattle.laying.specs.Chains.{piecesBy, PiecesAsk, Flattened}
-use Rattle.laying.specs.Places.{placedBy, asideBy, PlacesAsk}
-use Rattle.laying.proofs.PlacesAre.{placed-length, aside-length}
+use Rattle.chains.specs.Pieces.{piecesIn}
+use Rattle.chains.specs.Chains.{piecesBy, PiecesAsk}
+use Rattle.chains.specs.Pieces.{PiecesBehind}
+use Rattle.placing.specs.Places.{placedBy, asideBy, PlacesAsk}
+use Rattle.placing.proofs.PlacesAre.{placed-length, aside-length}
 use Rattle.layout.specs.Layout.{KEPT, PLACES}
 use Rattle.answers.specs.Composing.{flatPlaces}
 use Rattle.composing.specs.steps.Composing.{piecesHere, StageAsks, PiecesStaged, PlacingAsks, PlacesWritten}
@@ -34,10 +35,10 @@ module _ (w : List ℕ) (k j : ℕ) (left right overs : List ℕ) where
   stage-asks a = rw (kept-part w) (a .asks)
 
   pub stage-gives : (xs : List ℕ) (r : ℕ) →
-      Flattened (piecesBy left right overs (j + 1) (take k (take (KEPT + maxSlips - KEPT) (drop KEPT w)))) 0 (replicate (2 * maxSlips) 0) xs r →
+      PiecesBehind (piecesBy left right overs (j + 1) (take k (take (KEPT + maxSlips - KEPT) (drop KEPT w)))) 0 (replicate (2 * maxSlips) 0) xs r →
       PiecesStaged w k j left right overs xs
   stage-gives xs r f =
-      let g : Flattened (piecesHere w k j left right overs) 0 (replicate (2 * maxSlips) 0) xs r = rw (kept-part w) at f in
+      let g : PiecesBehind (piecesHere w k j left right overs) 0 (replicate (2 * maxSlips) 0) xs r = rw (kept-part w) at f in
       let e : r ≡ length (piecesHere w k j left right overs) = omega (arith, g .count-is) in
       record { size = g .same ∙ length-replicate {A = ℕ} (2 * maxSlips) 0; are = rw (← e) (g .pieces-are) }
 
@@ -82,9 +83,9 @@ module _ (s es w t xs : List ℕ) (k : ℕ) (a : PlacingAsks s es w t xs k) (w�
         fits = rw (a .pieces .are) (pieces-places s es (a .tray));
       }
 
-  module _ (p₁ : List ℕ) (e₁ : p₁ ≡ placedBy ss (mine w₁) 1 (staged xs 0 k)) where
+  module _ (p₁ : List ℕ) (e₁ : p₁ ≡ placedBy ss (mine w₁) 1 (piecesIn xs 0 k)) where
     first-length : length p₁ ≡ size
-    first-length = rw e₁ (placed-length ss (staged xs 0 k) (mine w₁) 1 ∙ blank-length)
+    first-length = rw e₁ (placed-length ss (piecesIn xs 0 k) (mine w₁) 1 ∙ blank-length)
 
     first : Filled PLACES size p₁ w₁ (back w₁ p₁)
     first = back-is w₁ p₁ (omega (arith, a .room, long)) first-length

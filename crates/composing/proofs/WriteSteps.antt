@@ -9,7 +9,8 @@ use Rattle.words.specs.Lists.{over}
 use Rattle.trays.specs.Slips.{slipsOf}
 use Rattle.greedy.specs.Legends.{spelled}
 use Rattle.greedy.specs.Composing.{whole, legendOf}
-use Rattle.laying.specs.Laying.{staged, CanLay}
+use Rattle.laying.specs.Laying.{CanLay}
+use Rattle.chains.specs.Pieces.{piecesIn}
 use Rattle.composing.specs.steps.Composing.{PlacingAsks, PlacesWritten, WritingAsks, Written}
 use Rattle.composing.proofs.PiecesFit.{pieces-fit, kept-few}
 
@@ -23,7 +24,7 @@ module _ (s es w l xs : List ℕ) (k need : ℕ) (a : WritingAsks s es w l xs k 
         room-is = rw (a .pieces .are) (omega (arith, a .need-is, a .space));
       }
 
-  module _ (l₁ : List ℕ) (e : l₁ ≡ over (spelled (slipsOf s es) (staged xs 0 k)) l) where
+  module _ (l₁ : List ℕ) (e : l₁ ≡ over (spelled (slipsOf s es) (piecesIn xs 0 k)) l) where
     laid-is : l₁ ≡ over (legendOf (whole (slipsOf s es))) l
     laid-is = e ∙ rw (a .pieces .are)
 

@@ -65,7 +65,7 @@ fn pieces_of(
     ensures { λ r. ⌜ PiecesStaged (now (work .entry)) k joins (now (left .entry)) (now (right .entry)) (now (overs .entry)) r ⌝ }
 {
     let mut pieces = [0u16; 400];
-    laying::all_pieces(
+    chains::all_pieces(
         &work[KEPT..KEPT + 200],
         k,
         left,
@@ -90,8 +90,8 @@ fn write_places(
     ensures { λ _. ⌜ PlacesWritten (now (letters .entry)) (now (ends .entry)) (now (work .entry)) (now (work .exit)) ⌝ }
 {
     tables::clear(work, PLACES, 400);
-    laying::kept_places(letters, ends, pieces, k, &mut work[PLACES..PLACES + 400]);
-    laying::aside_places(letters, ends, legend, &mut work[PLACES..PLACES + 400]);
+    placing::kept_places(letters, ends, pieces, k, &mut work[PLACES..PLACES + 400]);
+    placing::aside_places(letters, ends, legend, &mut work[PLACES..PLACES + 400]);
 }
 
 // What is counted before anything is written.

@@ -1,8 +1,11 @@
-// Composing and finding for programs and other languages: everything over slices of numbers.
-ghost use Rattle.words.specs.Lists.{over};
+// The calls for other languages: a slice is a pointer and a length, and the answer is a list of numbers behind a pointer.
+ghost use mathlib.Core.Path.{_≡_};
+ghost use Rattle.trays.specs.Answers.{locatedOf, pairOf};
+ghost use Rattle.exports.specs.Numbers.{slipNumbers, pairNumbers, ReadExported};
 ghost use Rattle.answers.specs.Exported.{ComposeExported, FindExported};
 
-// The same for C: the answer's number, detail, slips, kept slips, kept letters, saved letters, legend letters and joins are eight numbers.
+// Composing. A join is three numbers (left slip, right slip, overlap), a place two (the place, and 1 if the slip is kept).
+// The answer's number, detail, slips, kept slips, kept letters, saved letters, legend letters and joins are eight numbers.
 #[no_mangle]
 pub extern "C" fn kotsghane_compose(
     letters: &[u8],
@@ -29,7 +32,7 @@ pub extern "C" fn kotsghane_compose(
     ];
 }
 
-// Finding for C: an occurrence is two numbers (end place, slip); the answer's number, detail, moves and count of occurrences are four numbers.
+// Finding. An occurrence is two numbers (end place, slip); the answer's number, detail, moves and count of occurrences are four numbers.
 #[no_mangle]
 pub extern "C" fn kotsghane_find(
     letters: &[u8],
@@ -44,4 +47,43 @@ pub extern "C" fn kotsghane_find(
 {
     let r = flat::find_flat(letters, ends, text, work, found);
     *answer = [r.number as u32, r.detail, r.moves, r.count];
+}
+
+// Where the letters of one slip start and end in those of the tray: number, detail, start and end are four numbers.
+#[no_mangle]
+pub extern "C" fn kotsghane_slip(letters: &[u8], ends: &[u16], slip: u32, answer: &mut [u32; 4])
+    ensures { λ _. ⌜ now (answer .exit) ≡ slipNumbers (locatedOf (now (letters .entry)) (now (ends .entry)) slip) ⌝ }
+{
+    let r = asking::slip_place(letters, ends, slip);
+    *answer = [r.number as u32, r.detail, r.start, r.end];
+}
+
+// The overlap of a pair of slips: number, detail and the letters shared are three numbers.
+#[no_mangle]
+pub extern "C" fn kotsghane_pair(
+    letters: &[u8],
+    ends: &[u16],
+    left: u32,
+    right: u32,
+    answer: &mut [u32; 3],
+)
+    ensures { λ _. ⌜ now (answer .exit) ≡ pairNumbers (pairOf (now (letters .entry)) (now (ends .entry)) left right) ⌝ }
+{
+    let r = asking::pair_overlap(letters, ends, left, right);
+    *answer = [r.number as u32, r.detail, r.letters];
+}
+
+// Reading a tray file into lent letters and ends: number, detail, letters and slips are four numbers.
+#[no_mangle]
+pub extern "C" fn kotsghane_read_tray(
+    file: &[u8],
+    letters: &mut [u8],
+    ends: &mut [u16],
+    answer: &mut [u32; 4],
+)
+    ensures { λ _. ⌜ ReadExported (now (file .entry)) (now (letters .entry)) (now (letters .exit)) (now (ends .entry)) (now (ends .exit))
+        (now (answer .exit)) ⌝ }
+{
+    let r = reading::read_tray(file, letters, ends);
+    *answer = [r.number as u32, r.detail, r.letters, r.slips];
 }

@@ -1,9 +1,2 @@
 -- Laws of laying.
-pub mod CopyLoop
-pub mod PlaceLoop
 pub mod LayStep
-pub mod ChainLoop
-pub mod PiecesLoop
-pub mod NeighbourPieces
-pub mod PlacesLoop
-pub mod PlacesAre

@@ -1,4 +1,3 @@
--- Chains flattened into pieces, pieces laid into a legend, and places.
+-- What laying pieces into a legend asks and gives.
 pub mod Laying
-pub mod Chains
-pub mod Places
+pub mod steps

@@ -1,16 +1,15 @@
 -- A lent buffer written part by part.
 --   put-none   == nothing written
 --   put-byte   == one byte
---   put-part   == a part `&mut out[at..]` written over
---   put-more   == what is written writtenBehind what is written
+--   put-part   == a part `&mut out[at..]`, to which bytes are copied
+--   put-more   == what is written behind what is written
 use mathlib.Core.Path.{_≡_, refl, sym, _∙_}
 use mathlib.Core.List.{List, [], _∷_, _++_, append-assoc, append-nil}
 use Prim.Native.Nat.{ℕ, _+_, _-_, _≤_, _<_}
 use native.Mathlib.Omega.{arith}
 use borrow.Rule.Slice.PartMut.{putMid}
 use lib.ListN.{length, take, drop, set, length-append, length-drop, take-append-drop, drop-of-length-le}
-use lib.Seq.{length-take-le, take-all, take-at, drop-at, drop-drop, drop-cons, set-split}
-use Rattle.words.specs.Lists.{over}
+use lib.Seq.{length-take-le, take-length, take-all, take-at, drop-at, drop-drop, drop-cons, set-split}
 use Rattle.sheet_lines.specs.steps.Lines.{writtenBehind, Wrote}
 
 behind-length : (at : ℕ) (ys old : List ℕ) → at + length ys ≤ length old → length (writtenBehind at ys old) ≡ length old
@@ -57,7 +56,10 @@ module _ (at : ℕ) (ys old part part′ : List ℕ) (v : part ≡ take (length 
   part-is : part ≡ drop at old
   part-is = v ∙ take-all (length old - at) (drop at old) (rw length-drop (omega arith))
 
-  pub put-part : part′ ≡ over ys part → Wrote at (length ys) ys old (putMid at (length old - at) old part′) (at + length ys)
-  put-part e =
-      put-is at (length ys) ys old (putMid at (length old - at) old part′)
-      (rw (e, part-is, drop-of-length-le (drop at old) {i = length old - at} (rw length-drop (omega arith)), append-nil)) refl h
+  pub put-part : (n : ℕ) → part′ ≡ take (length ys) ys ++ drop (length ys) part → n ≡ length ys
+      → Wrote at (length ys) ys old (putMid at (length old - at) old part′) (at + n)
+  put-part n e many =
+      let all : length (drop at old) ≤ length old - at = rw length-drop (omega arith) in
+      rw many
+      (put-is at (length ys) ys old (putMid at (length old - at) old part′)
+      (rw (e, take-length, part-is, drop-of-length-le (drop at old) {i = length old - at} all, append-nil)) refl h)

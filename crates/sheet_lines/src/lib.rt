@@ -77,8 +77,7 @@ fn put_text(out: &mut [u8], at: usize, text: &[u8]) -> usize
     requires { ⌜ at + length (now text) ≤ length (now out) ⌝ }
     ensures { λ r. ⌜ P.Wrote at (length (now (text .entry))) (now (text .entry)) (now (out .entry)) (now (out .exit)) r ⌝ }
 {
-    laying::copy(text, &mut out[at..]);
-    at + text.len()
+    at + bytes::copy(text, &mut out[at..])
 }
 
 fn put_blanks(out: &mut [u8], at: usize, n: usize) -> usize

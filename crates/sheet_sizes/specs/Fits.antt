@@ -5,7 +5,7 @@
 use Prim.Native.Nat.{ℕ, _*_, _-_, _^_, _≤_, _<_}
 use mathlib.Core.List.{List}
 use lib.ListN.{length}
-use Rattle.words.proofs.Sums.{All}
+use Rattle.words.specs.Lists.{All}
 use Rattle.trays.specs.declared.Refusal.{Refusal}
 use Rattle.trays.specs.Limits.{maxSlips, maxSlip, maxLetters, maxText}
 use Rattle.trays.specs.Slips.{slip, numbers}

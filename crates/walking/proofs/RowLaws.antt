@@ -1,8 +1,8 @@
--- The nodes by rows: of d letters, of one letter fewer, .. of one letter, each nodesAt by number.
---   row-num       == a number of the nodesAt of d letters is that of a node of d letters
---   row-asc       == a nodesAt ascends by the order of visits; rows-asc == so do the rows
+-- The nodes by rows: of d letters, of one letter fewer, .. of one letter, each row by number.
+--   row-num       == a number of the row of d letters is that of a node of d letters
+--   row-asc       == a row ascends by the order of visits; rows-asc == so do the rows
 --   rows-nodes    == the walk may go over the rows: they have every beginning
--- Numbers ascend by length, then byte order; the table of levels parts them by length. Within a nodesAt the order of numbers is byte order.
+-- Numbers ascend by length, then byte order; the table of levels parts them by length. Within a row the order of numbers is byte order.
 use mathlib.Core.Path.{_≡_, refl, sym, ap, _∙_}
 use mathlib.Core.Bool.{true}
 use mathlib.Core.Logic.{inl, inr}

@@ -1,5 +1,5 @@
 -- The visits of the nodes of one length, by number.
---   RowWalking .. w made v end ..  == what is left of the nodesAt from node v on makes of the joins in w what the whole nodesAt makes
+--   RowWalking .. w made v end ..  == what is left of the row from node v on makes of the joins in w what the whole row makes
 use mathlib.Core.Path.{_≡_, refl, sym, ap, _∙_}
 use mathlib.Core.Bool.{true}
 use mathlib.Core.List.{List, [], _∷_, map}

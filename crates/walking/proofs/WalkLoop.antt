@@ -1,4 +1,4 @@
--- The walk, nodesAt by nodesAt, and what it has made in the end.
+-- The walk, row by row, and what it has made in the end.
 --   Walking .. w made d ..  == the rows of d letters and fewer, walked from the joins in w on, make the joins of the walk
 --   few-joins               == the plain rule makes no more joins than there are slips
 use mathlib.Core.Path.{_≡_, refl, sym, ap, _∙_}

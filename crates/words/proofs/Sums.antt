@@ -1,6 +1,5 @@
 -- Sums over lists, properties of every member, and how often a number is in a list.
 --   sum f xs    == f x added up over xs
---   All P xs    == P holds of every member of xs
 --   is x y      == 1 if x and y are equal, else 0
 --   held x ys   == how often x is in ys
 -- Two lists with equal sums for every f are orders of one another, and a number is a member where it is held at least once: so
@@ -14,16 +13,13 @@ use native.Mathlib.Omega.{arith}
 use lib.Dec.{eqb}
 use borrow.Author.Tests.{eqb-true, eqb-false, eq-eqb, ne-eqb}
 use Rattle.words.specs.Lists.{lastOr}
+pub use Rattle.words.specs.Lists.{All}
 use Rattle.words.proofs.Tests.{tell}
 use Rattle.words.proofs.Members.{In, Asc, by-in}
 
 abbrev pub sum : {A : Type 0} → (A → ℕ) → List A → ℕ
 sum f [] = 0
 sum f (x ∷ xs) = f x + sum f xs
-
-abbrev pub All : {A : Type 0} → (A → Type 0) → List A → Type 0
-All P [] = Unit {0}
-All P (x ∷ xs) = P x × All P xs
 
 abbrev pub is : ℕ → ℕ → ℕ
 is x y = cond (eqb x y) 1 0

@@ -8,6 +8,7 @@
 --   headOr, tailOf  == the first member, or the default; the others
 --   lastOr d xs     == the last member, or the default d
 --   over xs old     == a lent buffer that held old, with xs written over its first part
+--   All P xs        == P holds of every member of xs
 use mathlib.Core.Bool.{Bool, true, false, _||_}
 use mathlib.Core.List.{List, [], _∷_, _++_}
 use Prim.Native.Nat.{ℕ, zero, suc}
@@ -52,3 +53,7 @@ lastOr d (x ∷ xs) = lastOr x xs
 
 abbrev pub over : {A : Type 0} → List A → List A → List A
 over xs old = xs ++ drop (length xs) old
+
+abbrev pub All : {A : Type 0} → (A → Type 0) → List A → Type 0
+All P [] = Unit {0}
+All P (x ∷ xs) = P x × All P xs

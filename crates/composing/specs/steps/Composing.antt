@@ -3,7 +3,7 @@
 --   KeptReal        == the first k numbers of a list are slips of an accepted tray
 --   AfterWalk          == the work area after the walk: kept slips and joins
 --   Joined          == the work area and the lists of neighbours after the walk
---   Pieces          == the pieces of the tray, staged
+--   Pieces          == the pieces of the tray, piecesIn
 --   Finished        == what the last step leaves
 --   Staged          == what the core leaves: the answer, the legend, and joins and places in the work area
 use mathlib.Core.Path.{_≡_}
@@ -19,8 +19,8 @@ use Rattle.trays.specs.Faults.{trayFault, written}
 use Rattle.greedy.specs.Joins.{saved}
 use Rattle.greedy.specs.Composing.{whole, joinsOf, legendOf, keptLetters}
 use Rattle.greedy.specs.Legends.{Piece, piecesFor}
-use Rattle.laying.specs.Laying.{staged}
-use Rattle.laying.specs.Chains.{piecesBy, PiecesAsk}
+use Rattle.chains.specs.Pieces.{piecesIn}
+use Rattle.chains.specs.Chains.{piecesBy, PiecesAsk}
 use Rattle.layout.specs.Layout.{KEPT, JOINS, PLACES}
 use Rattle.layout.specs.Numbered.{SameBelow}
 use Rattle.layout.specs.Staging.{keptIn, joinsIn, Neighbours}
@@ -62,12 +62,12 @@ pub record StageAsks (w : List ℕ) (k j : ℕ) (left right overs : List ℕ) : 
 
 pub record PiecesStaged (w : List ℕ) (k j : ℕ) (left right overs xs : List ℕ) : Type 0 where
   pub size : length xs ≡ 2 * maxSlips
-  pub are : staged xs 0 (length (piecesHere w k j left right overs)) ≡ piecesHere w k j left right overs
+  pub are : piecesIn xs 0 (length (piecesHere w k j left right overs)) ≡ piecesHere w k j left right overs
 
 pub record Pieces (s es : List ℕ) (k : ℕ) (xs : List ℕ) : Type 0 where
   pub size : length xs ≡ 2 * maxSlips
   pub count-is : k ≡ length (kept (slipsOf s es) (numbers (slipsOf s es)))
-  pub are : staged xs 0 k ≡ piecesFor counted (slipsOf s es) (numbers (slipsOf s es))
+  pub are : piecesIn xs 0 k ≡ piecesFor counted (slipsOf s es) (numbers (slipsOf s es))
 
 -- what is counted before anything is written
 pub record LetterCountsAre (s es : List ℕ) (c : LetterCounts) : Type 0 where

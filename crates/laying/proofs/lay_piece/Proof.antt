@@ -3,12 +3,6 @@ use borrow.Author.Needs.{needs}
 use Rattle.laying.proofs.lay_piece.Statement.{statement}
 use Rattle.laying.proofs.lay_piece.Tie as tie
 
-sub-rest : tie.Need-sub-rest
-sub-rest c = search piece-within
-
-part-rest-start : tie.Need-part-rest-start
-part-rest-start c = search piece-within
-
 copy-requires : tie.Need-copy-requires
 copy-requires c κs = search piece-room
 
@@ -17,5 +11,5 @@ returns c = search piece-laid
 
 pub lay-piece-spec : {M : Type 1} → statement M
 lay-piece-spec = tie.close (tie.spec (λ c. search needs) (λ c. search needs) (λ c. search needs) (λ c κs. search needs) (λ c. search needs)
-    (λ c. search needs) (λ c. search needs) (λ c. search needs) (λ c κs. search needs) (λ c κs. search needs) sub-rest part-rest-start
-    (λ c. search needs) copy-requires (λ c. search needs) returns)
+    (λ c. search needs) (λ c. search needs) (λ c. search needs) (λ c κs. search needs) (λ c κs. search needs) (λ c. search piece-within)
+    (λ c. search piece-within) (λ c. search needs) copy-requires (λ c. search needs) returns)

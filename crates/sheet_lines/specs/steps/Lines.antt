@@ -1,5 +1,5 @@
 -- What the functions that write lines into a lent buffer ask and leave.
---   writtenBehind at ys old        == a lent buffer that held old, with ys written writtenBehind its first `at` bytes
+--   writtenBehind at ys old        == a lent buffer that held old, with ys written behind its first `at` bytes
 --   Wrote at n ys old new r   == that was done, with n bytes, and r is where the next one goes
 --   Printed ys old new r    == ys was written from the start on, and r counts its bytes
 --   ..Fits, ..Fit           == numbers that fit their columns

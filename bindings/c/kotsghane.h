@@ -1,0 +1,94 @@
+/* Coin legends composed from worn readings: the calls of the proved library, for C.
+ *
+ * `rt staticlib exports` at the root of the repository writes target/staticlib/libexports.a; link it.
+ *
+ * A tray is letters and ends: slip 1 runs from the start to ends[0], slip i from ends[i - 2] to ends[i - 1]. Every call takes any bytes, any ends and any
+ * lengths; what cannot be done is refused, by a number and a detail in the answer (docs/REFUSALS.md). A refusal leaves every lent buffer as it was; only
+ * the work area may differ, and only after 8, 9 and 14. On success the first part of each buffer is the outcome, and the rest is unchanged.
+ *
+ * Each pointer comes with a length in elements and must point to as many; one with length 0 is never followed. What is lent for writing must not
+ * overlap anything else that is lent. No call keeps a pointer, allocates, or unwinds.
+ */
+#ifndef KOTSGHANE_H
+#define KOTSGHANE_H
+
+#include <stddef.h>
+#include <stdint.h>
+
+#ifdef __cplusplus
+extern "C" {
+#endif
+
+/* Limits, and what must be lent. */
+enum {
+    KOTSGHANE_MAX_SLIPS = 200,     /* slips of a tray (1) */
+    KOTSGHANE_MAX_SLIP = 40,       /* letters of a slip (3) */
+    KOTSGHANE_MAX_LETTERS = 2000,  /* letters of a tray (4), and so of a legend */
+    KOTSGHANE_MAX_TEXT = 2000,     /* letters of a text (12) */
+    KOTSGHANE_WORK = 32000,        /* cells of the work area (7) */
+    KOTSGHANE_MAX_FILE = 16384,    /* bytes of a tray file (16), and letters to lend for one (15) */
+    KOTSGHANE_FILE_ENDS = 1700     /* ends to lend for a tray file (15) */
+};
+
+/* So many numbers make a record of each list. */
+enum {
+    KOTSGHANE_JOIN = 3,       /* left slip, right slip, overlap */
+    KOTSGHANE_PLACE = 2,      /* place from 1, 1 if the slip is kept and 0 if it is set aside; one record a slip, in slip order */
+    KOTSGHANE_OCCURRENCE = 2  /* place of the last letter, from 1, and slip */
+};
+
+/* What stands where in an answer. In each of them number and detail of the refusal come first, 0 and 0 for none. */
+enum { KOTSGHANE_NUMBER, KOTSGHANE_DETAIL };
+
+/* The answer of kotsghane_compose: all counts are 0 if refused. */
+enum {
+    KOTSGHANE_COMPOSED_SLIPS = 2,
+    KOTSGHANE_COMPOSED_KEPT,
+    KOTSGHANE_COMPOSED_KEPT_LETTERS,
+    KOTSGHANE_COMPOSED_SAVED,
+    KOTSGHANE_COMPOSED_LEGEND,
+    KOTSGHANE_COMPOSED_JOINS,
+    KOTSGHANE_COMPOSED_NUMBERS
+};
+
+/* The answer of kotsghane_find. */
+enum { KOTSGHANE_FOUND_MOVES = 2, KOTSGHANE_FOUND_COUNT, KOTSGHANE_FOUND_NUMBERS };
+
+/* The answer of kotsghane_slip. */
+enum { KOTSGHANE_SLIP_START = 2, KOTSGHANE_SLIP_END, KOTSGHANE_SLIP_NUMBERS };
+
+/* The answer of kotsghane_pair. */
+enum { KOTSGHANE_PAIR_OVERLAP = 2, KOTSGHANE_PAIR_NUMBERS };
+
+/* The answer of kotsghane_read_tray. */
+enum { KOTSGHANE_READ_LETTERS = 2, KOTSGHANE_READ_SLIPS, KOTSGHANE_READ_NUMBERS };
+
+/* Composes a tray. Lend KOTSGHANE_WORK cells, and lists that suffice for any tray: MAX_LETTERS letters, MAX_SLIPS joins and MAX_SLIPS places. Lengths of
+ * lists are counted in numbers. Refusals 1 to 9. */
+void kotsghane_compose(const uint8_t *letters, size_t letters_len, const uint16_t *ends, size_t ends_len, uint16_t *work, size_t work_len,
+                       uint8_t *legend, size_t legend_len, uint16_t *joins, size_t joins_len, uint16_t *places, size_t places_len,
+                       uint32_t answer[KOTSGHANE_COMPOSED_NUMBERS]);
+
+/* Finds every occurrence of every slip in a text: by end place, then longer slips first, then lower numbers. Refusals 1 to 7 and 12 to 14; the detail of
+ * 14 is how many occurrences there are. */
+void kotsghane_find(const uint8_t *letters, size_t letters_len, const uint16_t *ends, size_t ends_len, const uint8_t *text, size_t text_len,
+                    uint16_t *work, size_t work_len, uint32_t *found, size_t found_len, uint32_t answer[KOTSGHANE_FOUND_NUMBERS]);
+
+/* Where the letters of one slip start and end in those of the tray, 0 and 0 if refused. Refusals 1 to 6, 10. */
+void kotsghane_slip(const uint8_t *letters, size_t letters_len, const uint16_t *ends, size_t ends_len, uint32_t slip,
+                    uint32_t answer[KOTSGHANE_SLIP_NUMBERS]);
+
+/* How many letters end the left slip and begin the right one, 0 if refused. Refusals 1 to 6, 10, 11. */
+void kotsghane_pair(const uint8_t *letters, size_t letters_len, const uint16_t *ends, size_t ends_len, uint32_t left, uint32_t right,
+                    uint32_t answer[KOTSGHANE_PAIR_NUMBERS]);
+
+/* Reads a tray file into letters and ends. Lend at least KOTSGHANE_MAX_FILE letters and KOTSGHANE_FILE_ENDS ends. Refusals 15 to 19; the tray itself is
+ * judged by the other calls. */
+void kotsghane_read_tray(const uint8_t *file, size_t file_len, uint8_t *letters, size_t letters_len, uint16_t *ends, size_t ends_len,
+                         uint32_t answer[KOTSGHANE_READ_NUMBERS]);
+
+#ifdef __cplusplus
+}
+#endif
+
+#endif

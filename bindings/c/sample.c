@@ -1,0 +1,54 @@
+/* Reads a tray file on standard input, composes it, and finds its slips in the legend: every call of kotsghane.h once. */
+#include "kotsghane.h"
+#include <stdio.h>
+
+static uint8_t file[KOTSGHANE_MAX_FILE + 1], letters[KOTSGHANE_MAX_FILE], legend[KOTSGHANE_MAX_LETTERS];
+static uint16_t ends[KOTSGHANE_FILE_ENDS], work[KOTSGHANE_WORK];
+static uint16_t joins[KOTSGHANE_JOIN * KOTSGHANE_MAX_SLIPS], places[KOTSGHANE_PLACE * KOTSGHANE_MAX_SLIPS];
+static uint32_t found[KOTSGHANE_OCCURRENCE * 8000];
+
+/* Says a refusal, if there is one. */
+static int refused(const char *call, const uint32_t *answer) {
+    if (answer[KOTSGHANE_NUMBER] != 0) {
+        printf("%s: refused by %u, detail %u\n", call, (unsigned)answer[KOTSGHANE_NUMBER], (unsigned)answer[KOTSGHANE_DETAIL]);
+    }
+    return answer[KOTSGHANE_NUMBER] != 0;
+}
+
+int main(void) {
+    uint32_t read[KOTSGHANE_READ_NUMBERS], composed[KOTSGHANE_COMPOSED_NUMBERS], search[KOTSGHANE_FOUND_NUMBERS];
+    uint32_t slip[KOTSGHANE_SLIP_NUMBERS], pair[KOTSGHANE_PAIR_NUMBERS];
+    size_t bytes = fread(file, 1, sizeof file, stdin);
+    kotsghane_read_tray(file, bytes, letters, KOTSGHANE_MAX_FILE, ends, KOTSGHANE_FILE_ENDS, read);
+    if (refused("read", read)) {
+        return 1;
+    }
+    size_t n = read[KOTSGHANE_READ_LETTERS], k = read[KOTSGHANE_READ_SLIPS];
+    kotsghane_compose(letters, n, ends, k, work, KOTSGHANE_WORK, legend, sizeof legend, joins, sizeof joins / sizeof *joins, places,
+                      sizeof places / sizeof *places, composed);
+    if (refused("compose", composed)) {
+        return 1;
+    }
+    size_t length = composed[KOTSGHANE_COMPOSED_LEGEND];
+    printf("legend %.*s, %u letters saved\n", (int)length, (const char *)legend, (unsigned)composed[KOTSGHANE_COMPOSED_SAVED]);
+    for (uint32_t j = 0; j < composed[KOTSGHANE_COMPOSED_JOINS]; j++) {
+        const uint16_t *join = joins + KOTSGHANE_JOIN * j;
+        kotsghane_pair(letters, n, ends, k, join[0], join[1], pair);
+        printf("join %u to %u by %u, overlap %u\n", join[0], join[1], join[2], (unsigned)pair[KOTSGHANE_PAIR_OVERLAP]);
+    }
+    kotsghane_find(letters, n, ends, k, legend, length, work, KOTSGHANE_WORK, found, sizeof found / sizeof *found, search);
+    if (refused("find", search)) {
+        return 1;
+    }
+    for (uint32_t i = 0; i < search[KOTSGHANE_FOUND_COUNT]; i++) {
+        const uint32_t *at = found + KOTSGHANE_OCCURRENCE * i;
+        kotsghane_slip(letters, n, ends, k, at[1], slip);
+        uint32_t start = slip[KOTSGHANE_SLIP_START], end = slip[KOTSGHANE_SLIP_END];
+        printf("slip %u, %.*s, ends at %u\n", (unsigned)at[1], (int)(end - start), (const char *)letters + start, (unsigned)at[0]);
+    }
+    kotsghane_pair(letters, n, ends, k, 1, 1, pair);
+    refused("pair", pair);
+    kotsghane_slip(letters, n, ends, k, 0, slip);
+    refused("slip", slip);
+    return 0;
+}

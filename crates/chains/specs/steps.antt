@@ -1,0 +1,2 @@
+-- What the steps of putting all chains ask.
+pub mod Following

@@ -1,0 +1,26 @@
+-- Answers as numbers, for calls on one slip, on a pair and on a tray file. Those of composing and finding stand in answers.
+--   slipNumbers r  == number, detail, start, end
+--   pairNumbers r  == number, detail, letters shared
+--   readNumbers r  == number, detail, letters, slips
+--   ReadExported   == what reading a tray file leaves
+use mathlib.Core.Path.{_≡_}
+use mathlib.Core.List.{List, [], _∷_}
+use Prim.Native.Nat.{ℕ}
+use Rattle.trays.specs.declared.Located.{Located}
+use Rattle.trays.specs.declared.Pair.{Pair}
+use Rattle.files.specs.declared.Read.{Read}
+use Rattle.files.specs.Answers.{Reading}
+
+abbrev pub slipNumbers : Located → List ℕ
+slipNumbers r = r .number ∷ (r .detail ∷ (r .start ∷ (r .end ∷ [])))
+
+abbrev pub pairNumbers : Pair → List ℕ
+pairNumbers r = r .number ∷ (r .detail ∷ (r .letters ∷ []))
+
+abbrev pub readNumbers : Read → List ℕ
+readNumbers r = r .number ∷ (r .detail ∷ (r .letters ∷ (r .slips ∷ [])))
+
+pub record ReadExported (file ls ls′ es es′ a′ : List ℕ) : Type 0 where
+  pub answer : Read
+  pub says : Reading file ls ls′ es es′ answer
+  pub numbers-are : a′ ≡ readNumbers answer

@@ -1,0 +1,2 @@
+-- What the step of laying asks and gives.
+pub mod OnePiece

@@ -1,0 +1,4 @@
+-- Laws of places.
+pub mod LowestPlace
+pub mod PlacesAre
+pub mod PlacesLoop

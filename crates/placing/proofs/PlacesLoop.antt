@@ -1,0 +1,111 @@
+-- Places written piece by piece, and slip by slip.
+--   Placing .. q here xs  == q pieces are placed, the next letters go from `here` on, and placing the others completes xs
+use mathlib.Core.Path.{_≡_, refl, sym, _∙_, ap}
+use mathlib.Core.List.{List, [], _∷_}
+use Prim.Native.Nat.{ℕ, suc, _+_, _-_, _*_, _≤_, _<_}
+use borrow.Author.Tests.{eq-eqb, ne-eqb}
+use native.Mathlib.Numerals.{add-one}
+use native.Mathlib.Omega.{arith}
+use lib.ListN.{length, getD, set, length-drop}
+use Rattle.trays.specs.Slips.{slipsOf, slip}
+use Rattle.trays.specs.Faults.{trayFault}
+use Rattle.words.specs.Words.{begins}
+use Rattle.words.proofs.Tests.{by-test}
+use Rattle.greedy.specs.Legends.{added, lowest}
+use Rattle.chains.specs.Pieces.{pieceIn, piecesIn}
+use Rattle.placing.specs.Places.{putPlace, placedBy, asideAt, asideBy, Placeable, PlacesAsk}
+use Rattle.placing.specs.steps.OnePlace.{PutPlaceAsks, PlacedOne, AsidePlaceAsks}
+use Rattle.placing.proofs.PlacesAre.{put-length, aside-one-length}
+
+-- one piece
+module _ (s es ps : List ℕ) (q here : ℕ) (xs : List ℕ) (i o : ℕ) (part : List ℕ)
+    (hi : i ≡ getD ps (2 * q) 0) (ho : o ≡ getD ps (2 * q + 1) 0) (hp : part ≡ slip (slipsOf s es) i) where
+  pub place-within : PutPlaceAsks s es ps q here xs → o ≤ length part
+  place-within a = rw (ho, hp, hi) (a .within)
+
+  pub place-put : (xs′ : List ℕ) → xs′ ≡ set (set xs (2 * (i - 1)) (here - o)) (2 * (i - 1) + 1) 1 → xs′ ≡ putPlace xs (pieceIn ps q) here
+  place-put xs′ e = e ∙ rw (hi, ho)
+
+  pub place-next : here + (length part - o) ≡ here + length (added (slipsOf s es) (pieceIn ps q))
+  place-next = rw (hp, hi, ho, length-drop)
+
+-- the pieces in turn
+pub record Placing (s es ps : List ℕ) (n : ℕ) (xs₀ : List ℕ) (q here : ℕ) (xs : List ℕ) : Type 0 where
+  pub most : q ≤ n
+  pub done : placedBy (slipsOf s es) xs here (piecesIn ps q (n - q)) ≡ placedBy (slipsOf s es) xs₀ 1 (piecesIn ps 0 n)
+  pub fits : Placeable s es here (piecesIn ps q (n - q))
+  pub same : length xs ≡ length xs₀
+
+module _ (s es ps : List ℕ) (n : ℕ) (xs₀ : List ℕ) (a : PlacesAsk s es ps n xs₀) where
+  pub placing-start : Placing s es ps n xs₀ 0 1 xs₀
+  placing-start =
+      let e : n - 0 ≡ n = omega arith in
+      record { most = omega arith; done = rw e; fits = rw e (a .fits); same = refl }
+
+  module _ (q here : ℕ) (xs : List ℕ) (l : q < n) (p : Placing s es ps n xs₀ q here xs) where
+    rest : piecesIn ps q (n - q) ≡ pieceIn ps q ∷ piecesIn ps (suc q) (n - suc q)
+    rest = let e : n - q ≡ suc (n - suc q) = omega arith in rw e
+
+    fits-rest : Placeable s es here (pieceIn ps q ∷ piecesIn ps (suc q) (n - suc q))
+    fits-rest = rw rest at (p .fits)
+
+    pub placing-asks : PutPlaceAsks s es ps q here xs
+    placing-asks =
+        let f = fits-rest in
+        record {
+          tray = a .tray;
+          pairs = omega (arith, a .pairs);
+          places = omega (arith, a .places, p .same);
+          some = f .0;
+          most = f .1;
+          reach = f .2;
+          within = f .3;
+          small = f .4;
+        }
+
+    pub placing-turn : (xs′ : List ℕ) (r : ℕ) → PlacedOne (slipsOf s es) (pieceIn ps q) here xs xs′ r → Placing s es ps n xs₀ (q + 1) r xs′
+    placing-turn xs′ r o =
+        let d : placedBy (slipsOf s es) xs here (pieceIn ps q ∷ piecesIn ps (suc q) (n - suc q)) ≡ placedBy (slipsOf s es) xs₀ 1 (piecesIn ps 0 n) =
+        rw rest at (p .done) in
+        rw (add-one q)
+        (record {
+          most = l;
+          done = rw (o .places-are, o .next-is) d;
+          fits = rw (o .next-is) (fits-rest .5);
+          same = ap length (o .places-are) ∙ put-length xs (pieceIn ps q) here ∙ p .same;
+        })
+
+  pub placing-end : (q here : ℕ) (xs : List ℕ) → n ≤ q → Placing s es ps n xs₀ q here xs → xs ≡ placedBy (slipsOf s es) xs₀ 1 (piecesIn ps 0 n)
+  placing-end q here xs l p = let e : n - q ≡ 0 = omega arith in rw e at (p .done)
+
+-- slips set aside
+lowest-most : (p : ℕ) (x t : List ℕ) → lowest p x t ≤ p + length t
+lowest-most p x [] = omega arith
+lowest-most p x (y ∷ t) =
+    by-test (begins x (y ∷ t)) (λ e. rw (e, lowest) (omega arith)) (λ e. rw (e, lowest) (omega (arith, lowest-most (suc p) x t)))
+
+module _ (s es t : List ℕ) (i : ℕ) (xs : List ℕ) (mark : ℕ) (e : mark ≡ getD xs (2 * i + 1) 0) where
+  pub aside-kept : (mark ≡ 0 → ⊥) → xs ≡ asideAt (slipsOf s es) t xs i
+  aside-kept z = rw (ne-eqb (getD xs (2 * i + 1) 0) 0 (λ q. z (e ∙ q)))
+
+  pub aside-put : (part : List ℕ) (r : ℕ) → mark ≡ 0 → part ≡ slip (slipsOf s es) (i + 1) → r ≡ lowest 1 part t
+      → set xs (2 * i) r ≡ asideAt (slipsOf s es) t xs i
+  aside-put part r z h l = rw (eq-eqb (getD xs (2 * i + 1) 0) 0 (sym e ∙ z), l, h, add-one i)
+
+pub aside-small : (s es t : List ℕ) (i : ℕ) (xs part : List ℕ) (r : ℕ) → AsidePlaceAsks s es t i xs → r ≡ lowest 1 part t → r < 65536
+aside-small s es t i xs part r a l = omega (arith, lowest-most 1 part t, a .small)
+
+module _ (s es t : List ℕ) (xs₀ : List ℕ) (a : (trayFault s es .number ≡ 0) × (length t < 65535) × (2 * length es ≤ length xs₀)) where
+  pub aside-asks : (i : ℕ) (xs : List ℕ) → i < length es → length xs ≡ length xs₀ → AsidePlaceAsks s es t i xs
+  aside-asks i xs l e = record { tray = a .0; slips = l; places = omega (arith, a .2); small = a .1 }
+
+  pub aside-turn : (i : ℕ) (xs xs′ : List ℕ) → xs ≡ asideBy (slipsOf s es) t xs₀ i → xs′ ≡ asideAt (slipsOf s es) t xs i
+      → xs′ ≡ asideBy (slipsOf s es) t xs₀ (i + 1)
+  aside-turn i xs xs′ e f = rw (add-one i, f, e)
+
+  pub aside-same : (i : ℕ) (xs xs′ : List ℕ) → length xs ≡ length xs₀ → xs′ ≡ asideAt (slipsOf s es) t xs i → length xs′ ≡ length xs₀
+  aside-same i xs xs′ e f = ap length f ∙ aside-one-length (slipsOf s es) t xs i ∙ e
+
+  pub aside-end : (i : ℕ) (xs : List ℕ) → i ≤ length es → length es ≤ i → xs ≡ asideBy (slipsOf s es) t xs₀ i
+      → xs ≡ asideBy (slipsOf s es) t xs₀ (length es)
+  aside-end i xs l m e = let q : i ≡ length es = omega arith in rw (← q) e

@@ -1,0 +1,3 @@
+-- Places as pairs of numbers.
+pub mod Places
+pub mod steps

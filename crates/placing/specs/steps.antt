@@ -1,0 +1,2 @@
+-- What the steps of writing places ask and give.
+pub mod OnePlace

@@ -1,0 +1,108 @@
+// Places: for a slip that is laid, where; for one set aside, the lowest place at which it stands in the legend.
+ghost use mathlib.Core.Path.{_≡_};
+ghost use Prim.Native.Nat.{_+_, _*_, _≤_, _<_};
+ghost use lib.ListN.{length, set};
+ghost use Rattle.trays.specs.Slips.{slipsOf};
+ghost use Rattle.trays.specs.Faults.{trayFault};
+ghost use Rattle.greedy.specs.Legends.{lowest};
+ghost use Rattle.chains.specs.Pieces.{pieceIn, piecesIn};
+ghost use Rattle.placing.specs.Places.{placedBy, asideAt, asideBy, PlacesAsk};
+ghost use Rattle.placing.specs.steps.OnePlace.{PutPlaceAsks, PlacedOne, AsidePlaceAsks};
+use tables::wide;
+
+// The lowest place, from 1, at which `x` stands in `t`; one past the letters if it stands nowhere.
+pub fn lowest_place(x: &[u8], t: &[u8]) -> usize
+    ensures { λ r. ⌜ r ≡ lowest 1 (now (x .entry)) (now (t .entry)) ⌝ }
+{
+    let mut place: usize = 0;
+    let found = 'places: loop {
+        if t.len() <= place {
+            break 'places place;
+        }
+        let mut k: usize = 0;
+        while k < x.len() {
+            if t.len() - place <= k {
+                place += 1;
+                continue 'places;
+            }
+            if t[place + k] != x[k] {
+                place += 1;
+                continue 'places;
+            }
+            k += 1;
+        }
+        break 'places place;
+    };
+    found + 1
+}
+
+// Writes two numbers.
+fn put_two(xs: &mut [u16], at: usize, a: usize, b: usize)
+    requires { ⌜ (at + 1 < length (now xs)) × (a < 65536) × (b < 65536) ⌝ }
+    ensures { λ _. ⌜ now (xs .exit) ≡ set (set (now (xs .entry)) at a) (at + 1) b ⌝ }
+{
+    xs[at] = a as u16;
+    xs[at + 1] = b as u16;
+}
+
+// Writes the place of the `q`-th piece, whose letters go from `here` on, and that its slip is kept. Answers where the next letters go.
+fn put_place(
+    letters: &[u8],
+    ends: &[u16],
+    pieces: &[u16],
+    q: usize,
+    here: usize,
+    places: &mut [u16],
+) -> usize
+    requires { ⌜ PutPlaceAsks (now letters) (now ends) (now pieces) q here (now places) ⌝ }
+    ensures { λ r. ⌜ PlacedOne (slipsOf (now (letters .entry)) (now (ends .entry))) (pieceIn (now (pieces .entry)) q) here (now (places .entry))
+        (now (places .exit)) r ⌝ }
+{
+    let slip = wide(pieces[2 * q]);
+    let shared = wide(pieces[2 * q + 1]);
+    let part = spans::slip_part(letters, ends, slip);
+    put_two(places, 2 * (slip - 1), here - shared, 1);
+    here + (part.len() - shared)
+}
+
+// Writes the places of the first `n` pieces' slips.
+pub fn kept_places(letters: &[u8], ends: &[u16], pieces: &[u16], n: usize, places: &mut [u16])
+    requires { ⌜ PlacesAsk (now letters) (now ends) (now pieces) n (now places) ⌝ }
+    ensures { λ _. ⌜ now (places .exit)
+        ≡ placedBy (slipsOf (now (letters .entry)) (now (ends .entry))) (now (places .entry)) 1 (piecesIn (now (pieces .entry)) 0 n) ⌝ }
+{
+    let mut here: usize = 1;
+    let mut q: usize = 0;
+    while q < n {
+        here = put_place(letters, ends, pieces, q, here, places);
+        q += 1;
+    }
+}
+
+// Writes the place of slip `i + 1` in the legend, unless it is marked as kept.
+fn aside_place(letters: &[u8], ends: &[u16], legend: &[u8], i: usize, places: &mut [u16])
+    requires { ⌜ AsidePlaceAsks (now letters) (now ends) (now legend) i (now places) ⌝ }
+    ensures { λ _. ⌜ now (places .exit)
+        ≡ asideAt (slipsOf (now (letters .entry)) (now (ends .entry))) (now (legend .entry)) (now (places .entry)) i ⌝ }
+{
+    let mark = wide(places[2 * i + 1]);
+    if mark != 0 {
+        return;
+    }
+    let part = spans::slip_part(letters, ends, i + 1);
+    places[2 * i] = lowest_place(part, legend) as u16;
+}
+
+// Writes the places of the slips that are not marked as kept.
+pub fn aside_places(letters: &[u8], ends: &[u16], legend: &[u8], places: &mut [u16])
+    requires { ⌜ (trayFault (now letters) (now ends) .number ≡ 0) × (length (now legend) < 65535)
+        × (2 * length (now ends) ≤ length (now places)) ⌝ }
+    ensures { λ _. ⌜ now (places .exit)
+        ≡ asideBy (slipsOf (now (letters .entry)) (now (ends .entry))) (now (legend .entry)) (now (places .entry)) (length (now (ends .entry))) ⌝ }
+{
+    let mut i: usize = 0;
+    while i < ends.len() {
+        aside_place(letters, ends, legend, i, places);
+        i += 1;
+    }
+}
