@@ -26,8 +26,8 @@ module _ (s es ps : List ℕ) (q here : ℕ) (xs : List ℕ) (i o : ℕ) (part :
   pub place-put : (xs′ : List ℕ) → xs′ ≡ set (set xs (2 * (i - 1)) (here - o)) (2 * (i - 1) + 1) 1 → xs′ ≡ putPlace xs (pieceIn ps q) here
   place-put xs′ e = e ∙ rw (hi, ho)
 
-  pub place-next : here + (length part - o) ≡ here + length (added (slipsOf s es) (pieceIn ps q))
-  place-next = rw (hp, hi, ho, length-drop)
+  pub next-letters : here + (length part - o) ≡ here + length (added (slipsOf s es) (pieceIn ps q))
+  next-letters = rw (hp, hi, ho, length-drop)
 
 -- the pieces in turn
 pub record Placing (s es ps : List ℕ) (n : ℕ) (xs₀ : List ℕ) (q here : ℕ) (xs : List ℕ) : Type 0 where
