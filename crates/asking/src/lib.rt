@@ -114,7 +114,7 @@ fn check_pair(letters: &[u8], ends: &[u16], left: u32, right: u32) -> Refusal
 }
 
 // The overlap of two strings that counts.
-pub fn counted_overlap(a: &[u8], b: &[u8]) -> usize
+fn counted_overlap(a: &[u8], b: &[u8]) -> usize
     ensures { λ r. ⌜ r ≡ overlapFor counted (now (a .entry)) (now (b .entry)) ⌝ }
 {
     words::overlap(a, b)

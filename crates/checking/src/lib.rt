@@ -15,7 +15,7 @@ use trays::MAX_SLIPS;
 use trays::Refusal;
 
 // Whether a byte is one of the 27 signs.
-pub fn is_letter(b: u8) -> bool
+fn is_letter(b: u8) -> bool
     ensures { λ r. ⌜ r ≡ S.isLetter b ⌝ }
 {
     if b == 46 {

@@ -9,7 +9,7 @@ ghost use Rattle.layout.specs.Numbered.{Automaton, Headed};
 ghost use Rattle.kept_lists.specs.KeptLists as O;
 
 // Fills MARK.
-pub fn fill_marks(letters: &[u8], ends: &[u16], work: &mut [u16], n: usize, count: usize)
+fn fill_marks(letters: &[u8], ends: &[u16], work: &mut [u16], n: usize, count: usize)
     requires { ⌜ Headed (now letters) (now ends) n count (now work) ⌝ }
     ensures { λ _. ⌜ O.MarksFilled (now (letters .entry)) (now (ends .entry)) n count (now (work .entry)) (now (work .exit)) ⌝ }
 {
@@ -45,7 +45,7 @@ fn is_aside(letters: &[u8], ends: &[u16], work: &[u16], n: usize, count: usize, 
 }
 
 // Fills KEPT with the members that are not set aside. Answers how many there are.
-pub fn fill_kept(letters: &[u8], ends: &[u16], work: &mut [u16], n: usize, count: usize) -> usize
+fn fill_kept(letters: &[u8], ends: &[u16], work: &mut [u16], n: usize, count: usize) -> usize
     requires { ⌜ O.Marked (now letters) (now ends) n count (now work) ⌝ }
     ensures { λ k. ⌜ O.KeptFilled (now (letters .entry)) (now (ends .entry)) n count (now (work .entry)) k (now (work .exit)) ⌝ }
 {
@@ -90,7 +90,7 @@ fn add_starts(
 }
 
 // Fills STARTS and STARTS_NEXT: from the last of the `k` kept members on, so that each list ascends.
-pub fn fill_starts(letters: &[u8], ends: &[u16], work: &mut [u16], n: usize, k: usize, count: usize)
+fn fill_starts(letters: &[u8], ends: &[u16], work: &mut [u16], n: usize, k: usize, count: usize)
     requires { ⌜ O.KeptFound (now letters) (now ends) n k count (now work) ⌝ }
     ensures { λ _. ⌜ O.StartsFilled (now (letters .entry)) (now (ends .entry)) n k count (now (work .entry)) (now (work .exit)) ⌝ }
 {
@@ -137,7 +137,7 @@ fn add_ends(
 }
 
 // Fills ENDS and ENDS_NEXT in the same way.
-pub fn fill_ends(letters: &[u8], ends: &[u16], work: &mut [u16], n: usize, k: usize, count: usize)
+fn fill_ends(letters: &[u8], ends: &[u16], work: &mut [u16], n: usize, k: usize, count: usize)
     requires { ⌜ O.KeptFound (now letters) (now ends) n k count (now work) ⌝ }
     ensures { λ _. ⌜ O.EndsFilled (now (letters .entry)) (now (ends .entry)) n k count (now (work .entry)) (now (work .exit)) ⌝ }
 {

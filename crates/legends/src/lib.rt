@@ -22,7 +22,7 @@ pub struct ToStore {
 }
 
 // Join i of those staged in the work area.
-pub fn join_at(work: &[u16], i: usize) -> Join
+fn join_at(work: &[u16], i: usize) -> Join
     requires { ⌜ 3 * (i + 1) ≤ length (now work) - L.JOINS ⌝ }
     ensures { λ r. ⌜ r ≡ M.joinAt (now (work .entry)) i ⌝ }
 {
@@ -35,7 +35,7 @@ pub fn join_at(work: &[u16], i: usize) -> Join
 }
 
 // The place of slip i + 1, of those staged in the work area.
-pub fn place_at(work: &[u16], i: usize) -> Place
+fn place_at(work: &[u16], i: usize) -> Place
     requires { ⌜ (2 * (i + 1) ≤ length (now work) - L.PLACES) × (i + 1 < 65536) ⌝ }
     ensures { λ r. ⌜ r ≡ M.placeAt (now (work .entry)) i ⌝ }
 {
@@ -49,7 +49,7 @@ pub fn place_at(work: &[u16], i: usize) -> Place
 }
 
 // The first `count` staged joins, stored from the start of the list.
-pub fn store_joins(work: &[u16], joins: &mut [Join], count: usize)
+fn store_joins(work: &[u16], joins: &mut [Join], count: usize)
     requires { ⌜ (count ≤ length (now joins)) × (3 * count ≤ length (now work) - L.JOINS) ⌝ }
     ensures { λ _. ⌜ now (joins .exit) ≡ over (firsts (M.joinAt (now (work .entry))) count) (now (joins .entry)) ⌝ }
 {
@@ -61,7 +61,7 @@ pub fn store_joins(work: &[u16], joins: &mut [Join], count: usize)
 }
 
 // The first `count` staged places, stored from the start of the list.
-pub fn store_places(work: &[u16], places: &mut [Place], count: usize)
+fn store_places(work: &[u16], places: &mut [Place], count: usize)
     requires { ⌜ (count ≤ length (now places)) × ((2 * count ≤ length (now work) - L.PLACES) × (count < 65536)) ⌝ }
     ensures { λ _. ⌜ now (places .exit) ≡ over (firsts (M.placeAt (now (work .entry))) count) (now (places .entry)) ⌝ }
 {

@@ -1,13 +1,13 @@
 // The parser of a tray file's lines.
-use files::BLANK;
-use files::LF;
-use files::Line;
 ghost use mathlib.Core.Path.{_≡_};
 ghost use Prim.Native.Nat.{_+_, _≤_};
 ghost use lib.ListN.{length, drop};
 ghost use Rattle.files.specs.Lines as L;
 ghost use Rattle.files.specs.Faults as F;
 ghost use Rattle.lines.specs.Parsed.{lineAt};
+use files::BLANK;
+use files::LF;
+use files::Line;
 
 fn wide(x: u8) -> usize
     ensures { λ r. ⌜ r ≡ x ⌝ }

@@ -16,7 +16,7 @@ pub struct StepEnd {
 }
 
 // The node of the string of node `u` without its last letter: it stands one letter before, wherever node `u` stands.
-pub fn parent(work: &[u16], u: usize) -> usize
+fn parent(work: &[u16], u: usize) -> usize
     requires { ⌜ L.ParentCells (now work) u ⌝ }
     ensures { λ r. ⌜ r ≡ L.parentOf (now (work .entry)) u ⌝ }
 {
@@ -29,7 +29,7 @@ pub fn parent(work: &[u16], u: usize) -> usize
 }
 
 // The last letter of the string of node `u`.
-pub fn letter(letters: &[u8], work: &[u16], u: usize) -> u8
+fn letter(letters: &[u8], work: &[u16], u: usize) -> u8
     requires { ⌜ L.Lettered (now letters) (now work) u ⌝ }
     ensures { λ r. ⌜ r ≡ L.letterOf (now (letters .entry)) (now (work .entry)) u ⌝ }
 {
@@ -49,7 +49,7 @@ fn hangs_below(work: &[u16], count: usize, u: usize, v: usize) -> bool
 }
 
 // Fills KID: parents ascend with their children, so the children of `v` begin at the first node whose parent is not below `v`.
-pub fn fill_kids(letters: &[u8], ends: &[u16], work: &mut [u16], n: usize, count: usize)
+fn fill_kids(letters: &[u8], ends: &[u16], work: &mut [u16], n: usize, count: usize)
     requires { ⌜ Numbered (now letters) (now ends) n count (now work) ⌝ }
     ensures { λ _. ⌜ L.KidsFilled (now (letters .entry)) (now (ends .entry)) n count (now (work .entry)) (now (work .exit)) ⌝ }
 {
@@ -135,7 +135,7 @@ fn fill_near(letters: &[u8], ends: &[u16], work: &mut [u16], n: usize, count: us
 }
 
 // The child of node `v` by the letter `c`, or 0 if there is none: looked up near the root, found by a scan elsewhere.
-pub fn child(
+fn child(
     letters: &[u8],
     ends: &[u16],
     work: &[u16],
@@ -208,7 +208,7 @@ fn failure(letters: &[u8], ends: &[u16], work: &[u16], n: usize, count: usize, v
 }
 
 // Fills FAIL, node by node: a node's parent and its link have lower numbers.
-pub fn fill_fails(letters: &[u8], ends: &[u16], work: &mut [u16], n: usize, count: usize)
+fn fill_fails(letters: &[u8], ends: &[u16], work: &mut [u16], n: usize, count: usize)
     requires { ⌜ L.Near (now letters) (now ends) n count (now work) ⌝ }
     ensures { λ _. ⌜ L.FailsFilled (now (letters .entry)) (now (ends .entry)) n count (now (work .entry)) (now (work .exit)) ⌝ }
 {

@@ -26,7 +26,7 @@ pub enum Bound {
 }
 
 // Both answers from one pass: the letters behind the common prefix decide.
-pub fn compare(a: &[u8], b: &[u8]) -> Compared
+fn compare(a: &[u8], b: &[u8]) -> Compared
     ensures { λ r. ⌜ r ≡ O.compared (now (a .entry)) (now (b .entry)) ⌝ }
 {
     let n = words::common(a, b);
@@ -85,7 +85,7 @@ fn member_below(letters: &[u8], ends: &[u16], member: usize, typed: &[u8], bound
 }
 
 // How many members of an order stand below a bound of the typed letters: a binary search.
-pub fn rank(letters: &[u8], ends: &[u16], order: &[u16], typed: &[u8], bound: Bound) -> usize
+fn rank(letters: &[u8], ends: &[u16], order: &[u16], typed: &[u8], bound: Bound) -> usize
     requires { ⌜ O.Rankable (now letters) (now ends) (now order) (now typed) bound ⌝ }
     ensures { λ r. ⌜ r ≡ O.rankOf (slipsOf (now (letters .entry)) (now (ends .entry))) (now (order .entry)) (now (typed .entry)) bound ⌝ }
 {
@@ -130,7 +130,7 @@ fn insert_first(letters: &[u8], ends: &[u16], cells: &mut [u16])
 }
 
 // Puts the members in order: from the last on, each goes into its place among those behind it.
-pub fn sort(letters: &[u8], ends: &[u16], cells: &mut [u16])
+fn sort(letters: &[u8], ends: &[u16], cells: &mut [u16])
     requires { ⌜ O.Sortable (now letters) (now ends) (now cells) ⌝ }
     ensures { λ _. ⌜ now (cells .exit) ≡ inOrder (O.precedes (slipsOf (now (letters .entry)) (now (ends .entry)))) (now (cells .entry)) ⌝ }
 {

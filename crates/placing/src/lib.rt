@@ -11,7 +11,7 @@ ghost use Rattle.placing.specs.steps.OnePlace.{PutPlaceAsks, PlacedOne, 
 use tables::wide;
 
 // The lowest place, from 1, at which `x` stands in `t`; one past the letters if it stands nowhere.
-pub fn lowest_place(x: &[u8], t: &[u8]) -> usize
+fn lowest_place(x: &[u8], t: &[u8]) -> usize
     ensures { λ r. ⌜ r ≡ lowest 1 (now (x .entry)) (now (t .entry)) ⌝ }
 {
     let mut place: usize = 0;

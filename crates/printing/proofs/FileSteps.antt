@@ -5,9 +5,10 @@
 -- Refusal 15 is silent: the lent letters and ends are enough.
 use mathlib.Core.Path.{_≡_, refl, sym, _∙_, ap}
 use mathlib.Core.List.{List}
-use Prim.Native.Nat.{ℕ, zero, suc, _^_, _≤_, _<_}
+use Prim.Native.Nat.{ℕ, zero, suc, _^_, _≤_, _<_, _*_}
 use borrow.Author.Tests.{le-ltb}
 use native.Mathlib.Omega.{arith}
+use lib.Seq.{length-take-le}
 use lib.ListN.{length, take, length-take}
 use Rattle.trays.specs.declared.Refusal.{Refusal}
 use Rattle.trays.specs.Limits.{maxFile, endsNeed}
@@ -19,11 +20,11 @@ use Rattle.files.specs.Lines.{linesOf}
 use Rattle.files.specs.Faults.{readFault}
 use Rattle.files.specs.Answers.{goodOf, readOf, Reading}
 use Rattle.files.proofs.SlipsRead.{length-ends, letters-first, ends-first}
-use Rattle.sheets.specs.Sheets.{detailWidth, refusedLine, refusedSize, composeSheetOf, findSheetOf}
+use Rattle.sheets.specs.Sheets.{detailWidth, refusedLine, refusedSize, composeSheetOf, findSheetOf, maxFound}
 use Rattle.sheet_lines.specs.steps.Lines.{Printed}
 use Rattle.sheets.specs.Programs.{lettersIn, endsIn, traySheet, composeSheetFault, composeSheet, textOf, textFault, textSheet, findSheetFault, findSheet}
 use Rattle.sheet_sizes.proofs.RefusalsFit.{read-refusal-fits}
-use Rattle.printing.specs.Lent.{FileRoom, ComposeRoom, FindRoom, Trimmed}
+use Rattle.printing.specs.Lent.{FileRoom, ComposeRoom, TextRoom, FindRoom, Trimmed}
 use Rattle.printing.proofs.TraySteps.{printed-is}
 
 -- what turns the file itself back, whatever is lent
@@ -131,9 +132,16 @@ module _ (s : List ℕ) where
 abbrev found : List ℕ → List ℕ → Refusal → List ℕ
 found s x f = elim (f .number) [ zero ↦ findSheetOf (slipsOf (lettersIn s) (endsIn s)) (textOf x) | suc n ↦ refusedLine f ]
 
+-- of a list that takes at least as many occurrences as `find` lists, just so many are lent
+pub found-lent : (a b w f o : List ℕ) → FindRoom a b w f o → 2 * maxFound ≡ length (take (2 * maxFound) f)
+found-lent a b w f o room = sym (length-take-le (2 * maxFound) f (room .found))
+
+pub text-room : (a b w f o : List ℕ) → FindRoom a b w f o → TextRoom w (take (2 * maxFound) f) o
+text-room a b w f o room = record { work = room .work; found = sym (found-lent a b w f o room); sheet = room .sheet }
+
 pub find-can : (s a b w f o : List ℕ) → FindRoom a b w f o → (a′ b′ : List ℕ) (r : Read) → Reading s a a′ b b′ r → (r .number ≡ 0 → ⊥)
     → (r .detail < 10 ^ detailWidth) × (refusedSize ≤ length o)
-find-can s a b w f o room a′ b′ r t z = refused-can s a b (room .file) a′ b′ r t z o (omega (arith, room .text .sheet))
+find-can s a b w f o room a′ b′ r t z = refused-can s a b (room .file) a′ b′ r t z o (omega (arith, room .sheet))
 
 module _ (s x : List ℕ) where
   find-silent : own s .number ≡ 0 → findSheet s x ≡ textSheet (lettersIn s) (endsIn s) (textOf x)

@@ -2,8 +2,8 @@
 --   FileRoom     == room for reading any tray file
 --   TrayRoom     == room for composing any tray and for its sheet
 --   ComposeRoom  == both
---   TextRoom     == room for finding in any text, for the occurrences that `find` lists, and for its sheet
---   FindRoom     == the same with room for reading any tray file
+--   TextRoom     == room for finding in any text, for just the occurrences that `find` lists, and for its sheet
+--   FindRoom     == room for reading any tray file, and at least the same
 --   Trimmed      == the first r bytes of a text file are its text
 use mathlib.Core.Path.{_≡_}
 use mathlib.Core.List.{List}
@@ -34,7 +34,9 @@ pub record TextRoom (w f o : List ℕ) : Type 0 where
 
 pub record FindRoom (a b w f o : List ℕ) : Type 0 where
   pub file : FileRoom a b
-  pub text : TextRoom w f o
+  pub work : workNeed ≤ length w
+  pub found : 2 * maxFound ≤ length f
+  pub sheet : findRoom ≤ length o
 
 pub record Trimmed (text : List ℕ) (r : ℕ) : Type 0 where
   pub within : r ≤ length text

@@ -6,6 +6,9 @@ use files::LF;
 use layout::JOINS;
 use layout::PLACES;
 
+// Numbers of the occurrences that `find` lists, two each.
+const LISTED: usize = 16000;
+
 // So many joins and places are taken: no accepted tray has more.
 const ROWS: usize = 200;
 
@@ -115,5 +118,12 @@ pub fn find_sheet(
     let n = got.letters as usize;
     let k = got.slips as usize;
     let m = text_length(text);
-    text_sheet(&letters[..n], &ends[..k], &text[..m], work, found, out)
+    text_sheet(
+        &letters[..n],
+        &ends[..k],
+        &text[..m],
+        work,
+        &mut found[..LISTED],
+        out,
+    )
 }

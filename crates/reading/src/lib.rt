@@ -1,10 +1,4 @@
 // A tray file is read: a reader goes line after line, and the file is checked before it is copied.
-use files::ENDS_NEED;
-use files::Line;
-use files::MAX_FILE;
-use files::Read;
-use files::Reader;
-use trays::Refusal;
 ghost use mathlib.Core.Path.{_≡_};
 ghost use mathlib.Core.List.{map};
 ghost use Prim.Native.Nat.{_≤_};
@@ -17,6 +11,12 @@ ghost use Rattle.files.specs.Answers.{Reading};
 ghost use Rattle.reading.specs.Readers.{Handed};
 ghost use Rattle.reading.specs.steps.Checking.{begunAt, judged};
 ghost use Rattle.reading.specs.steps.Copying.{Lent, Copied};
+use files::ENDS_NEED;
+use files::Line;
+use files::MAX_FILE;
+use files::Read;
+use files::Reader;
+use trays::Refusal;
 
 // How far the check has come: what turns the file back so far, the number of the line that comes next, and whether to read it.
 struct Checked {
@@ -68,7 +68,7 @@ fn judge(state: Checked, line: Line, size: usize) -> Checked
 }
 
 // The line at which a reader stands, as line k. The reader moves behind it, behind a bad line too.
-pub fn next<'s, 'a>(r: &'s mut Reader<'a>, k: usize) -> Line
+fn next<'s, 'a>(r: &'s mut Reader<'a>, k: usize) -> Line
     ensures { λ l. ⌜ Handed (now (r .entry)) (now (r .exit)) k l ⌝ }
 {
     let line = lines::line_at(r.file, r.at, k);

@@ -20,7 +20,7 @@ pub fn common(a: &[u8], b: &[u8]) -> usize
 }
 
 // Whether `a` is a prefix of `b`.
-pub fn begins(a: &[u8], b: &[u8]) -> bool
+fn begins(a: &[u8], b: &[u8]) -> bool
     ensures { λ r. ⌜ r ≡ W.begins (now (a .entry)) (now (b .entry)) ⌝ }
 {
     common(a, b) == a.len()

@@ -1,4 +1,4 @@
-use Rattle.printing.proofs.FileSteps.{find-can, find-refused, letters-count, ends-count, letters-within, ends-within, find-printed}
+use Rattle.printing.proofs.FileSteps.{found-lent, text-room, find-can, find-refused, letters-count, ends-count, letters-within, ends-within, find-printed}
 use Rattle.printing.proofs.Trims.{trimmed-count}
 use borrow.Author.Needs.{needs}
 use Rattle.printing.proofs.find_sheet.Statement.{statement}
@@ -25,6 +25,12 @@ slice-aggregate-text-sheet-2 c = ends-count _ _ _ (c .before .before .before .be
 slice-aggregate-text-sheet-3 : tie.Need-slice-aggregate-text-sheet-3
 slice-aggregate-text-sheet-3 c = trimmed-count _ _ (c .before .before .before .text-length .ensures)
 
+slice-aggregate-text-sheet-4 : tie.Need-slice-aggregate-text-sheet-4
+slice-aggregate-text-sheet-4 c = found-lent _ _ _ _ _ (c .before .before .before .before .before .before .before .before .before .before .before .before .before .before .before .before .before .before .before .before .before .before .before .before .pre)
+
+text-sheet-requires : tie.Need-text-sheet-requires
+text-sheet-requires c κs = text-room _ _ _ _ _ (c .before .before .before .before .before .before .before .before .before .before .before .before .before .before .before .before .before .before .before .before .before .before .before .before .before .pre)
+
 returns-2 : tie.Need-returns-2
 returns-2 c = find-printed _ _ _ _ _ _ _ (c .before .before .before .before .before .before .before .before .before .before .before .before .before .before .before .before .before .before .before .before .before .before .before .before .before .before .before .before .before .before .before .before .pre) _ _ _ (c .before .before .before .before .before .before .before .before .before .before .before .before .before .before .before .before .before .before .before .before .before .before .read-tray .ensures) (c .before .before .before .before .before .before .before .before .before .before .before .before .before .before .before .before .if1 .left) _ (c .before .before .before .before .before .before .before .before .before .before .before .before .before .text-length .ensures) _ _ (c .before .before .before .before .before .before .text-sheet .ensures)
 
@@ -32,4 +38,5 @@ pub find-sheet-spec : {M : Type 1} → statement M
 find-sheet-spec = tie.close (tie.spec (λ c κs. search needs) refused-line-requires (λ c. search needs) (λ c. search needs)
     (λ c. search needs) returns (λ c. search needs) (λ c. search needs) (λ c κs. search needs) slice-reshare-prefix-text-sheet
     slice-aggregate-text-sheet slice-reshare-prefix-text-sheet-2 slice-aggregate-text-sheet-2 slice-aggregate-text-sheet-3
-    (λ c κs. search needs) (λ c. search needs) (λ c. search needs) (λ c. search needs) (λ c. search needs) (λ c. search needs) returns-2)
+    (λ c. search needs) slice-aggregate-text-sheet-4 text-sheet-requires (λ c. search needs) (λ c. search needs) (λ c. search needs) (λ c. search needs)
+    (λ c. search needs) returns-2)
