@@ -18,7 +18,7 @@ use Rattle.layout.specs.Staging.{keptIn}
 use Rattle.layout.proofs.Frames.{kept-lower, members-kept}
 use Rattle.kept_lists.specs.KeptLists.{beginnings, endings, atSide, SideIs, KeptFound, MarksFilled, KeptFilled, SideFilled, ListsFilled}
 use Rattle.heads.specs.Heads.{HeadsFilled}
-use Rattle.layout.proofs.Heads.{linked-same}
+use Rattle.layout.proofs.Heads.{threaded-same}
 use Rattle.heads.proofs.Keeping.{kept-trans}
 use Rattle.heads.proofs.MemberNodes.{num-most}
 use Rattle.kept_lists.proofs.KeptMembers.{kept-member, kept-same}
@@ -34,7 +34,7 @@ starts-kept {s} {es} {n} {k} {count} {w} {w′} S b I =
     let x = string ps v in
     let d = length x - 1 in
     rw (b .cells (STARTS + v) (omega (arith, num-most N v m, N .few-nodes)))
-    (linked-same (λ r. cell w STARTS-NEXT (startOf es r + d)) (λ r. cell w′ STARTS-NEXT (startOf es r + d)) (cell w STARTS v)
+    (threaded-same (λ r. cell w STARTS-NEXT (startOf es r + d)) (λ r. cell w′ STARTS-NEXT (startOf es r + d)) (cell w STARTS v)
     (atSide beginnings (slipsOf s es) x (keptIn w k))
     (λ r q.
     let (i, t) = in-those (λ r. begins x (slip (slipsOf s es) r)) (keptIn w k) q in
