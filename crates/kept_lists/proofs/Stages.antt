@@ -12,13 +12,12 @@ use Rattle.trays.specs.Aside.{kept}
 use Rattle.matching.specs.Nodes.{string}
 use Rattle.matching.proofs.NodeLaws.{node-some}
 use Rattle.layout.specs.Layout.{HEAD, STARTS, STARTS-NEXT, ENDS}
-use Rattle.layout.specs.Tables.{cell}
 use Rattle.layout.specs.Numbered.{patternsIn, SameBelow}
 use Rattle.layout.specs.Staging.{keptIn}
 use Rattle.layout.proofs.Frames.{kept-lower, members-kept}
 use Rattle.kept_lists.specs.KeptLists.{beginnings, endings, atSide, SideIs, KeptFound, MarksFilled, KeptFilled, SideFilled, ListsFilled}
 use Rattle.heads.specs.Heads.{HeadsFilled}
-use Rattle.layout.proofs.Heads.{threaded-same}
+use Rattle.layout.proofs.Heads.{threaded-kept}
 use Rattle.heads.proofs.Keeping.{kept-trans}
 use Rattle.heads.proofs.MemberNodes.{num-most}
 use Rattle.kept_lists.proofs.KeptMembers.{kept-member, kept-same}
@@ -32,15 +31,13 @@ starts-kept {s} {es} {n} {k} {count} {w} {w′} S b I =
     rw (members-kept n (omega (arith, N .few-members)) b, kept-same (S .few-kept) (kept-lower STARTS (omega arith) b))
     (λ v m.
     let x = string ps v in
-    let d = length x - 1 in
-    rw (b .cells (STARTS + v) (omega (arith, num-most N v m, N .few-nodes)))
-    (threaded-same (λ r. cell w STARTS-NEXT (startOf es r + d)) (λ r. cell w′ STARTS-NEXT (startOf es r + d)) (cell w STARTS v)
-    (atSide beginnings (slipsOf s es) x (keptIn w k))
+    threaded-kept b STARTS v STARTS-NEXT (λ r. startOf es r + (length x - 1)) (atSide beginnings (slipsOf s es) x (keptIn w k))
+    (omega (arith, num-most N v m, N .few-nodes))
     (λ r q.
     let (i, t) = in-those (λ r. begins x (slip (slipsOf s es) r)) (keptIn w k) q in
     let o = kept-member S r i in
-    b .cells (STARTS-NEXT + (startOf es r + d)) (omega (arith, node-some ps v m .0, begins-length x (slip (slipsOf s es) r) t, o .size, o .fits)))
-    (I v m)))
+    omega (arith, node-some ps v m .0, begins-length x (slip (slipsOf s es) r) t, o .size, o .fits))
+    (I v m))
 
 pub listed : {s es : List ℕ} {n k count : ℕ} {w w₁ w₂ w₃ w₄ w₅ : List ℕ} → HeadsFilled s es n count w w₁ → MarksFilled s es n count w₁ w₂ →
     KeptFilled s es n count w₂ k w₃ → SideFilled beginnings s es n k count w₃ w₄ → SideFilled endings s es n k count w₄ w₅ → ListsFilled s es n count w k w₅
