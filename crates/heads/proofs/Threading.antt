@@ -1,6 +1,6 @@
 -- Lists threaded through a table: one more number before one of them.
 --   front t i xs      == xs, with i before it if t holds
---   linked-..         == one list: its first number, another table with the same cells
+--   threaded-..       == one list: its first number, another table with the same cells
 --   drop-..           == a list from a place on
 --   pushed            == what `push` leaves, from its two stores
 --   push-lists        == the lists after a push
@@ -9,7 +9,7 @@ use mathlib.Core.Path.{_≡_, refl, _∙_}
 use mathlib.Core.Bool.{Bool, true, false, cond}
 use mathlib.Core.Logic.{inl, inr}
 use mathlib.Core.List.{List, [], _∷_, List·Memᴰ·tail}
-use Prim.Native.Nat.{ℕ, zero, suc, _+_, _-_, _<_}
+use Prim.Native.Nat.{ℕ, zero, suc, _+_, _<_}
 use native.Mathlib.Decide.{ℕ-discrete}
 use native.Mathlib.Numerals.{add-one}
 use native.Mathlib.Omega.{arith}
@@ -20,8 +20,8 @@ use Rattle.words.proofs.Tests.{tell}
 use Rattle.words.proofs.Members.{In, by-in, Asc, those-yes, those-no}
 use Rattle.tables.specs.Tables.{Got, Put}
 use Rattle.tables.proofs.Tables.{put-only, put-here}
-use Rattle.layout.specs.Tables.{cell, Linked}
-use Rattle.layout.proofs.Heads.{linked-same}
+use Rattle.layout.specs.Tables.{cell, Threaded}
+use Rattle.layout.proofs.Heads.{threaded-same}
 use Rattle.heads.specs.Heads.{CanPush, Pushed, Lists}
 
 -- a list from a place on: its first member, and those behind it
@@ -78,8 +78,8 @@ module _
 
   pub push-lists : Lists P key (cell w heads) (cell w nexts) list → Lists P key (cell w′ heads) (cell w′ nexts) list′
   push-lists l v q =
-      let old : Linked (λ r. cell w′ nexts (key v r)) (cell w heads v) (list v) =
-      linked-same (λ r. cell w nexts (key v r)) (λ r. cell w′ nexts (key v r)) (cell w heads v) (list v) (λ r m. next-kept v r q m) (l v q) in
+      let old : Threaded (λ r. cell w′ nexts (key v r)) (cell w heads v) (list v) =
+      threaded-same (λ r. cell w nexts (key v r)) (λ r. cell w′ nexts (key v r)) (cell w heads v) (list v) (λ r m. next-kept v r q m) (l v q) in
       elim (ℕ-discrete v u) [
         | yes e ↦ rw (e, more) (x .head, rw (← here, x .next) (rw e at old))
         | no ne ↦ rw (others v q ne, x .others (heads + v) (λ e. ne (omega arith)) (λ e. omega (arith, inside v q))) old

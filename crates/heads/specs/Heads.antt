@@ -8,7 +8,7 @@ use Prim.Native.Nat.{ℕ, _+_, _<_}
 use lib.ListN.{length, getD}
 use Rattle.words.specs.Members.{In}
 use Rattle.layout.specs.Layout.{HEAD}
-use Rattle.layout.specs.Tables.{cell, members, Linked}
+use Rattle.layout.specs.Tables.{cell, members, Threaded}
 use Rattle.layout.specs.Numbered.{Automaton, SameBelow, Headed}
 
 -- a member of the automaton
@@ -30,7 +30,7 @@ pub record Pushed (w : List ℕ) (heads u nexts p i : ℕ) (w′ : List ℕ) : T
 
 -- lists threaded through a table
 abbrev pub Lists : (ℕ → Type 0) → (ℕ → ℕ → ℕ) → (ℕ → ℕ) → (ℕ → ℕ) → (ℕ → List ℕ) → Type 0
-Lists P key head next list = (v : ℕ) → P v → Linked (λ r. next (key v r)) (head v) (list v)
+Lists P key head next list = (v : ℕ) → P v → Threaded (λ r. next (key v r)) (head v) (list v)
 
 -- HEAD, TWIN
 pub record HeadsFilled (s es : List ℕ) (n count : ℕ) (w w′ : List ℕ) : Type 0 where

@@ -27,7 +27,7 @@ use Rattle.layout.specs.Layout.{KID, MARK, HEAD, FAIL}
 use Rattle.layout.specs.Tables.{cell, members, owners}
 use Rattle.layout.specs.Numbered.{patternsIn, Numbered}
 use Rattle.kept_lists.specs.KeptLists.{Judged}
-use Rattle.layout.proofs.Heads.{linked-head}
+use Rattle.layout.proofs.Heads.{threaded-head}
 use Rattle.heads.proofs.MemberNodes.{in-member, node-num}
 
 -- the first of an ascending list
@@ -65,7 +65,7 @@ module _ {s es : List ℕ} {n count : ℕ} {w : List ℕ} {i : ℕ} (J : Judged 
     own = owners ss M (string ps f)
 
     first : cell w HEAD f ≡ headOr 0 own
-    first = linked-head _ (cell w HEAD f) own (J .marked .headed .heads f num)
+    first = threaded-head _ (cell w HEAD f) own (J .marked .headed .heads f num)
 
     own-in : (k : ℕ) → In k M → slip ss i ≡ slip ss k → In k own
     own-in k q e = those-in (λ k. same (slip ss k) (string ps f)) q (rw (m .is, e) (same-at (slip ss k)))

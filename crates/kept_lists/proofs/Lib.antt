@@ -3,6 +3,7 @@ pub mod MarkLoop
 pub mod AsideTest
 pub mod KeptLoop
 pub mod KeptMembers
+pub mod SideLoop
 pub mod StartLoop
 pub mod EndLoop
 pub mod Stages

@@ -1,32 +1,55 @@
 -- What the functions that read the tables off the automaton ask and leave, in the work area w of a tray with letters s and ends es. Its n
 -- members stand in w, and the nodes of their letters have the numbers up to count. Each leaves the cells below its own tables as they were.
---   startKey, endKey           == the place of a node's last letter in a slip that begins with it, of its first in a slip that ends with it
+--   has a x y                  == x stands at side a of slip y: it begins y, or properly ends it
+--   place a es d r             == where slip r has its cell in the lists of the nodes of d letters: at the node's last letter, or at its first
+--   heads a, nexts a           == the tables of the lists' heads, and of these cells
 --   MarkIs ps fail mark        == mark is 1 exactly at the nodes that are the failure link of a node
 --   Marked                     == HEAD, TWIN and MARK are filled
 --   Judged .. i                == these are filled, and i is one of the members
---   KeptFound .. k ..             == the k kept members stand in KEPT
---   Starting .. j, Ending .. j == the kept members from the j-th on are in the lists of STARTS, of ENDS
---   ListsFilled .. k ..             == all of the tables are filled
+--   KeptFound .. k ..          == the k kept members stand in KEPT
+--   atSide a ss x K            == those of the slips K that have x at side a
+--   SideIs a .. w K            == the lists of side a in w hold the slips K
+--   Listing a .. j             == the kept members from the j-th on are in the lists of side a; ListedTo: the j-th is too now
+--   SideFilled a .. w w′       == all of them are
+--   ListsFilled .. k ..        == all of the tables are filled
 use mathlib.Core.Path.{_≡_}
+use mathlib.Core.Bool.{Bool}
 use mathlib.Core.List.{List}
 use Prim.Native.Nat.{ℕ, _+_, _-_, _≤_, _<_}
 use lib.ListN.{length, drop}
+use Rattle.words.specs.Lists.{those}
+use Rattle.words.specs.Words.{begins, endsProperly}
 use Rattle.words.specs.Members.{In}
 use Rattle.trays.specs.Limits.{maxSlips}
-use Rattle.trays.specs.Slips.{slipsOf, startOf, endOf}
+use Rattle.trays.specs.Slips.{slipsOf, slip, startOf, endOf}
 use Rattle.trays.specs.Aside.{kept}
 use Rattle.matching.specs.Nodes.{nodes, string, Num}
 use Rattle.layout.specs.Layout.{FAIL, HEAD, MARK, KEPT, STARTS, STARTS-NEXT, ENDS, ENDS-NEXT}
-use Rattle.layout.specs.Tables.{cell, members, starters, enders, StartsIs, EndsIs}
+use Rattle.layout.specs.Tables.{cell, members, StartsIs, EndsIs}
 use Rattle.layout.specs.Numbered.{patternsIn, Automaton, SameBelow, Headed}
 use Rattle.layout.specs.Staging.{keptIn}
 use Rattle.heads.specs.Heads.{Lists}
 
-abbrev pub startKey : List (List ℕ) → List ℕ → ℕ → ℕ → ℕ
-startKey ps es v r = startOf es r + (length (string ps v) - 1)
+-- the sides of a slip, and the tables of their lists
+pub data Side : Type 0 where
+  beginnings : Side
+  endings : Side
 
-abbrev pub endKey : List (List ℕ) → List ℕ → ℕ → ℕ → ℕ
-endKey ps es v l = endOf es l - length (string ps v)
+abbrev pub has : Side → List ℕ → List ℕ → Bool
+has beginnings x y = begins x y
+has endings x y = endsProperly x y
+
+abbrev pub place : Side → List ℕ → ℕ → ℕ → ℕ
+place beginnings es d r = startOf es r + (d - 1)
+place endings es d r = endOf es r - d
+
+abbrev pub heads : Side → ℕ
+heads beginnings = STARTS
+heads endings = ENDS
+
+abbrev pub nexts : Side → ℕ
+nexts beginnings = STARTS-NEXT
+nexts endings = ENDS-NEXT
 
 -- MARK
 pub record MarkIs (ps : List (List ℕ)) (fail mark : ℕ → ℕ) : Type 0 where
@@ -57,37 +80,28 @@ pub record KeptFilled (s es : List ℕ) (n count : ℕ) (w : List ℕ) (k : ℕ)
   pub all : k ≡ length (kept (slipsOf s es) (members w n))
   pub below : SameBelow KEPT w w′
 
--- STARTS, STARTS-NEXT
-pub record Starting (s es : List ℕ) (n k count : ℕ) (w : List ℕ) (j : ℕ) : Type 0 where
+-- STARTS and STARTS-NEXT, or ENDS and ENDS-NEXT
+abbrev pub atSide : Side → List (List ℕ) → List ℕ → List ℕ → List ℕ
+atSide a ss x K = those (λ r. has a x (slip ss r)) K
+
+abbrev pub SideIs : Side → List ℕ → List ℕ → ℕ → List ℕ → List ℕ → Type 0
+SideIs a s es n w K =
+    let ps = patternsIn s es n w in
+    Lists (Num ps) (λ v. place a es (length (string ps v))) (cell w (heads a)) (cell w (nexts a)) (λ v. atSide a (slipsOf s es) (string ps v) K)
+
+pub record Listing (a : Side) (s es : List ℕ) (n k count : ℕ) (w : List ℕ) (j : ℕ) : Type 0 where
   pub staged : KeptFound s es n k count w
   pub upto : j ≤ k
-  pub lists : Lists (Num (patternsIn s es n w)) (startKey (patternsIn s es n w) es) (cell w STARTS) (cell w STARTS-NEXT)
-      (λ v. starters (slipsOf s es) (drop j (keptIn w k)) (string (patternsIn s es n w) v))
+  pub lists : SideIs a s es n w (drop j (keptIn w k))
 
-pub record StartsTo (s es : List ℕ) (n k count : ℕ) (w : List ℕ) (j : ℕ) (w′ : List ℕ) : Type 0 where
-  pub starting : Starting s es n k count w′ j
-  pub below : SameBelow STARTS w w′
+pub record ListedTo (a : Side) (s es : List ℕ) (n k count : ℕ) (w : List ℕ) (j : ℕ) (w′ : List ℕ) : Type 0 where
+  pub listing : Listing a s es n k count w′ j
+  pub below : SameBelow (heads a) w w′
 
-pub record StartsFilled (s es : List ℕ) (n k count : ℕ) (w w′ : List ℕ) : Type 0 where
+pub record SideFilled (a : Side) (s es : List ℕ) (n k count : ℕ) (w w′ : List ℕ) : Type 0 where
   pub staged : KeptFound s es n k count w′
-  pub starts : StartsIs (slipsOf s es) es (members w′ n) (keptIn w′ k) (cell w′ STARTS) (cell w′ STARTS-NEXT)
-  pub below : SameBelow STARTS w w′
-
--- ENDS, ENDS-NEXT
-pub record Ending (s es : List ℕ) (n k count : ℕ) (w : List ℕ) (j : ℕ) : Type 0 where
-  pub staged : KeptFound s es n k count w
-  pub upto : j ≤ k
-  pub lists : Lists (Num (patternsIn s es n w)) (endKey (patternsIn s es n w) es) (cell w ENDS) (cell w ENDS-NEXT)
-      (λ v. enders (slipsOf s es) (drop j (keptIn w k)) (string (patternsIn s es n w) v))
-
-pub record Ended (s es : List ℕ) (n k count : ℕ) (w : List ℕ) (j : ℕ) (w′ : List ℕ) : Type 0 where
-  pub ending : Ending s es n k count w′ j
-  pub below : SameBelow ENDS w w′
-
-pub record EndsFilled (s es : List ℕ) (n k count : ℕ) (w w′ : List ℕ) : Type 0 where
-  pub staged : KeptFound s es n k count w′
-  pub ends : EndsIs (slipsOf s es) es (members w′ n) (keptIn w′ k) (cell w′ ENDS) (cell w′ ENDS-NEXT)
-  pub below : SameBelow ENDS w w′
+  pub lists : SideIs a s es n w′ (keptIn w′ k)
+  pub below : SameBelow (heads a) w w′
 
 -- all of them
 pub record ListsFilled (s es : List ℕ) (n count : ℕ) (w : List ℕ) (k : ℕ) (w′ : List ℕ) : Type 0 where

@@ -75,8 +75,8 @@ fn add_starts(
     count: usize,
     j: usize,
 )
-    requires { ⌜ O.Starting (now letters) (now ends) n k count (now work) (j + 1) ⌝ }
-    ensures { λ _. ⌜ O.StartsTo (now (letters .entry)) (now (ends .entry)) n k count (now (work .entry)) j (now (work .exit)) ⌝ }
+    requires { ⌜ O.Listing O.beginnings (now letters) (now ends) n k count (now work) (j + 1) ⌝ }
+    ensures { λ _. ⌜ O.ListedTo O.beginnings (now (letters .entry)) (now (ends .entry)) n k count (now (work .entry)) j (now (work .exit)) ⌝ }
 {
     let i = tables::at(work, layout::KEPT, j);
     let span = spans::slip_span(ends, i);
@@ -92,7 +92,7 @@ fn add_starts(
 // Fills STARTS and STARTS_NEXT: from the last of the `k` kept members on, so that each list ascends.
 fn fill_starts(letters: &[u8], ends: &[u16], work: &mut [u16], n: usize, k: usize, count: usize)
     requires { ⌜ O.KeptFound (now letters) (now ends) n k count (now work) ⌝ }
-    ensures { λ _. ⌜ O.StartsFilled (now (letters .entry)) (now (ends .entry)) n k count (now (work .entry)) (now (work .exit)) ⌝ }
+    ensures { λ _. ⌜ O.SideFilled O.beginnings (now (letters .entry)) (now (ends .entry)) n k count (now (work .entry)) (now (work .exit)) ⌝ }
 {
     tables::clear(work, layout::STARTS, count + 1);
     let mut j = k;
@@ -113,8 +113,8 @@ fn add_ends(
     count: usize,
     j: usize,
 )
-    requires { ⌜ O.Ending (now letters) (now ends) n k count (now work) (j + 1) ⌝ }
-    ensures { λ _. ⌜ O.Ended (now (letters .entry)) (now (ends .entry)) n k count (now (work .entry)) j (now (work .exit)) ⌝ }
+    requires { ⌜ O.Listing O.endings (now letters) (now ends) n k count (now work) (j + 1) ⌝ }
+    ensures { λ _. ⌜ O.ListedTo O.endings (now (letters .entry)) (now (ends .entry)) n k count (now (work .entry)) j (now (work .exit)) ⌝ }
 {
     let i = tables::at(work, layout::KEPT, j);
     let span = spans::slip_span(ends, i);
@@ -139,7 +139,7 @@ fn add_ends(
 // Fills ENDS and ENDS_NEXT in the same way.
 fn fill_ends(letters: &[u8], ends: &[u16], work: &mut [u16], n: usize, k: usize, count: usize)
     requires { ⌜ O.KeptFound (now letters) (now ends) n k count (now work) ⌝ }
-    ensures { λ _. ⌜ O.EndsFilled (now (letters .entry)) (now (ends .entry)) n k count (now (work .entry)) (now (work .exit)) ⌝ }
+    ensures { λ _. ⌜ O.SideFilled O.endings (now (letters .entry)) (now (ends .entry)) n k count (now (work .entry)) (now (work .exit)) ⌝ }
 {
     tables::clear(work, layout::ENDS, count + 1);
     let mut j = k;

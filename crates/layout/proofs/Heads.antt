@@ -1,11 +1,11 @@
 -- Members and their nodes, in the work area of an automaton with HEAD and TWIN.
---   linked-..     == a list threaded through a table: its first number, another table with the same cells
+--   threaded-..   == a list threaded through a table: its first number, another table with the same cells
 --   member-..     == a member has a letter, and a number up to the most slips
 --   node-most     == the number of a node is at most count
 --   headed-kept   == what is written behind TWIN leaves HEAD and TWIN as they are
 use mathlib.Core.Path.{_≡_, refl}
 use mathlib.Core.List.{List, [], _∷_, List·Memᴰ·head, List·Memᴰ·tail}
-use Prim.Native.Nat.{ℕ, _+_, _≤_}
+use Prim.Native.Nat.{ℕ, _+_, _≤_, _<_}
 use native.Mathlib.Omega.{arith}
 use lib.ListN.{length, length-take, length-drop}
 use Rattle.words.specs.Lists.{headOr}
@@ -17,18 +17,26 @@ use Rattle.trays.proofs.Accepted.{accepted-tells, span-rises, span-fits, span-s
 use Rattle.tables.proofs.Tables.{table-length}
 use Rattle.matching.specs.Nodes.{string, Num}
 use Rattle.layout.specs.Layout.{MEMBERS, HEAD, TWIN, MARK}
-use Rattle.layout.specs.Tables.{cell, members, owners, Linked}
+use Rattle.layout.specs.Tables.{cell, members, owners, Threaded}
 use Rattle.layout.specs.Numbered.{patternsIn, Numbered, Headed, SameBelow}
 use Rattle.layout.proofs.Frames.{kept-lower, members-kept, automaton-kept}
 
-pub linked-head : (next : ℕ → ℕ) (i : ℕ) (xs : List ℕ) → Linked next i xs → i ≡ headOr 0 xs
-linked-head next i [] l = l
-linked-head next i (x ∷ xs) l = l .0
+pub threaded-head : (next : ℕ → ℕ) (i : ℕ) (xs : List ℕ) → Threaded next i xs → i ≡ headOr 0 xs
+threaded-head next i [] l = l
+threaded-head next i (x ∷ xs) l = l .0
 
-pub linked-same : (next next′ : ℕ → ℕ) (i : ℕ) (xs : List ℕ) → ((x : ℕ) → In x xs → next′ x ≡ next x) → Linked next i xs → Linked next′ i xs
-linked-same next next′ i [] e l = l
-linked-same next next′ i (x ∷ xs) e l =
-    (l .0, rw (e x (List·Memᴰ·head refl)) (linked-same next next′ (next x) xs (λ y m. e y (List·Memᴰ·tail m)) (l .1)))
+pub threaded-same : (next next′ : ℕ → ℕ) (i : ℕ) (xs : List ℕ) → ((x : ℕ) → In x xs → next′ x ≡ next x) → Threaded next i xs → Threaded next′ i xs
+threaded-same next next′ i [] e l = l
+threaded-same next next′ i (x ∷ xs) e l =
+    (l .0, rw (e x (List·Memᴰ·head refl)) (threaded-same next next′ (next x) xs (λ y m. e y (List·Memᴰ·tail m)) (l .1)))
+
+-- a list whose cells stand below b
+pub threaded-kept : {b : ℕ} {w w′ : List ℕ} → SameBelow b w w′ → (heads v nexts : ℕ) (key : ℕ → ℕ) (xs : List ℕ) →
+    heads + v < b → ((r : ℕ) → In r xs → nexts + key r < b) →
+    Threaded (λ r. cell w nexts (key r)) (cell w heads v) xs → Threaded (λ r. cell w′ nexts (key r)) (cell w′ heads v) xs
+threaded-kept {w = w} {w′ = w′} k heads v nexts key xs h l t =
+    rw (k .cells (heads + v) h)
+    (threaded-same (λ r. cell w nexts (key r)) (λ r. cell w′ nexts (key r)) (cell w heads v) xs (λ r m. k .cells (nexts + key r) (l r m)) t)
 
 module _ {s es : List ℕ} {n count : ℕ} {w : List ℕ} (N : Numbered s es n count w) where
   pub member-few : (i : ℕ) → In i (members w n) → i ≤ maxSlips
@@ -59,8 +67,7 @@ headed-kept {s} {es} {n} {count} {w} {w′} k H =
       automaton = automaton-kept (kept-lower HEAD (omega arith) k) (H .automaton);
       heads =
           rw f (λ v m.
-          rw (k .cells (HEAD + v) (omega (arith, node-most N v m, N .few-nodes)))
-          (linked-same (cell w TWIN) (cell w′ TWIN) (cell w HEAD v) (owners ss (members w n) (string ps v))
-          (λ r q. k .cells (TWIN + r) (omega (arith, member-few N r (in-those (λ i. same (slip ss i) (string ps v)) (members w n) q .0))))
-          (H .heads v m)));
+          threaded-kept k HEAD v TWIN (λ r. r) (owners ss (members w n) (string ps v)) (omega (arith, node-most N v m, N .few-nodes))
+          (λ r q. omega (arith, member-few N r (in-those (λ i. same (slip ss i) (string ps v)) (members w n) q .0)))
+          (H .heads v m));
     }

@@ -6,19 +6,20 @@
 --   AtIs, OwnIs, ..       == the meaning of the table AT, OWN, .. (see Layout)
 --   Child ps v c r        == r is the node of the string of v with the letter c, 0 if that is no node
 --   FailUpTo ps k fail    == the failure links of the nodes up to k are right
---   Linked next i xs      == from i along next run the numbers xs, then 0
+--   Threaded next i xs    == from i along next run the numbers xs, then 0
 use mathlib.Core.Path.{_≡_}
 use mathlib.Core.Bool.{false}
 use mathlib.Core.List.{List, [], _∷_, _++_, map}
 use Prim.Native.Nat.{ℕ, suc, _+_, _-_, _*_, _≤_, _<_}
 use lib.ListN.{length, getD, take}
 use Rattle.words.specs.Lists.{those, tailOf}
-use Rattle.words.specs.Words.{same, begins, endsProperly}
+use Rattle.words.specs.Words.{same}
 use Rattle.words.specs.Members.{In}
 use Rattle.trays.specs.Slips.{slip, startOf, endOf}
 use Rattle.tables.specs.Tables.{table}
 use Rattle.matching.specs.Moves.{beginsSome, longestEnding}
 use Rattle.matching.specs.Nodes.{nodes, string, IsNode, Num}
+use Rattle.greedy.specs.steps.Scans.{starters, enders}
 use Rattle.layout.specs.Layout.{MEMBERS, nearNodes, nearLetters, firstSign, lastSign}
 
 abbrev pub cell : List ℕ → ℕ → ℕ → ℕ
@@ -81,26 +82,20 @@ FailIs ps fail = (v : ℕ) → Num ps v → IsNode ps (fail v) (longestEnding (t
 abbrev pub owners : List (List ℕ) → List ℕ → List ℕ → List ℕ
 owners ss M x = those (λ i. same (slip ss i) x) M
 
-abbrev pub Linked : (ℕ → ℕ) → ℕ → List ℕ → Type 0
-Linked next i [] = i ≡ 0
-Linked next i (x ∷ xs) = (i ≡ x) × Linked next (next x) xs
+abbrev pub Threaded : (ℕ → ℕ) → ℕ → List ℕ → Type 0
+Threaded next i [] = i ≡ 0
+Threaded next i (x ∷ xs) = (i ≡ x) × Threaded next (next x) xs
 
 abbrev pub HeadIs : List (List ℕ) → List ℕ → (ℕ → ℕ) → (ℕ → ℕ) → Type 0
-HeadIs ss M head twin = (v : ℕ) → Num (patterns ss M) v → Linked twin (head v) (owners ss M (string (patterns ss M) v))
+HeadIs ss M head twin = (v : ℕ) → Num (patterns ss M) v → Threaded twin (head v) (owners ss M (string (patterns ss M) v))
 
 -- STARTS, ENDS: the kept members K that begin with a node, and those that properly end with it, ascending
-abbrev pub starters : List (List ℕ) → List ℕ → List ℕ → List ℕ
-starters ss K x = those (λ r. begins x (slip ss r)) K
-
-abbrev pub enders : List (List ℕ) → List ℕ → List ℕ → List ℕ
-enders ss K x = those (λ l. endsProperly x (slip ss l)) K
-
 abbrev pub StartsIs : List (List ℕ) → List ℕ → List ℕ → List ℕ → (ℕ → ℕ) → (ℕ → ℕ) → Type 0
 StartsIs ss es M K starts next =
     (v d : ℕ) → Num (patterns ss M) v → length (string (patterns ss M) v) ≡ suc d →
-    Linked (λ r. next (startOf es r + d)) (starts v) (starters ss K (string (patterns ss M) v))
+    Threaded (λ r. next (startOf es r + d)) (starts v) (starters ss (string (patterns ss M) v) K)
 
 abbrev pub EndsIs : List (List ℕ) → List ℕ → List ℕ → List ℕ → (ℕ → ℕ) → (ℕ → ℕ) → Type 0
 EndsIs ss es M K ends next =
     (v : ℕ) → Num (patterns ss M) v
-    → Linked (λ l. next (endOf es l - length (string (patterns ss M) v))) (ends v) (enders ss K (string (patterns ss M) v))
+    → Threaded (λ l. next (endOf es l - length (string (patterns ss M) v))) (ends v) (enders ss (string (patterns ss M) v) K)

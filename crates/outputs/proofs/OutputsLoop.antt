@@ -24,7 +24,7 @@ use Rattle.layout.specs.Numbered.{patternsIn, Numbered, SameBelow, Headed}
 use Rattle.layout.proofs.Frames.{only-kept, kept-lower, members-kept}
 use Rattle.outputs.specs.Outputs.{OutOf, TallyOf, Telling, Tallied, OutputsFilled}
 use Rattle.outputs.proofs.Outs.{by-list, ending-most, ending-link, ending-root, out-root, out-here, out-next}
-use Rattle.layout.proofs.Heads.{linked-head, member-some, member-letters, members-length, node-most, headed-kept}
+use Rattle.layout.proofs.Heads.{threaded-head, member-some, member-letters, members-length, node-most, headed-kept}
 
 -- one node
 module _ {s es : List ℕ} {n count : ℕ} {w : List ℕ} {v : ℕ} (T : Telling s es n count w v) where
@@ -75,7 +75,7 @@ module _ {s es : List ℕ} {n count : ℕ} {w : List ℕ} {v : ℕ} (T : Telling
       first : (xs : List ℕ) → owners ss M (string ps f) ≡ xs → h ≡ headOr 0 xs
       first xs e =
           k .is
-          ∙ linked-head (cell w TWIN) (cell w HEAD f) (owners ss M (string ps f)) (T .owning .headed .heads f link-node)
+          ∙ threaded-head (cell w TWIN) (cell w HEAD f) (owners ss M (string ps f)) (T .owning .headed .heads f link-node)
           ∙ ap (headOr 0) e
 
       some : (i : ℕ) (is : List ℕ) → owners ss M (string ps f) ≡ i ∷ is → 1 ≤ i

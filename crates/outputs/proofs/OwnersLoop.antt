@@ -11,7 +11,7 @@ use Rattle.trays.specs.Slips.{slipsOf, slip}
 use Rattle.tables.specs.Tables.{Got}
 use Rattle.matching.specs.Nodes.{string}
 use Rattle.layout.specs.Layout.{HEAD, TWIN}
-use Rattle.layout.specs.Tables.{cell, members, owners, Linked}
+use Rattle.layout.specs.Tables.{cell, members, owners, Threaded}
 use Rattle.layout.specs.Numbered.{patternsIn}
 use Rattle.outputs.specs.Outputs.{Owning}
 use Rattle.outputs.proofs.Outs.{by-list, length-those}
@@ -20,7 +20,7 @@ use Rattle.layout.proofs.Heads.{member-few, member-some, members-length, node-m
 pub record Counting (s es : List ℕ) (n count : ℕ) (w : List ℕ) (v i k : ℕ) : Type 0 where
   pub owning : Owning s es n count w v
   pub rest : List ℕ
-  pub linked : Linked (cell w TWIN) i rest
+  pub threaded : Threaded (cell w TWIN) i rest
   pub among : (x : ℕ) → In x rest → In x (members w n)
   pub few : k ≤ n
   pub all : k + length rest ≡ length (owners (slipsOf s es) (members w n) (string (patternsIn s es n w) v))
@@ -38,7 +38,7 @@ module _ {s es : List ℕ} {n count : ℕ} {w : List ℕ} {v : ℕ} (O : Owning 
       record {
         owning = O;
         rest = owners (slipsOf s es) M x;
-        linked = rw (g .is) (O .headed .heads v (O .node));
+        threaded = rw (g .is) (O .headed .heads v (O .node));
         few = omega arith;
         among = λ y m. in-those (λ i. same (slip (slipsOf s es) i) x) M m .0;
         all = omega arith;
@@ -54,10 +54,10 @@ module _ {s es : List ℕ} {n count : ℕ} {w : List ℕ} {v i k : ℕ} (C : Cou
   -- i is not 0: it is the first of those that are left
   module _ (h : i ≡ 0 → ⊥) where
     first : (y : ℕ) × (ys : List ℕ) × (C .rest ≡ y ∷ ys)
-    first = by-list (C .rest) (λ e. absurd (h (subst (Linked (cell w TWIN) i) e (C .linked)))) (λ y ys e. (y, ys, e))
+    first = by-list (C .rest) (λ e. absurd (h (subst (Threaded (cell w TWIN) i) e (C .threaded)))) (λ y ys e. (y, ys, e))
 
-    run : Linked (cell w TWIN) i (first .0 ∷ first .1)
-    run = subst (Linked (cell w TWIN) i) (first .2) (C .linked)
+    run : Threaded (cell w TWIN) i (first .0 ∷ first .1)
+    run = subst (Threaded (cell w TWIN) i) (first .2) (C .threaded)
 
     in-rest : {x : ℕ} → In x (first .0 ∷ first .1) → In x (members w n)
     in-rest {x} m = C .among x (subst (In x) (sym (first .2)) m)
@@ -75,7 +75,7 @@ module _ {s es : List ℕ} {n count : ℕ} {w : List ℕ} {v i k : ℕ} (C : Cou
         record {
           owning = C .owning;
           rest = first .1;
-          linked = subst (λ x. Linked (cell w TWIN) x (first .1)) (sym (g .is ∙ ap (cell w TWIN) (run .0))) (run .1);
+          threaded = subst (λ x. Threaded (cell w TWIN) x (first .1)) (sym (g .is ∙ ap (cell w TWIN) (run .0))) (run .1);
           among = λ x m. in-rest (List·Memᴰ·tail m);
           few = omega (arith, most, ap length (first .2));
           all = omega (arith, C .all, ap length (first .2));
@@ -88,6 +88,6 @@ module _ {s es : List ℕ} {n count : ℕ} {w : List ℕ} {v i k : ℕ} (C : Cou
       (λ e. omega (arith, C .all, ap length e))
       (λ y ys e. absurd (omega (
         arith,
-        subst (Linked (cell w TWIN) i) e (C .linked) .0,
+        subst (Threaded (cell w TWIN) i) e (C .threaded) .0,
         member-some N y (C .among y (subst (In y) (sym e) (List·Memᴰ·head refl))),
       )))

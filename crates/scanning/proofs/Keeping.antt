@@ -23,7 +23,7 @@ use Rattle.layout.specs.Numbered.{patternsIn, SameBelow}
 use Rattle.layout.proofs.Frames.{kept-lower, members-kept}
 use Rattle.links.proofs.Steps.{node-within, state-none}
 use Rattle.outputs.specs.Outputs.{Told}
-use Rattle.layout.proofs.Heads.{linked-same, member-few, node-most, headed-kept}
+use Rattle.layout.proofs.Heads.{threaded-same, member-few, node-most, headed-kept}
 use Rattle.scanning.specs.declared.Scan.{Scan}
 use Rattle.scanning.specs.Scanning.{Able, Pending, Standing, scanIn, CanKeep, Keeps, fresh, ScanStarted}
 use Rattle.layout.specs.Layout.{SCAN}
@@ -125,9 +125,9 @@ module _ {s es t : List ℕ} {n count : ℕ} {w w′ : List ℕ} (k : SameBelow 
             record {
               others = R .others;
               is-node = R .is-node;
-              linked =
+              threaded =
                   rw (twin slip (R .among slip (List·Memᴰ·head refl)))
-                  (linked-same (cell w TWIN) (cell w′ TWIN) (cell w TWIN slip) (R .others) (λ i m. twin i (R .among i (List·Memᴰ·tail m))) (R .linked));
+                  (threaded-same (cell w TWIN) (cell w′ TWIN) (cell w TWIN slip) (R .others) (λ i m. twin i (R .among i (List·Memᴰ·tail m))) (R .threaded));
               among = R .among;
               list-is = rw (k .cells (OUT + node) (omega (arith, node-most N node (R .is-node), N .few-nodes))) (R .list-is);
             };

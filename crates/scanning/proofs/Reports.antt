@@ -18,7 +18,7 @@ use Rattle.matching.specs.Nodes.{string, Num}
 use Rattle.matching.proofs.Finds.{endingOf}
 use Rattle.matching.proofs.NodeLaws.{node-some}
 use Rattle.layout.specs.Layout.{HEAD, TWIN, OUT}
-use Rattle.layout.specs.Tables.{cell, members, owners, Linked}
+use Rattle.layout.specs.Tables.{cell, members, owners, Threaded}
 use Rattle.layout.specs.Numbered.{patternsIn, Numbered}
 use Rattle.outputs.specs.Outputs.{longestOwned, OutOf, Told}
 use Rattle.outputs.proofs.Outs.{by-list, owned-here, owned-past, ending-out, ending-root}
@@ -59,8 +59,8 @@ module _ {s es : List ℕ} {n count : ℕ} {w : List ℕ} (T : Told s es n count
 
   -- the members of a node's letters: the first of them is i
   module _ {v h : ℕ} (m : Num ps v) (g : Got w HEAD v h) (i : ℕ) (is : List ℕ) (e : owners ss M (string ps v) ≡ i ∷ is) where
-    chain : Linked (cell w TWIN) (cell w HEAD v) (i ∷ is)
-    chain = subst (Linked (cell w TWIN) (cell w HEAD v)) e (T .headed .heads v m)
+    chain : Threaded (cell w TWIN) (cell w HEAD v) (i ∷ is)
+    chain = subst (Threaded (cell w TWIN) (cell w HEAD v)) e (T .headed .heads v m)
 
     own : (k : ℕ) → In k (i ∷ is) → In k M
     own k q = in-those (λ j. same (slip ss j) (string ps v)) M (subst (In k) (sym e) q) .0
@@ -80,7 +80,7 @@ module _ {s es : List ℕ} {n count : ℕ} {w : List ℕ} (T : Told s es n count
               record {
                 others = is;
                 is-node = m;
-                linked = rw first (chain .1);
+                threaded = rw first (chain .1);
                 among = λ k a. own k (rw first at a);
                 list-is = rw first (ending-out ss M (numbered .ascending) v m (T .outs v m) ∙ ap (λ xs. xs ++ endingOf ss M (string ps (cell w OUT v))) e);
               };
@@ -109,7 +109,7 @@ module _ {s es : List ℕ} {n count : ℕ} {w : List ℕ} (T : Told s es n count
     pub here-node : (h ≡ 0 → ⊥) → Pending ss M w v h (endingOf ss M (string ps v))
     here-node z =
         by-list (owners ss M (string ps v))
-        (λ e. absurd (z (g .is ∙ subst (Linked (cell w TWIN) (cell w HEAD v)) e (T .headed .heads v m))))
+        (λ e. absurd (z (g .is ∙ subst (Threaded (cell w TWIN) (cell w HEAD v)) e (T .headed .heads v m))))
         (λ i is e. from-head m g i is e)
 
     pub here-behind : {node i : ℕ} → h ≡ 0 → Pending ss M w node i (endingOf ss M (string ps (cell w OUT v))) →
@@ -136,14 +136,14 @@ module _ {s es : List ℕ} {n count : ℕ} {w : List ℕ} (T : Told s es n count
           small = omega (arith, node-most numbered node (R .is-node), numbered .few-nodes);
           none = λ e. absurd (z e);
           some = λ q. by-list (R .others)
-              (λ e. absurd (z (g .is ∙ subst (Linked (cell w TWIN) (cell w TWIN slip)) e (R .linked))))
+              (λ e. absurd (z (g .is ∙ subst (Threaded (cell w TWIN) (cell w TWIN slip)) e (R .threaded))))
               (λ i is e.
-              let l = subst (Linked (cell w TWIN) (cell w TWIN slip)) e (R .linked) in
+              let l = subst (Threaded (cell w TWIN) (cell w TWIN slip)) e (R .threaded) in
               let t : twin ≡ i = g .is ∙ l .0 in
               record {
                 others = is;
                 is-node = R .is-node;
-                linked = rw t (l .1);
+                threaded = rw t (l .1);
                 among = λ k a. R .among k (List·Memᴰ·tail (subst (In k) (sym e) (rw t at a)));
                 list-is = rw t (tail-is ∙ ap (λ ys. ys ++ endingOf ss M (string ps (cell w OUT node))) e);
               });
@@ -155,6 +155,6 @@ module _ {s es : List ℕ} {n count : ℕ} {w : List ℕ} (T : Told s es n count
         (λ e. rw (tail-is, e) p)
         (λ i is e. absurd (omega (
           arith,
-          g .is ∙ subst (Linked (cell w TWIN) (cell w TWIN slip)) e (R .linked) .0,
+          g .is ∙ subst (Threaded (cell w TWIN) (cell w TWIN slip)) e (R .threaded) .0,
           member-some numbered i (R .among i (List·Memᴰ·tail (subst (In i) (sym e) (List·Memᴰ·head refl)))),
         )))

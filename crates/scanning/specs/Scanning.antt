@@ -23,7 +23,7 @@ use Rattle.matching.specs.Nodes.{string, IsNode, Num}
 use Rattle.matching.specs.Occurrences.{Occurrence, occurrence, endingAt, occurrences}
 use Rattle.matching.specs.Occurrences.{endingOf}
 use Rattle.layout.specs.Layout.{TWIN, OUT, SCAN}
-use Rattle.layout.specs.Tables.{cell, members, patterns, Linked}
+use Rattle.layout.specs.Tables.{cell, members, patterns, Threaded}
 use Rattle.layout.specs.Numbered.{patternsIn, SameBelow}
 use Rattle.outputs.specs.Outputs.{Told}
 use Rattle.scanning.specs.declared.TextCounts.{TextCounts}
@@ -46,7 +46,7 @@ pub record TextCountsAre (s es t : List ℕ) (r : TextCounts) : Type 0 where
 pub record Reporting (ss : List (List ℕ)) (M w : List ℕ) (node slip : ℕ) (xs : List ℕ) : Type 0 where
   pub others : List ℕ
   pub is-node : Num (patterns ss M) node
-  pub linked : Linked (cell w TWIN) (cell w TWIN slip) others
+  pub threaded : Threaded (cell w TWIN) (cell w TWIN slip) others
   pub among : (i : ℕ) → In i (slip ∷ others) → In i M
   pub list-is : xs ≡ slip ∷ (others ++ endingOf ss M (string (patterns ss M) (cell w OUT node)))
 

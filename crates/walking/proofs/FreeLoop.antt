@@ -8,7 +8,7 @@ use native.Mathlib.Omega.{arith}
 use lib.ListN.{length}
 use Rattle.words.specs.Lists.{headOr}
 use Rattle.trays.specs.Limits.{maxSlips}
-use Rattle.layout.specs.Tables.{Linked}
+use Rattle.layout.proofs.Heads.{threaded-head}
 use Rattle.walking.specs.Runs.{nextEnder, endersFrom, mark, waitingIn, Real, ListedFrom}
 use Rattle.walking.specs.Walking.{Searches, FoundPartner, Chooses, partnerIn}
 use Rattle.walking.proofs.RunLaws.{listed-none, listed-first, listed-next, listed-real, along-none}
@@ -86,10 +86,6 @@ module _ {es w : List ℕ} {d : ℕ} {right : List ℕ} {l m : ℕ} (c : Chooses
       choose-second {r} f =
           let ls = endersFrom w es d (nextEnder w es d l) in
           let first = listed-first (nextEnder w es d) es d l list choose-some in
-          head-is r (endersFrom w es d r) (f .list .linked)
+          threaded-head (nextEnder w es d) r (endersFrom w es d r) (f .list .threaded)
           ∙ ap (headOr 0) (f .rest ∙ ap (λ n. waitingIn right (endersFrom w es d n)) q)
           ∙ sym (ap (λ x. partnerIn right x m) first ∙ partner-second right m l ls (rw first at (list .ascending)) e)
-        where
-          head-is : (r : ℕ) (xs : List ℕ) → Linked (nextEnder w es d) r xs → r ≡ headOr 0 xs
-          head-is r [] k = k
-          head-is r (x ∷ xs) k = k .0

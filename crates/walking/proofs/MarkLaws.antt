@@ -1,5 +1,6 @@
 -- Lists of marks: at the start, and with one join more.
---   mark-..      == a mark set
+--   mark-..      == a mark set, set-cases == what the marks are then
+--   tells-..     == a list of marks that tells a function of the slips: one of them, one set
 --   Owning i xs  == the first i slips are marked as their own
 --   ends-..      == chain ends as a table: a mark set, every slip its own
 --   zeros-..     == how many marks are 0: all at the start, one fewer when one is set
@@ -19,7 +20,7 @@ use lib.ListN.{length, getD, set, take, replicate, length-set, length-replicate,
 use lib.Seq.{getD-set-same, getD-set-other, take-suc-set, take-all}
 use borrow.Author.Tests.{eq-eqb, ne-eqb}
 use Rattle.words.proofs.Runs.{length-upFrom, upFrom-more}
-use Rattle.words.specs.Lists.{those, upFrom}
+use Rattle.words.specs.Lists.{upFrom}
 use Rattle.words.proofs.Tests.{tell}
 use Rattle.words.proofs.Members.{In, those-yes, those-no}
 use Rattle.trays.specs.Limits.{maxSlips}
@@ -63,6 +64,25 @@ module _ {i : ℕ} {xs : List ℕ} (O : Owning i xs) where
 pub mark-at : (xs : List ℕ) (i : ℕ) → mark xs (suc i) ≡ getD xs i 0
 mark-at xs i = rw (sub-one (suc i))
 
+-- the mark of slip a set to v: it is v, the others are as they were
+set-cases : (P : ℕ → Type 0) (xs : List ℕ) (a v i d : ℕ) → (1 ≤ a) × (a ≤ length xs) → (suc i ≡ a → P v) → ((suc i ≡ a → ⊥) → P (getD xs i d)) →
+    P (getD (set xs (a - 1) v) i d)
+set-cases P xs a v i d h now other =
+    elim (ℕ-discrete (suc i) a) [
+      | yes e ↦ let q : a - 1 ≡ i = omega arith in rw (q, getD-set-same xs i v d (omega arith)) (now e)
+      | no n ↦ rw (getD-set-other xs (a - 1) i v d (λ e. n (omega arith))) (other n)
+    ]
+
+module _ (xs : List ℕ) (f : ℕ → ℕ) (tells : (i : ℕ) → i < maxSlips → getD xs i 0 ≡ f (suc i)) where
+  tells-mark : (i : ℕ) → 1 ≤ i → i ≤ maxSlips → mark xs i ≡ f i
+  tells-mark zero h l = absurd (omega arith)
+  tells-mark (suc i) h l = mark-at xs i ∙ tells i l
+
+  tells-set : length xs ≡ maxSlips → (g : ℕ → ℕ) (a v : ℕ) → (1 ≤ a) × (a ≤ maxSlips) → g a ≡ v → ((i : ℕ) → (i ≡ a → ⊥) → g i ≡ f i) →
+      (i : ℕ) → i < maxSlips → getD (set xs (a - 1) v) i 0 ≡ g (suc i)
+  tells-set s g a v h now other i l =
+      set-cases (λ x. x ≡ g (suc i)) xs a v i 0 (rw s h) (λ e. rw (e, now)) (λ n. tells i l ∙ sym (other (suc i) n))
+
 -- chain ends
 pub ends-mark : (xs : List ℕ) (i : ℕ) → 1 ≤ i → i ≤ length xs → chainEnds xs i ≡ mark xs i
 ends-mark xs zero h l = absurd (omega arith)
@@ -83,12 +103,7 @@ ends-set xs a v h l = fun-ext at
     at : (i : ℕ) → chainEnds (set xs (a - 1) v) i ≡ putAt (chainEnds xs) a v i
     at zero = rw (ne-eqb 0 a (λ e. omega arith))
     at (suc i) =
-        elim (ℕ-discrete (suc i) a) [
-          | yes e ↦
-              let q : a - 1 ≡ i = omega arith in
-              rw (eq-eqb (suc i) a e, q) (getD-set-same xs i v (suc i) (omega arith))
-          | no n ↦ rw (ne-eqb (suc i) a n) (getD-set-other xs (a - 1) i v (suc i) (λ e. n (omega arith)))
-        ]
+        set-cases (λ x. x ≡ putAt (chainEnds xs) a v (suc i)) xs a v i (suc i) (h, l) (λ e. rw (eq-eqb (suc i) a e)) (λ n. rw (ne-eqb (suc i) a n))
 
 pub ends-own : chainEnds (upFrom 1 maxSlips) ≡ (λ i. i)
 ends-own = fun-ext at
@@ -176,12 +191,10 @@ module _ {js : List Join} {left right overs first last : List ℕ} (M : Marks js
   N = M .neighbours
 
   pub left-mark : (i : ℕ) → 1 ≤ i → i ≤ maxSlips → mark left i ≡ leftOf i js
-  left-mark zero h l = absurd (omega arith)
-  left-mark (suc i) h l = mark-at left i ∙ N .left-is i l
+  left-mark = tells-mark left (λ i. leftOf i js) (N .left-is)
 
   pub right-mark : (i : ℕ) → 1 ≤ i → i ≤ maxSlips → mark right i ≡ rightOf i js
-  right-mark zero h l = absurd (omega arith)
-  right-mark (suc i) h l = mark-at right i ∙ N .right-is i l
+  right-mark = tells-mark right (λ i. rightOf i js) (N .right-is)
 
   -- the last slip of the chain that r begins
   pub last-mark : (r : ℕ) → 1 ≤ r → r ≤ maxSlips → mark left r ≡ 0 → mark last r ≡ lastOf r js
@@ -227,42 +240,17 @@ module _ {js : List Join} {left right overs first last : List ℕ} (M : Marks js
     abbrev more : List Join
     more = js ++ (join l r d ∷ [])
 
-    left-new : (i : ℕ) → i < maxSlips → getD (set left (r - 1) l) i 0 ≡ leftOf (suc i) more
-    left-new i h =
-        elim (ℕ-discrete (suc i) r) [
-          | yes e ↦
-              let q : r - 1 ≡ i = omega arith in
-              rw (q, e) (getD-set-same left i l 0 (omega (arith, N .lefts)) ∙ sym (L.left-joined js (M .linked) l r d (hl .0) (hr .0) right-none left-none))
-          | no n ↦
-              getD-set-other left (r - 1) i l 0 (λ e. n (omega arith)) ∙ N .left-is i h
-              ∙ sym (L.left-other js (M .linked) l r d (hl .0) (hr .0) right-none left-none (suc i) n)
-        ]
+    right-now : rightOf l more ≡ r
+    right-now = L.right-joined js (M .linked) l r d (hl .0) (hr .0) right-none left-none
 
-    right-new : (i : ℕ) → i < maxSlips → getD (set right (l - 1) r) i 0 ≡ rightOf (suc i) more
-    right-new i h =
-        elim (ℕ-discrete (suc i) l) [
-          | yes e ↦
-              let q : l - 1 ≡ i = omega arith in
-              rw (q, e) (getD-set-same right i r 0 (omega (arith, N .rights)) ∙ sym (L.right-joined js (M .linked) l r d (hl .0) (hr .0) right-none left-none))
-          | no n ↦
-              getD-set-other right (l - 1) i r 0 (λ e. n (omega arith)) ∙ N .right-is i h
-              ∙ sym (L.right-other js (M .linked) l r d (hl .0) (hr .0) right-none left-none (suc i) n)
-        ]
-
-    over-new : (i : ℕ) → i < maxSlips → getD (set overs (l - 1) d) i 0 ≡ overlapAfter (suc i) more
-    over-new i h =
-        elim (ℕ-discrete (suc i) l) [
-          | yes e ↦
-              let q : l - 1 ≡ i = omega arith in
-              rw (q, e) (getD-set-same overs i d 0 (omega (arith, N .over-all)) ∙ sym (over-joined js (M .linked .real) l r d right-none))
-          | no n ↦ getD-set-other overs (l - 1) i d 0 (λ e. n (omega arith)) ∙ N .over-is i h ∙ sym (over-other (suc i) js (join l r d) n)
-        ]
+    right-others : (i : ℕ) → (i ≡ l → ⊥) → rightOf i more ≡ rightOf i js
+    right-others = L.right-other js (M .linked) l r d (hl .0) (hr .0) right-none left-none
 
     small-new : (i : ℕ) → rightOf i more ≤ maxSlips
     small-new i =
         elim (ℕ-discrete i l) [
-          | yes e ↦ rw (e, L.right-joined js (M .linked) l r d (hl .0) (hr .0) right-none left-none) (hr .1)
-          | no n ↦ rw (L.right-other js (M .linked) l r d (hl .0) (hr .0) right-none left-none i n) (M .small i)
+          | yes e ↦ rw (e, right-now) (hr .1)
+          | no n ↦ rw (right-others i n) (M .small i)
         ]
 
     pub marks-join : (left′ right′ overs′ first′ last′ : List ℕ)
@@ -274,9 +262,15 @@ module _ {js : List Join} {left right overs first last : List ℕ} (M : Marks js
             lefts = ap length a ∙ length-set left (r - 1) l ∙ N .lefts;
             rights = ap length b ∙ length-set right (l - 1) r ∙ N .rights;
             over-all = ap length o ∙ length-set overs (l - 1) d ∙ N .over-all;
-            left-is = rw a left-new;
-            right-is = rw b right-new;
-            over-is = rw o over-new;
+            left-is =
+                rw a (tells-set left (λ i. leftOf i js) (N .left-is) (N .lefts) (λ i. leftOf i more) r l hr
+                (L.left-joined js (M .linked) l r d (hl .0) (hr .0) right-none left-none)
+                (L.left-other js (M .linked) l r d (hl .0) (hr .0) right-none left-none));
+            right-is =
+                rw b (tells-set right (λ i. rightOf i js) (N .right-is) (N .rights) (λ i. rightOf i more) l r hl right-now right-others);
+            over-is =
+                rw o (tells-set overs (λ i. overlapAfter i js) (N .over-is) (N .over-all) (λ i. overlapAfter i more) l d hl
+                (over-joined js (M .linked .real) l r d right-none) (λ i n. over-other i js (join l r d) n));
           };
           firsts = e .firsts;
           lasts = e .lasts;

@@ -23,10 +23,9 @@ use Rattle.layout.specs.Numbered.{patternsIn}
 use Rattle.layout.specs.Staging.{keptIn, joinsIn}
 use Rattle.walking.specs.Runs.{startersAt, endersAt}
 use Rattle.walking.specs.Marks.{Marks}
-use Rattle.walking.specs.Walking.{JoinsMade, Visits, Walkable, RowAsks, nodesAt, rowWalked}
+use Rattle.walking.specs.Walking.{JoinsMade, Visits, Walkable, RowAsks, rowWalked}
 use Rattle.walking.proofs.RowLaws.{row-num}
-use Rattle.walking.proofs.WalkableLaws.{kept-rises, here-sized, starters-are, enders-are, node-starts}
-use Rattle.walking.proofs.WalkableLaws.{node-ends, patterns-same, kept-same, walkable-kept}
+use Rattle.walking.proofs.WalkableLaws.{kept-rises, here-sized, node-starts, node-ends, patterns-same, kept-same, walkable-kept}
 
 pub record RowWalking (s es : List ℕ) (n k count : ℕ) (w₀ : List ℕ) (d made₀ : ℕ) (w : List ℕ) (made v end : ℕ)
     (left right overs first last : List ℕ) : Type 0 where
@@ -92,8 +91,8 @@ module _ {s es : List ℕ} {n k count : ℕ} {w₀ : List ℕ} {d made₀ : ℕ}
         record {
           sized = here-sized here d (T .some) (T .most);
           node = omega (arith, num .0 .inside, T .walkable .numbered .all-nodes, T .walkable .numbered .few-nodes);
-          starts = node-starts here v d (T .some) (here-num .0) (here-num .1);
-          ends = node-ends here v d (T .some) (here-num .0) (here-num .1);
+          starts = node-starts here v d (T .some) (here-num .0) (here-num .1) .1;
+          ends = node-ends here v d (T .some) (here-num .0) (here-num .1) .1;
           marks = T .marks;
         }
 
@@ -104,8 +103,8 @@ module _ {s es : List ℕ} {n k count : ℕ} {w₀ : List ℕ} {d made₀ : ℕ}
     visited : S.scan (endersAt w es d v) d (startersAt w es d v) (joinsIn w made) ≡ visit ss K x K (joinsIn w made)
     visited =
         rw (
-          enders-are here v d (T .some) (here-num .0) (here-num .1),
-          starters-are here v d (T .some) (here-num .0) (here-num .1),
+          node-ends here v d (T .some) (here-num .0) (here-num .1) .0,
+          node-starts here v d (T .some) (here-num .0) (here-num .1) .0,
           kept-same (T .walkable) (T .only),
           patterns-same (T .walkable) (T .only),
           ← num .1,

@@ -1,6 +1,6 @@
 -- Lists of slips threaded through the work area.
 --   along-..    == the numbers along next, as a list
---   listed-..   == a list of slips of the tray: none, the next one, from what is linked
+--   listed-..   == a list of slips of the tray: none, the next one, from what is threaded
 --   starter-kept, ender-kept == the lists are the same in a work area of which only joins have changed
 -- From a slip the list is that slip and the list from the next one: it ends within 200 slips, so one turn fewer is enough for the rest.
 use mathlib.Core.Path.{_≡_, refl, sym, ap, fun-ext, _∙_}
@@ -13,7 +13,7 @@ use Rattle.trays.specs.Limits.{maxSlips}
 use Rattle.trays.specs.Slips.{startOf, endOf}
 use Rattle.tables.specs.Tables.{Cells, Only}
 use Rattle.layout.specs.Layout.{STARTS-NEXT, ENDS-NEXT, JOINS}
-use Rattle.layout.specs.Tables.{Linked}
+use Rattle.layout.specs.Tables.{Threaded}
 use Rattle.walking.specs.Runs.{along, nextStarter, nextEnder, Real, ListedFrom}
 use Rattle.walking.specs.Walking.{Sized}
 use Rattle.walking.proofs.NextSlips.{start-short}
@@ -32,19 +32,19 @@ module _ (next : ℕ → ℕ) where
   along-length (suc n) zero = omega arith
   along-length (suc n) (suc i) = omega (arith, along-length n (next (suc i)))
 
-  -- what is linked from i on is what stands along next
-  pub linked-along : (n i : ℕ) (xs : List ℕ) → Linked next i xs → ((x : ℕ) → In x xs → 1 ≤ x) → length xs ≤ n → along next n i ≡ xs
-  linked-along n i [] e p h = rw e (along-none n)
-  linked-along zero i (x ∷ xs) e p h = absurd (omega arith)
-  linked-along (suc n) i (x ∷ xs) e p h =
+  -- what is threaded from i on is what stands along next
+  pub threaded-along : (n i : ℕ) (xs : List ℕ) → Threaded next i xs → ((x : ℕ) → In x xs → 1 ≤ x) → length xs ≤ n → along next n i ≡ xs
+  threaded-along n i [] e p h = rw e (along-none n)
+  threaded-along zero i (x ∷ xs) e p h = absurd (omega arith)
+  threaded-along (suc n) i (x ∷ xs) e p h =
       rw (e .0, along-some n x (p x (List·Memᴰ·head refl)))
-      (ap (λ l. x ∷ l) (linked-along n (next x) xs (e .1) (λ y m. p y (List·Memᴰ·tail m)) (omega arith)))
+      (ap (λ l. x ∷ l) (threaded-along n (next x) xs (e .1) (λ y m. p y (List·Memᴰ·tail m)) (omega arith)))
 
   module _ (es : List ℕ) (d : ℕ) where
-    pub listed-is : (i : ℕ) (xs : List ℕ) → Linked next i xs → Asc _<_ xs → ((x : ℕ) → In x xs → Real es d x) → length xs ≤ maxSlips → ListedFrom es d next i
+    pub listed-is : (i : ℕ) (xs : List ℕ) → Threaded next i xs → Asc _<_ xs → ((x : ℕ) → In x xs → Real es d x) → length xs ≤ maxSlips → ListedFrom es d next i
     listed-is i xs e a p h =
-        let q = linked-along maxSlips i xs e (λ x m. p x m .some) h in
-        record { linked = rw q e; ascending = rw q a; all = rw q p }
+        let q = threaded-along maxSlips i xs e (λ x m. p x m .some) h in
+        record { threaded = rw q e; ascending = rw q a; all = rw q p }
 
     pub listed-none : ListedFrom es d next 0
     listed-none = listed-is 0 [] refl tt (λ x m. absurd (List·Memᴰ·not-nil m)) (omega arith)
@@ -53,14 +53,14 @@ module _ (next : ℕ → ℕ) where
       first : along next maxSlips i ≡ i ∷ along next (maxSlips - 1) (next i)
       first = along-some (maxSlips - 1) i (omega arith)
 
-      rest : Linked next (next i) (along next (maxSlips - 1) (next i))
-      rest = (rw first at (L .linked)) .1
+      rest : Threaded next (next i) (along next (maxSlips - 1) (next i))
+      rest = (rw first at (L .threaded)) .1
 
       positive : (x : ℕ) → In x (along next (maxSlips - 1) (next i)) → 1 ≤ x
       positive x m = (rw first at (L .all)) x (List·Memᴰ·tail m) .some
 
       enough : along next maxSlips (next i) ≡ along next (maxSlips - 1) (next i)
-      enough = linked-along maxSlips (next i) (along next (maxSlips - 1) (next i)) rest positive (omega (arith, along-length (maxSlips - 1) (next i)))
+      enough = threaded-along maxSlips (next i) (along next (maxSlips - 1) (next i)) rest positive (omega (arith, along-length (maxSlips - 1) (next i)))
 
       pub listed-first : along next maxSlips i ≡ i ∷ along next maxSlips (next i)
       listed-first = first ∙ ap (λ l. i ∷ l) (sym enough)
@@ -68,7 +68,7 @@ module _ (next : ℕ → ℕ) where
       pub listed-next : ListedFrom es d next (next i)
       listed-next =
           record {
-            linked = rw enough rest;
+            threaded = rw enough rest;
             ascending = (rw listed-first at (L .ascending)) .1;
             all = λ x m. (rw listed-first at (L .all)) x (List·Memᴰ·tail m);
           }

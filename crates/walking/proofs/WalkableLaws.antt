@@ -1,22 +1,20 @@
 -- The work area of the walk: what it says of a node, and that it says the same when only joins have been written.
 --   kept-..          == the kept members: ascending, slips of the tray
---   node-starts, node-ends == the lists of a node are lists of slips of the tray
---   starters-are, enders-are == they are the kept members that begin with its string, and those that properly end with it
+--   node-starts, node-ends == the lists of a node are the kept members that begin with its string, that properly end with it: slips of the tray
 --   walkable-kept    == joins leave all this as it is
-use mathlib.Core.Path.{_≡_, sym, ap, fun-ext, subst₂, _∙_}
+use mathlib.Core.Path.{_≡_, sym, ap, fun-ext, _∙_}
 use mathlib.Core.Bool.{Bool, true}
 use mathlib.Core.Logic.{inl, inr}
 use mathlib.Core.List.{List, [], _∷_}
 use Prim.Native.Nat.{ℕ, zero, suc, _+_, _-_, _≤_, _<_}
 use native.Mathlib.Decide.{decLt}
 use native.Mathlib.Omega.{arith}
-use lib.ListN.{length, getD, length-take, List·getD-eq-default}
-use borrow.Author.Tests.{ltb-true}
+use lib.ListN.{length, length-take, List·getD-eq-default}
 use Rattle.words.specs.Lists.{those}
 use Rattle.words.specs.Words.{begins, endsProperly}
-use Rattle.words.proofs.Tests.{tell, both}
+use Rattle.words.proofs.Tests.{tell}
 use Rattle.words.proofs.Members.{In, Asc, in-those, those-yes, those-no, asc-those}
-use Rattle.words.proofs.Strings.{begins-length}
+use Rattle.words.proofs.Strings.{begins-length, endsProperly-ends}
 use Rattle.trays.specs.Limits.{maxSlips, maxSlip, maxLetters}
 use Rattle.trays.specs.Slips.{slipsOf, slip, startOf, endOf}
 use Rattle.trays.specs.Aside.{kept}
@@ -24,17 +22,19 @@ use Rattle.trays.proofs.Accepted.{accepted-tells, span-fits, span-slip}
 use Rattle.trays.proofs.Kept.{kept-asc, in-kept}
 use Rattle.tables.specs.Tables.{Cells, Only}
 use Rattle.tables.proofs.Tables.{table-length, cells-below}
-use Rattle.matching.specs.Nodes.{nodes, string, Num}
+use Rattle.matching.specs.Nodes.{string, Num}
 use Rattle.matching.proofs.NodeLaws.{node-some}
+use Rattle.greedy.specs.steps.Scans.{starters, enders}
 use Rattle.layout.specs.Layout.{KEPT, STARTS, STARTS-NEXT, ENDS, ENDS-NEXT, JOINS, KID}
-use Rattle.layout.specs.Tables.{cell, members, patterns, starters, enders, Linked, StartsIs, EndsIs}
+use Rattle.layout.specs.Tables.{cell, members, Threaded, StartsIs, EndsIs}
 use Rattle.layout.specs.Numbered.{patternsIn, Numbered, SameBelow}
 use Rattle.layout.specs.Staging.{keptIn}
+use Rattle.layout.proofs.Heads.{threaded-kept}
 use Rattle.layout.proofs.Frames.{only-kept, members-kept, patterns-kept, numbered-kept}
 use Rattle.walking.specs.Runs.{along, nextStarter, nextEnder, startersAt, endersAt, Real, ListedFrom}
 use Rattle.walking.specs.Walking.{Sized, Walkable}
 use Rattle.walking.proofs.NextSlips.{start-short}
-use Rattle.walking.proofs.RunLaws.{linked-along, listed-is}
+use Rattle.walking.proofs.RunLaws.{threaded-along, listed-is}
 
 those-few : {A : Type 0} (t : A → Bool) (xs : List A) → length (those t xs) ≤ length xs
 those-few t [] = omega arith
@@ -43,9 +43,6 @@ those-few t (x ∷ xs) =
       | inl e ↦ omega (arith, ap length (those-yes t x xs e), those-few t xs)
       | inr e ↦ omega (arith, ap length (those-no t x xs e), those-few t xs)
     ]
-
-linked-same : (next next′ : ℕ → ℕ) (xs : List ℕ) {i i′ : ℕ} → ((x : ℕ) → next′ x ≡ next x) → i′ ≡ i → Linked next i xs → Linked next′ i′ xs
-linked-same next next′ xs h e l = subst₂ (λ g a. Linked g a xs) (sym (fun-ext h)) (sym e) l
 
 module _ {s es : List ℕ} {n k count : ℕ} {w : List ℕ} (W : Walkable s es n k count w) where
   abbrev ss : List (List ℕ)
@@ -99,46 +96,36 @@ module _ {s es : List ℕ} {n k count : ℕ} {w : List ℕ} (W : Walkable s es n
     next-ender : nextEnder w es d ≡ (λ l. cell w ENDS-NEXT (endOf es l - length x))
     next-ender = rw size
 
-    starters-linked : Linked (nextStarter w es d) (cell w STARTS v) (starters ss K x)
-    starters-linked = rw next-starter (W .starts v (d - 1) num (omega arith))
+    starters-threaded : Threaded (nextStarter w es d) (cell w STARTS v) (starters ss x K)
+    starters-threaded = rw next-starter (W .starts v (d - 1) num (omega arith))
 
-    enders-linked : Linked (nextEnder w es d) (cell w ENDS v) (enders ss K x)
-    enders-linked = rw next-ender (W .ends v num)
+    enders-threaded : Threaded (nextEnder w es d) (cell w ENDS v) (enders ss x K)
+    enders-threaded = rw next-ender (W .ends v num)
 
-    starter-real : (i : ℕ) → In i (starters ss K x) → Real es d i
-    starter-real i m =
-        let (a, b) = in-those (λ r. begins x (slip ss r)) K m in
-        long-real d i a (omega (arith, size, begins-length x (slip ss i) b))
+    -- those of the kept members that pass a test, from head on along next
+    module _
+        (next : ℕ → ℕ) (head : ℕ) (t : ℕ → Bool) (run : Threaded next head (those t K))
+        (long : (i : ℕ) → t i ≡ true → length x ≤ length (slip ss i)) where
+      tested-real : (i : ℕ) → In i (those t K) → Real es d i
+      tested-real i m = let (a, b) = in-those t K m in long-real d i a (omega (arith, size, long i b))
 
-    ender-real : (i : ℕ) → In i (enders ss K x) → Real es d i
-    ender-real i m =
-        let (a, b) = in-those (λ l. endsProperly x (slip ss l)) K m in
-        long-real d i a (omega (arith, size, ends-length x (slip ss i) b))
-      where
-        ends-length : (x y : List ℕ) → endsProperly x y ≡ true → length x ≤ length y
-        ends-length x y e = omega (arith, ltb-true (length x) (length y) (both _ _ e .0))
+      tested-few : length (those t K) ≤ maxSlips
+      tested-few = omega (arith, those-few t K, kept-count, W .few-kept)
 
-    starters-few : length (starters ss K x) ≤ maxSlips
-    starters-few = omega (arith, those-few (λ r. begins x (slip ss r)) K, kept-count, W .few-kept)
+      tested : (along next maxSlips head ≡ those t K) × ListedFrom es d next head
+      tested = (
+        threaded-along next maxSlips head (those t K) run (λ i m. tested-real i m .some) tested-few,
+        listed-is next es d head (those t K) run (asc-those _<_ t K kept-rises) tested-real tested-few,
+      )
 
-    enders-few : length (enders ss K x) ≤ maxSlips
-    enders-few = omega (arith, those-few (λ l. endsProperly x (slip ss l)) K, kept-count, W .few-kept)
-
-    pub starters-are : startersAt w es d v ≡ starters ss K x
-    starters-are = linked-along (nextStarter w es d) maxSlips (cell w STARTS v) (starters ss K x) starters-linked (λ i m. starter-real i m .some) starters-few
-
-    pub enders-are : endersAt w es d v ≡ enders ss K x
-    enders-are = linked-along (nextEnder w es d) maxSlips (cell w ENDS v) (enders ss K x) enders-linked (λ i m. ender-real i m .some) enders-few
-
-    pub node-starts : ListedFrom es d (nextStarter w es d) (cell w STARTS v)
+    pub node-starts : (startersAt w es d v ≡ starters ss x K) × ListedFrom es d (nextStarter w es d) (cell w STARTS v)
     node-starts =
-        listed-is (nextStarter w es d) es d (cell w STARTS v) (starters ss K x) starters-linked
-        (asc-those _<_ (λ r. begins x (slip ss r)) K kept-rises) starter-real starters-few
+        tested (nextStarter w es d) (cell w STARTS v) (λ r. begins x (slip ss r)) starters-threaded (λ r e. begins-length x (slip ss r) e)
 
-    pub node-ends : ListedFrom es d (nextEnder w es d) (cell w ENDS v)
+    pub node-ends : (endersAt w es d v ≡ enders ss x K) × ListedFrom es d (nextEnder w es d) (cell w ENDS v)
     node-ends =
-        listed-is (nextEnder w es d) es d (cell w ENDS v) (enders ss K x) enders-linked
-        (asc-those _<_ (λ l. endsProperly x (slip ss l)) K kept-rises) ender-real enders-few
+        tested (nextEnder w es d) (cell w ENDS v) (λ l. endsProperly x (slip ss l)) enders-threaded
+        (λ l e. omega (arith, endsProperly-ends x (slip ss l) e .0))
 
   -- only joins have been written
   module _ {w′ : List ℕ} (f : Only (Cells JOINS 600) w w′) where
@@ -159,18 +146,13 @@ module _ {s es : List ℕ} {n k count : ℕ} {w : List ℕ} (W : Walkable s es n
 
     starts-same : StartsIs ss es (members w n) K (cell w′ STARTS) (cell w′ STARTS-NEXT)
     starts-same v d m e =
-        linked-same (λ r. cell w STARTS-NEXT (startOf es r + d)) (λ r. cell w′ STARTS-NEXT (startOf es r + d)) (starters ss K (string ps v))
-        (λ r. f .kept (STARTS-NEXT + (startOf es r + d)) (λ q. omega (arith, q .from, start-short es ends-short r, N .level .all v m)))
-        (f .kept (STARTS + v) (λ q. omega (arith, q .from, node-small v m)))
-        (W .starts v d m e)
+        threaded-kept below STARTS v STARTS-NEXT (λ r. startOf es r + d) (starters ss (string ps v) K) (omega (arith, node-small v m))
+        (λ r i. omega (arith, start-short es ends-short r, N .level .all v m)) (W .starts v d m e)
 
     ends-same : EndsIs ss es (members w n) K (cell w′ ENDS) (cell w′ ENDS-NEXT)
     ends-same v m =
-        let a = length (string ps v) in
-        linked-same (λ l. cell w ENDS-NEXT (endOf es l - a)) (λ l. cell w′ ENDS-NEXT (endOf es l - a)) (enders ss K (string ps v))
-        (λ l. f .kept (ENDS-NEXT + (endOf es l - a)) (λ q. omega (arith, q .from, ends-short l, node-some ps v m .0)))
-        (f .kept (ENDS + v) (λ q. omega (arith, q .from, node-small v m)))
-        (W .ends v m)
+        threaded-kept below ENDS v ENDS-NEXT (λ l. endOf es l - length (string ps v)) (enders ss (string ps v) K) (omega (arith, node-small v m))
+        (λ l i. omega (arith, ends-short l, node-some ps v m .0)) (W .ends v m)
 
     pub walkable-kept : Walkable s es n k count w′
     walkable-kept =

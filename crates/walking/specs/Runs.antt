@@ -17,7 +17,7 @@ use Rattle.words.specs.Members.{In, Asc}
 use Rattle.trays.specs.Limits.{maxSlips}
 use Rattle.trays.specs.Slips.{startOf, endOf}
 use Rattle.layout.specs.Layout.{STARTS, STARTS-NEXT, ENDS, ENDS-NEXT}
-use Rattle.layout.specs.Tables.{cell, Linked}
+use Rattle.layout.specs.Tables.{cell, Threaded}
 
 abbrev pub along : (ℕ → ℕ) → ℕ → ℕ → List ℕ
 along next zero i = []
@@ -56,6 +56,6 @@ pub record Real (es : List ℕ) (d i : ℕ) : Type 0 where
   pub deep : d ≤ endOf es i
 
 pub record ListedFrom (es : List ℕ) (d : ℕ) (next : ℕ → ℕ) (i : ℕ) : Type 0 where
-  pub linked : Linked next i (along next maxSlips i)
+  pub threaded : Threaded next i (along next maxSlips i)
   pub ascending : Asc _<_ (along next maxSlips i)
   pub all : (x : ℕ) → In x (along next maxSlips i) → Real es d x

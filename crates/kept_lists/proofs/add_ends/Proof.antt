@@ -1,8 +1,8 @@
 -- Invariant: member i stands first in the lists of its proper suffixes of more than d letters that are nodes; those of at most d letters are node u
 -- and the nodes on its failure path.
-use Rattle.kept_lists.proofs.EndLoop.{Falling, falling-some, falling-most, falling-end, falling-place, falling-letters}
-use Rattle.kept_lists.proofs.EndLoop.{falling-letter, falling-fail, falling-start, falling-left, falling-level}
-use Rattle.kept_lists.proofs.EndLoop.{falling-skip, falling-deep, falling-can, falling-next, falling-more, falling-all}
+use Rattle.kept_lists.proofs.EndLoop.{Falling, falling-end, falling-place, falling-letters, falling-letter, falling-fail, falling-start}
+use Rattle.kept_lists.proofs.EndLoop.{falling-left, falling-level, falling-skip, falling-deep, falling-can, falling-next, falling-more, falling-all}
+use Rattle.kept_lists.proofs.SideLoop.{added-some, added-most}
 use mathlib.Core.Path.{refl}
 use native.Mathlib.Omega.{arith}
 use borrow.Author.Needs.{needs}
@@ -16,16 +16,16 @@ abbrev μ-loop : tie.MeasureT-loop
 μ-loop letters ends work₀ n k count j i start end last whole u₀ d₀ work u d = d
 
 slip-span-requires : tie.Need-slip-span-requires Inv-loop μ-loop
-slip-span-requires c κs = (search falling-some, search falling-most)
+slip-span-requires c κs = (search added-some, search added-most)
 
 sub-last : tie.Need-sub-last Inv-loop μ-loop
 sub-last c = search falling-end
 
 at-requires-2 : tie.Need-at-requires-2 Inv-loop μ-loop
-at-requires-2 c κs = search (falling-place, falling-fail)
+at-requires-2 c κs = search falling-place
 
 at-requires-3 : tie.Need-at-requires-3 Inv-loop μ-loop
-at-requires-3 c κs = search (falling-place, falling-fail)
+at-requires-3 c κs = search falling-fail
 
 sub-d : tie.Need-sub-d Inv-loop μ-loop
 sub-d c = search falling-letters
@@ -49,24 +49,26 @@ sub-d-3 c = search falling-left
 loop-less : tie.Need-loop-less Inv-loop μ-loop
 loop-less c =
     let turn = c .before .before .before in
-    omega (arith, falling-left (turn .before .loop .inv) (turn .loop-test .taken))
+    omega (arith, falling-left (search needs) (search needs) (turn .before .loop .inv) (turn .loop-test .taken))
 
 loop-again : tie.Need-loop-again Inv-loop μ-loop
 loop-again c =
     let turn = c .before .before .before in
-    falling-skip (turn .before .loop .inv) (turn .loop-test .taken) (c .before .at4 .ensures) _ (c .if1 .taken) refl
+    falling-skip (search needs) (search needs) (turn .before .loop .inv) (turn .loop-test .taken) (c .before .at4 .ensures) _ (c .if1 .taken) refl
 
 sub-push : tie.Need-sub-push Inv-loop μ-loop
 sub-push c =
-    let level-got = c .before .before in
-    let turn = level-got .before .before in
-    falling-deep (turn .before .loop .inv) (turn .loop-test .taken) (level-got .at4 .ensures) (c .before .if1 .left)
+    let turn = c .before .before .before .before in
+    let member-got = turn .before .before .before .before .before .before .before in
+    falling-deep (member-got .before .before .before .before .before .pre) (member-got .at .ensures) (turn .before .loop .inv)
 
 push-requires : tie.Need-push-requires Inv-loop μ-loop
 push-requires c κs =
     let level-got = c .before .before in
     let turn = level-got .before .before in
-    falling-can (turn .before .loop .inv) (turn .loop-test .taken) (level-got .at4 .ensures) (c .before .if1 .left)
+    let member-got = turn .before .before .before .before .before .before .before in
+    falling-can (member-got .before .before .before .before .before .pre) (member-got .at .ensures) (turn .before .loop .inv)
+    (turn .loop-test .taken) (level-got .at4 .ensures) (c .before .if1 .left)
 
 at-requires-5 : tie.Need-at-requires-5 Inv-loop μ-loop
 at-requires-5 c κs = search falling-next
@@ -77,7 +79,7 @@ sub-d-4 c = search falling-left
 loop-less-2 : tie.Need-loop-less-2 Inv-loop μ-loop
 loop-less-2 c =
     let turn = c .before .before .before .before .before .before .before .before .before in
-    omega (arith, falling-left (turn .before .loop .inv) (turn .loop-test .taken))
+    omega (arith, falling-left (search needs) (search needs) (turn .before .loop .inv) (turn .loop-test .taken))
 
 loop-again-2 : tie.Need-loop-again-2 Inv-loop μ-loop
 loop-again-2 c = search falling-more

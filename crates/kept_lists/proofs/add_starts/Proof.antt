@@ -1,8 +1,8 @@
 -- Invariant: the lists of the prefixes of member i that end before place p begin with i; behind it, and in all other lists, stand the kept members
 -- behind the j-th that begin with the node.
 use Prim.Native.Nat.{_-_}
-use Rattle.kept_lists.proofs.StartLoop.{Beginning, beginning-some, beginning-most, beginning-start}
-use Rattle.kept_lists.proofs.StartLoop.{beginning-place, beginning-can, beginning-more, beginning-all}
+use Rattle.kept_lists.proofs.StartLoop.{Beginning, beginning-start, beginning-place, beginning-can, beginning-more, beginning-all}
+use Rattle.kept_lists.proofs.SideLoop.{added-some, added-most}
 use borrow.Author.Needs.{needs}
 use Rattle.kept_lists.proofs.add_starts.Statement.{statement}
 use Rattle.kept_lists.proofs.add_starts.Tie as tie
@@ -14,7 +14,7 @@ abbrev μ-loop : tie.MeasureT-loop
 μ-loop letters ends work₀ n k count j i end p₀ work p = end - p
 
 slip-span-requires : tie.Need-slip-span-requires Inv-loop μ-loop
-slip-span-requires c κs = (search beginning-some, search beginning-most)
+slip-span-requires c κs = (search added-some, search added-most)
 
 loop-holds : tie.Need-loop-holds Inv-loop μ-loop
 loop-holds c = search beginning-start

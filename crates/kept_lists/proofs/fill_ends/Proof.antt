@@ -1,31 +1,28 @@
 -- Invariant: the list of each node in ENDS holds the kept members from the j-th on that properly end with it, ascending; no cell below ENDS has
 -- changed.
-use Rattle.layout.specs.Layout.{ENDS}
-use Rattle.layout.specs.Numbered.{SameBelow}
-use Rattle.kept_lists.specs.KeptLists.{Ending}
-use Rattle.heads.proofs.Keeping.{kept-refl}
-use Rattle.kept_lists.proofs.EndLoop.{ending-start, ending-before, kept-ended, ending-all}
+use Rattle.kept_lists.specs.KeptLists.{endings, ListedTo}
+use Rattle.kept_lists.proofs.SideLoop.{listing-start, listing-before, listing-more, listing-all}
 use borrow.Author.Needs.{needs}
 use Rattle.kept_lists.proofs.fill_ends.Statement.{statement}
 use Rattle.kept_lists.proofs.fill_ends.Tie as tie
 
 abbrev Inv-loop : tie.InvT-loop
-Inv-loop letters ends work₀ n k count j₀ work j = Ending letters ends n k count work j × SameBelow ENDS work₀ work
+Inv-loop letters ends work₀ n k count j₀ work j = ListedTo endings letters ends n k count work₀ j work
 
 abbrev μ-loop : tie.MeasureT-loop
 μ-loop letters ends work₀ n k count j₀ work j = j
 
 loop-holds : tie.Need-loop-holds Inv-loop μ-loop
-loop-holds c = (search ending-start, search kept-refl)
+loop-holds c = search listing-start
 
 add-ends-requires : tie.Need-add-ends-requires Inv-loop μ-loop
-add-ends-requires c κs = search ending-before
+add-ends-requires c κs = search listing-before
 
 loop-again : tie.Need-loop-again Inv-loop μ-loop
-loop-again c = (search needs, search kept-ended)
+loop-again c = search listing-more
 
 returns : tie.Need-returns Inv-loop μ-loop
-returns c = search ending-all
+returns c = search listing-all
 
 pub fill-ends-spec : {M : Type 1} → statement M
 fill-ends-spec = tie.close (tie.spec Inv-loop μ-loop (λ c. search needs) (λ c κs. search needs) loop-holds (λ c. search needs)

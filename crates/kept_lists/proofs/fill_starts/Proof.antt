@@ -1,30 +1,27 @@
 -- Invariant: the list of each node in STARTS holds the kept members from the j-th on that begin with it, ascending; no cell below STARTS has changed.
-use Rattle.layout.specs.Layout.{STARTS}
-use Rattle.layout.specs.Numbered.{SameBelow}
-use Rattle.kept_lists.specs.KeptLists.{Starting}
-use Rattle.heads.proofs.Keeping.{kept-refl}
-use Rattle.kept_lists.proofs.StartLoop.{starting-start, starting-before, kept-started, starting-all}
+use Rattle.kept_lists.specs.KeptLists.{beginnings, ListedTo}
+use Rattle.kept_lists.proofs.SideLoop.{listing-start, listing-before, listing-more, listing-all}
 use borrow.Author.Needs.{needs}
 use Rattle.kept_lists.proofs.fill_starts.Statement.{statement}
 use Rattle.kept_lists.proofs.fill_starts.Tie as tie
 
 abbrev Inv-loop : tie.InvT-loop
-Inv-loop letters ends work₀ n k count j₀ work j = Starting letters ends n k count work j × SameBelow STARTS work₀ work
+Inv-loop letters ends work₀ n k count j₀ work j = ListedTo beginnings letters ends n k count work₀ j work
 
 abbrev μ-loop : tie.MeasureT-loop
 μ-loop letters ends work₀ n k count j₀ work j = j
 
 loop-holds : tie.Need-loop-holds Inv-loop μ-loop
-loop-holds c = (search starting-start, search kept-refl)
+loop-holds c = search listing-start
 
 add-starts-requires : tie.Need-add-starts-requires Inv-loop μ-loop
-add-starts-requires c κs = search starting-before
+add-starts-requires c κs = search listing-before
 
 loop-again : tie.Need-loop-again Inv-loop μ-loop
-loop-again c = (search needs, search kept-started)
+loop-again c = search listing-more
 
 returns : tie.Need-returns Inv-loop μ-loop
-returns c = search starting-all
+returns c = search listing-all
 
 pub fill-starts-spec : {M : Type 1} → statement M
 fill-starts-spec = tie.close (tie.spec Inv-loop μ-loop (λ c. search needs) (λ c κs. search needs) loop-holds (λ c. search needs)
