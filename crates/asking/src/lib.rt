@@ -53,7 +53,8 @@ pub fn slip_letters<'a>(
     number: &mut u8,
     detail: &mut u32,
 ) -> &'a [u8]
-    ensures { λ r. ⌜ Stretch (now (letters .entry)) (now (ends .entry)) slip (letters .entry .ptr) (now r) (r .ptr) (now (number .exit)) (now (detail .exit)) ⌝ }
+    ensures { λ r. ⌜ Stretch (now (letters .entry)) (now (ends .entry)) slip (letters .entry .ptr) (now r) (r .ptr) (now (number .exit))
+        (now (detail .exit)) ⌝ }
 {
     let fault = check_slip(letters, ends, slip);
     *number = fault.number;

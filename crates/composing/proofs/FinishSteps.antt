@@ -46,7 +46,8 @@ module _ (s es w : List ℕ) (tray : trayFault s es .number ≡ 0) (room : workN
   legend-short h = outcome-rows ∙ rw (lt-ltb l (length (legendOf (whole ss))) h)
 
   module _ (h : length (legendOf (whole ss)) ≤ l) where
-    pub lists-short : ltb j (length (joinsOf (whole ss))) || ltb p (length ss) ≡ true → composeFault s es (length w) l j p ≡ refusal 9 (length (joinsOf (whole ss)))
+    pub lists-short : ltb j (length (joinsOf (whole ss))) || ltb p (length ss) ≡ true →
+        composeFault s es (length w) l j p ≡ refusal 9 (length (joinsOf (whole ss)))
     lists-short t = outcome-rows ∙ rw (le-ltb l (length (legendOf (whole ss))) h, t)
 
     pub nothing-short : length (joinsOf (whole ss)) ≤ j → length ss ≤ p → composeFault s es (length w) l j p ≡ accepted

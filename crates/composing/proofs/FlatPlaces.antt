@@ -41,7 +41,8 @@ module _ (a b : ℕ → ℕ) where
       (rw (e, ← g) (r .0), rw (f, ← g) (r .1))
 
 pub flat-at : (ss : List (List ℕ)) (k : ℕ) → k < length ss →
-    (getD (flatPlaces (whole ss)) (2 * k) 0 ≡ placeOf (whole ss) (suc k)) × (getD (flatPlaces (whole ss)) (2 * k + 1) 0 ≡ cond (isAside ss (numbers ss) (suc k)) 0 1)
+    (getD (flatPlaces (whole ss)) (2 * k) 0 ≡ placeOf (whole ss) (suc k)) ×
+    (getD (flatPlaces (whole ss)) (2 * k + 1) 0 ≡ cond (isAside ss (numbers ss) (suc k)) 0 1)
 flat-at ss k h =
     let r = twos-at (placeOf (whole ss)) (λ i. cond (isAside ss (numbers ss) i) 0 1) 1 (length ss) k h in
     rw (← (one-add k)) r
@@ -62,7 +63,8 @@ module _ (ss : List (List ℕ)) (xs : List ℕ) (room : 2 * length ss ≤ length
 
   module _ (once : LaidOnce ps) (which : (k : ℕ) → k < length ss → isLaid (suc k) ps ≡ not (isAside ss (numbers ss) (suc k)))
       (longer : length (placedBy ss xs 1 ps) ≡ length xs) where
-    cells : (k : ℕ) → k < length ss → (getD after (2 * k) 0 ≡ placeOf (whole ss) (suc k)) × (getD after (2 * k + 1) 0 ≡ cond (isAside ss (numbers ss) (suc k)) 0 1)
+    cells : (k : ℕ) → k < length ss →
+        (getD after (2 * k) 0 ≡ placeOf (whole ss) (suc k)) × (getD after (2 * k + 1) 0 ≡ cond (isAside ss (numbers ss) (suc k)) 0 1)
     cells k h =
         by-test (isAside ss (numbers ss) (suc k))
         (λ t.

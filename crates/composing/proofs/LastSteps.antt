@@ -31,7 +31,8 @@ use Rattle.layout.specs.Staging.{joinIn, joinsIn}
 use Rattle.answers.specs.declared.Composed.{Composed}
 use Rattle.composing.specs.declared.LetterCounts.{LetterCounts}
 use Rattle.answers.specs.Composing.{refusedBy}
-use Rattle.composing.specs.steps.Composing.{AfterWalk, Joined, piecesHere, StageAsks, PiecesStaged, LetterCountsAre, WritingAsks, Written, Finished, OutcomeAsks, outcomeBy}
+use Rattle.composing.specs.steps.Composing.{AfterWalk, Joined, piecesHere, StageAsks, PiecesStaged, LetterCountsAre}
+use Rattle.composing.specs.steps.Composing.{WritingAsks, Written, Finished, OutcomeAsks, outcomeBy}
 use Rattle.composing.proofs.PiecesFit.{kept-real, kept-few, kept-small, legend-small, pieces-count}
 use Rattle.composing.proofs.CountSteps.{kept-part, kept-asks}
 use Rattle.composing.proofs.FinishSteps.{legend-short, lists-short, nothing-short, answer-composed, turned-back, flat-table}
@@ -127,13 +128,15 @@ module _ (s es w : List ℕ) (k j : ℕ) (left right overs : List ℕ) (a : Join
           (legend-short s es w (walked .tray) (walked .room) (length l) jr pr (omega (arith, h .need-is)) ∙ ap (refusal 8) (sym (h .need-is))) e
 
       module _ (q : c .need ≤ length l) where
-        short-list : (r : Composed) → ltb jr (length (joinsOf (whole ss))) || ltb pr (length ss) ≡ true → r ≡ refusedBy (refusal 9 j) → Finished s es w w l l jr pr r
+        short-list : (r : Composed) → ltb jr (length (joinsOf (whole ss))) || ltb pr (length ss) ≡ true → r ≡ refusedBy (refusal 9 j) →
+            Finished s es w w l l jr pr r
         short-list r t e =
             turned-back s es w l jr pr (refusal 9 j) 8 j r refl
             (lists-short s es w (walked .tray) (walked .room) (length l) jr pr (omega (arith, h .need-is)) t ∙ ap (refusal 9) (sym count-plain)) e
 
         pub last-joins : (r : Composed) → jr < j → r ≡ refusedBy (refusal 9 j) → Finished s es w w l l jr pr r
-        last-joins r u e = short-list r (or-left (ltb jr (length (joinsOf (whole ss)))) _ (lt-ltb jr (length (joinsOf (whole ss))) (omega (arith, count-plain)))) e
+        last-joins r u e = short-list r
+            (or-left (ltb jr (length (joinsOf (whole ss)))) _ (lt-ltb jr (length (joinsOf (whole ss))) (omega (arith, count-plain)))) e
 
         pub last-places : (r : Composed) → pr < length es → r ≡ refusedBy (refusal 9 j) → Finished s es w w l l jr pr r
         last-places r u e = short-list r (or-right (ltb jr (length (joinsOf (whole ss)))) _ (lt-ltb pr (length ss) (omega (arith, slips-count s es)))) e

@@ -84,14 +84,17 @@ module _ (s es w w′ l l′ : List ℕ) (js : List Join) (ps : List Place) (r :
       (λ a. ap (λ (n : ℕ). over (firsts (joinAt w′) n) js) (c .joins-is ∙ all-joins a)
       ∙ ap (λ (xs : List Join). over xs js) (joins-made w′ (joinsOf (whole ss)) (joins-staged a))
       ∙ sym (written-all f (map joinRecord (joinsOf (whole ss))) js (a .silent)))
-      (λ a. ap (λ (n : ℕ). over (firsts (joinAt w′) n) js) (no-joins a) ∙ sym (written-none f (map joinRecord (joinsOf (whole ss))) js (omega (arith, a .speaks))))
+      (λ a. ap (λ (n : ℕ). over (firsts (joinAt w′) n) js) (no-joins a)
+      ∙ sym (written-none f (map joinRecord (joinsOf (whole ss))) js (omega (arith, a .speaks))))
 
   places-stored : over (firsts (placeAt w′) (r .places)) ps ≡ written f (map (placeRecord (whole ss)) (numbers ss)) ps
   places-stored =
       by-answer
       (λ a. ap (λ (n : ℕ). over (firsts (placeAt w′) n) ps) (c .places-is ∙ all-places a)
-      ∙ ap (λ (xs : List Place). over xs ps) (places-made w′ ss (places-staged a)) ∙ sym (written-all f (map (placeRecord (whole ss)) (numbers ss)) ps (a .silent)))
-      (λ a. ap (λ (n : ℕ). over (firsts (placeAt w′) n) ps) (no-places a) ∙ sym (written-none f (map (placeRecord (whole ss)) (numbers ss)) ps (omega (arith, a .speaks))))
+      ∙ ap (λ (xs : List Place). over xs ps) (places-made w′ ss (places-staged a))
+      ∙ sym (written-all f (map (placeRecord (whole ss)) (numbers ss)) ps (a .silent)))
+      (λ a. ap (λ (n : ℕ). over (firsts (placeAt w′) n) ps) (no-places a)
+      ∙ sym (written-none f (map (placeRecord (whole ss)) (numbers ss)) ps (omega (arith, a .speaks))))
 
   pub composing-says : (js′ : List Join) (ps′ : List Place) → js′ ≡ over (firsts (joinAt w′) (r .joins)) js →
       ps′ ≡ over (firsts (placeAt w′) (r .places)) ps → ComposeSays s es w w′ l l′ js js′ ps ps′ (r .answer)

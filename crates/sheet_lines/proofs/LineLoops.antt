@@ -65,7 +65,8 @@ module _ (at w n last r d : ℕ) (a b c : List ℕ) (p : 1 ≤ w) where
   pub number-small : n < 10 → Wrote at (w - 1) (replicate (w - 1) blank) a b last → d ≡ digit n → Wrote last 1 (d ∷ []) b c r → Wrote at w (column w n) a c r
   number-small h x e y = rw (column-small w n h) (rw (width-is, e) at (put-more x y))
 
-  pub number-more : 10 ≤ n → Wrote at (w - 1) (column (w - 1) (n / 10)) a b last → d ≡ digit (n % 10) → Wrote last 1 (d ∷ []) b c r → Wrote at w (column w n) a c r
+  pub number-more : 10 ≤ n → Wrote at (w - 1) (column (w - 1) (n / 10)) a b last → d ≡ digit (n % 10) → Wrote last 1 (d ∷ []) b c r →
+      Wrote at w (column w n) a c r
   number-more h x e y = rw (column-more w n h) (rw (width-is, e) at (put-more x y))
 
 -- slips: `end` is the end of slip i + 1, `here` the one before it

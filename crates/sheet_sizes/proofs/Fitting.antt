@@ -85,7 +85,8 @@ module _ (s es : List ℕ) (acc : trayFault s es .number ≡ 0) where
         legend = legend-small s es acc;
         lengths = λ i p l. accepted-spanned s es acc .short i p (omega arith);
         places = λ i p l. omega (arith, legend-small s es acc, place-most s es acc i p (omega arith));
-        joins = all-in JoinFits (joinsOf (whole ss)) (λ j m. join-fits j (all-at (Arc (weight counted ss) K) (joinsOf (whole ss)) j (joins-rep s es acc .1 .arcs) m));
+        joins = all-in JoinFits (joinsOf (whole ss))
+            (λ j m. join-fits j (all-at (Arc (weight counted ss) K) (joinsOf (whole ss)) j (joins-rep s es acc .1 .arcs) m));
         count = joins-fewer;
       }
 

@@ -101,7 +101,8 @@ sign-flat true = refl
 sign-flat false = refl
 
 pub place-at : (ss : List (List ℕ)) (i : ℕ) → i < length ss →
-    (getD (flatPlaces (whole ss)) (2 * i) 0 ≡ placeOf (whole ss) (suc i)) × (getD (flatPlaces (whole ss)) (2 * i + 1) 0 ≡ cond (isAside ss (numbers ss) (suc i)) 0 1)
+    (getD (flatPlaces (whole ss)) (2 * i) 0 ≡ placeOf (whole ss) (suc i)) ×
+    (getD (flatPlaces (whole ss)) (2 * i + 1) 0 ≡ cond (isAside ss (numbers ss) (suc i)) 0 1)
 place-at ss i h =
     let e : getD (numbers ss) i 0 ≡ suc i = upFrom-at 1 (length ss) i h ∙ omega arith in
     rw e at (two-at 0 (placeOf (whole ss)) (λ k. cond (isAside ss (numbers ss) k) 0 1) (numbers ss) i (rw (length-upFrom 1 (length ss)) h))
@@ -126,7 +127,8 @@ module _ (s es : List ℕ) (acc : trayFault s es .number ≡ 0) where
       slip-flat i (omega arith) ∙ ap (slipLineOf ss) (sym k))
 
   -- what compose_lines writes, over the numbers that composing leaves
-  pub compose-lines-are : composeLines (outcomeOf (whole ss)) es (flatJoins (joinsOf (whole ss))) (flatPlaces (whole ss)) (legendOf (whole ss)) ≡ composeSheetOf ss
+  pub compose-lines-are : composeLines (outcomeOf (whole ss)) es (flatJoins (joinsOf (whole ss))) (flatPlaces (whole ss)) (legendOf (whole ss)) ≡
+      composeSheetOf ss
   unfolding composeSheetOf
   compose-lines-are = rw (slips-flat, joins-flat (joinsOf (whole ss)))
 

@@ -24,7 +24,8 @@ module _ (s es : List ℕ) (acc : trayFault s es .number ≡ 0) where
   ss = slipsOf s es
 
   module _
-      (c : Composed) (js ps t : List ℕ) (ec : c ≡ outcomeOf (whole ss)) (ej : js ≡ flatJoins (joinsOf (whole ss))) (ep : ps ≡ flatPlaces (whole ss)) (et : t ≡ legendOf (whole ss))
+      (c : Composed) (js ps t : List ℕ) (ec : c ≡ outcomeOf (whole ss)) (ej : js ≡ flatJoins (joinsOf (whole ss))) (ep : ps ≡ flatPlaces (whole ss))
+      (et : t ≡ legendOf (whole ss))
     where
       pub compose-ready : (room : ℕ) → composeRoom ≤ room → ComposeAsks c es js ps t room
       compose-ready room h = rw (ec, ej, ep, et) (compose-asks s es acc room h)

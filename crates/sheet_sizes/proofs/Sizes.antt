@@ -135,7 +135,8 @@ module _ (s es : List ℕ) (acc : trayFault s es .number ≡ 0) where
       (λ j f. (omega (arith, f .0), (omega (arith, f .1), (omega (arith, f .2), tt)))) js (compose-fits s es acc .joins) in
       record { small = λ i h. all-getD (λ x. x < 10 ^ 4) (flatJoins js) a i (omega arith); numbers = omega arith }
 
-  pub compose-asks : (room : ℕ) → composeRoom ≤ room → ComposeAsks (outcomeOf (whole ss)) es (flatJoins (joinsOf (whole ss))) (flatPlaces (whole ss)) (legendOf (whole ss)) room
+  pub compose-asks : (room : ℕ) → composeRoom ≤ room →
+      ComposeAsks (outcomeOf (whole ss)) es (flatJoins (joinsOf (whole ss))) (flatPlaces (whole ss)) (legendOf (whole ss)) room
   compose-asks room h =
       let F = compose-fits s es acc in
       record {
