@@ -1,4 +1,4 @@
--- Computed specimens of the records: what the definitions put into the lists of joins and places. The outcomes are document 01's, or worked out by
+-- Computed specimens of the records: what the definitions put into the lists of joins and places. The outcomes are the rules', or worked out by
 -- hand from its sentences.
 -- Modules are checked in the order of their names: an edited definition is refused here first.
 --   Records      == the two lists of records of one tray
@@ -44,7 +44,7 @@ specimens =
     specimen [] [] []
     ∷ specimen ("AVG" ∷ "AVG" ∷ []) [] (keptAt 1 1 ∷ asideAt 2 1 ∷ [])
     ∷ specimen ("AB" ∷ "BA" ∷ []) (joined 2 1 1 ∷ []) (keptAt 1 2 ∷ keptAt 2 1 ∷ [])
-    -- document 01's `compose` tray
+    -- the sample tray
     ∷ specimen
     ("IMPCAES" ∷ "AES" ∷ "CAESAVG" ∷ "VGPIVS" ∷ "SIMP" ∷ [])
     (joined 1 3 4 ∷ joined 5 1 3 ∷ joined 3 4 2 ∷ [])

@@ -1,7 +1,7 @@
--- Computed specimens of the answer and of what is stored. The values are worked out by hand from document 01's sentences and computed here from
+-- Computed specimens of the answer and of what is stored. The values are worked out by hand from the rules' sentences and computed here from
 -- the definitions. Modules are checked in the order of their names: an edited definition is refused here first.
 --   Call           == a tray, a text, how many cells are lent and how many occurrences the list takes
---   findTray       == the tray of document 01's `find` sheet: IMPCAES, AES, CAESAVG, VGPIVS, SIMP
+--   findTray       == the tray of the sample's `find` sheet: IMPCAES, AES, CAESAVG, VGPIVS, SIMP
 --   after c old    == a list of numbers that held old, after the call
 use mathlib.Core.Path.{_≡_, refl}
 use mathlib.Core.List.{List, [], _∷_, map}

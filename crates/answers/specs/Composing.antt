@@ -22,7 +22,7 @@ use Rattle.answers.specs.declared.Composed.{Composed}
 unfoldable pub beforeC : List ℕ → List ℕ → ℕ → Refusal
 beforeC s es w = firstRow (trayRows s es ++ (workRow w ∷ []))
 
--- Document 01, place C: the legend is longer than its buffer; more joins than the list takes, or fewer than one record of places a slip.
+-- Rules, place C: the legend is longer than its buffer; more joins than the list takes, or fewer than one record of places a slip.
 unfoldable pub composeFault : List ℕ → List ℕ → ℕ → ℕ → ℕ → ℕ → Refusal
 composeFault s es w l j p =
     let c = whole (slipsOf s es) in

@@ -35,7 +35,7 @@ findRows s es t w = trayRows s es ++ (textRows t ++ (workRow w ∷ []))
 unfoldable pub findBefore : List ℕ → List ℕ → List ℕ → ℕ → Refusal
 findBefore s es t w = firstRow (findRows s es t w)
 
--- Document 01, place C: more occurrences than the list takes.
+-- Rules, place C: more occurrences than the list takes.
 abbrev pub listRow : List (List ℕ) → List ℕ → ℕ → Refusal
 listRow ss t k = let n = length (occurrences ss t) in row 14 (ltb k n) n
 
@@ -62,7 +62,7 @@ flatFound fs = each (λ f. f .end ∷ (f .which ∷ [])) fs
 
 pub record Answered (s es t w w′ : List ℕ) (k : ℕ) (r : Search) : Type 0 where
   pub answer-is : r ≡ searchOf s es t (length w) k
-  -- Document 01: moves are at most 2 × the letters.
+  -- Rules: moves are at most 2 × the letters.
   pub few-moves : r .moves ≤ 2 * length t
   pub work-is : WorkKept (findBefore s es t (length w)) w w′
 

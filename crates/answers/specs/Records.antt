@@ -19,11 +19,11 @@ use Rattle.answers.specs.Composing.{beforeC, composeFault, composedOf}
 use Rattle.answers.specs.declared.Join.{Join}
 use Rattle.answers.specs.declared.Place.{Place}
 
--- Document 01: a record of a join has left slip, right slip and overlap.
+-- Rules: a record of a join has left slip, right slip and overlap.
 abbrev pub joinRecord : G.Join → Join
 joinRecord j = record { left = j .left; right = j .right; overlap = j .overlap }
 
--- Document 01: a record of places holds the slip's number, its place, and kept or set aside.
+-- Rules: a record of places holds the slip's number, its place, and kept or set aside.
 abbrev pub placeRecord : Composing → ℕ → Place
 placeRecord c i = record { slip = i; place = placeOf c i; kept = not (isAside (c .slips) (c .members) i) }
 

@@ -13,7 +13,7 @@ use Rattle.trays.specs.Faults.{row}
 abbrev pub workRow : ℕ → Refusal
 workRow w = row 7 (ltb w workNeed) 0
 
--- Document 01: only the work area may differ, and only from place C on.
+-- Rules: only the work area may differ, and only from place C on.
 pub record WorkKept (f : Refusal) (w w′ : List ℕ) : Type 0 where
   pub same : length w′ ≡ length w
   pub untouched : 1 ≤ f .number → w′ ≡ w

@@ -18,7 +18,7 @@ use Rattle.layout.specs.Layout.{MEMBERS, ORDER, COMMON}
 use Rattle.layout.specs.Tables.{members}
 use Rattle.numbering.specs.Numbering.{Sorted, NodesFilled}
 use Rattle.links.specs.Links.{LinksFilled}
-use Rattle.automaton.specs.Built.{Buildable, SortedAll, Built}
+use Rattle.automaton.specs.steps.Built.{Buildable, SortedAll, Built}
 
 module _ (s es w : List ℕ) (a : Buildable s es w) where
   abbrev n : ℕ

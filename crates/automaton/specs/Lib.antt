@@ -1,2 +1,2 @@
--- The automaton of all slips of a tray, built in the work area.
-pub mod Built
+-- automaton
+pub mod steps

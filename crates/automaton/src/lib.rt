@@ -1,5 +1,5 @@
 // The automaton of all slips of an accepted tray, built in the lent work area.
-ghost use Rattle.automaton.specs.Built.{Buildable, SortedAll, Built};
+ghost use Rattle.automaton.specs.steps.Built.{Buildable, SortedAll, Built};
 use layout::COMMON;
 use layout::MEMBERS;
 use layout::ORDER;

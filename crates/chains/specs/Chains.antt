@@ -13,7 +13,7 @@ use Rattle.words.specs.Lists.{each}
 use Rattle.trays.specs.Limits.{maxSlips}
 use Rattle.greedy.specs.Legends.{Piece, piece}
 
--- Document 01: a chain is laid by its first slip, then the rest in the same manner with one slip fewer.
+-- Rules: a chain is laid by its first slip, then the rest in the same manner with one slip fewer.
 abbrev pub chainBy : List ℕ → List ℕ → ℕ → ℕ → ℕ → List Piece
 chainBy right overs zero i o = []
 chainBy right overs (suc n) zero o = []

@@ -1,3 +1,3 @@
--- What document 01 demands of the definitions, and the specimens that it marks for proof.
+-- What the rules demands of the definitions, and the specimens that it marks for proof.
 pub mod Claims
 pub mod Starred

@@ -1,4 +1,4 @@
--- The specimens that document 01 marks with *, as one list: a tray, what is asked of it, and the answer that document 01 gives.
+-- The specimens that the rules marks with *, as one list: a tray, what is asked of it, and the answer that the rules gives.
 --   Sheet              == what composing gives: the values of the `compose` sheet, and the joins by both rules
 --   Asked, Told        == a question on a tray, and its answer
 --   answer s es q      == the answer to q from the definitions, for the tray of letters s and ends es

@@ -15,7 +15,10 @@ fn print_sheet(file: &[u8]) {
         &mut legend,
         &mut out,
     );
-    io::write_all(1, &out[..n]);
+    let written = io::write_all(1, &out[..n]);
+    if !written {
+        io::write_all(2, b"compose: the sheet could not be written\n");
+    }
 }
 
 // One byte more than a tray file may have is read, so that a longer one is seen.

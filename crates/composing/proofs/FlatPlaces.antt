@@ -1,4 +1,4 @@
--- The places, slip by slip, are those of document 01.
+-- The places, slip by slip, are those of the rules.
 --   twos a b ns  == a and b of each of the numbers ns, one after another
 use mathlib.Core.Path.{_≡_, refl, sym, _∙_, ap}
 use mathlib.Core.Bool.{true, false, cond, not}

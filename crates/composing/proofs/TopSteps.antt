@@ -20,9 +20,9 @@ use Rattle.layout.specs.Layout.{KEPT}
 use Rattle.layout.specs.Tables.{members}
 use Rattle.layout.specs.Staging.{keptIn}
 use Rattle.layout.proofs.Frames.{members-kept}
-use Rattle.automaton.specs.Built.{Buildable, Built}
-use Rattle.kept_lists.specs.KeptLists.{ListsFilled}
-use Rattle.walking.specs.Walking as W
+use Rattle.automaton.specs.steps.Built.{Buildable, Built}
+use Rattle.kept_lists.specs.steps.KeptLists.{ListsFilled}
+use Rattle.walking.specs.steps.Walking as W
 use Rattle.answers.specs.WorkArea.{workRow}
 use Rattle.answers.specs.declared.Composed.{Composed}
 use Rattle.answers.specs.Composing.{beforeC, composeFault, refusedBy}

@@ -7,7 +7,7 @@ ghost use Rattle.composing.specs.steps.Composing.{thirds, KeptReal, Stag
 ghost use Rattle.composing.specs.steps.Composing.{PlacesWritten, WritingAsks, Written, Joined, Finished, OutcomeAsks, outcomeBy};
 ghost use Rattle.answers.specs.Composing.{refusedBy};
 ghost use Rattle.composing.specs.steps.Composing.{Staged};
-ghost use Rattle.automaton.specs.Built.{Buildable};
+ghost use Rattle.automaton.specs.steps.Built.{Buildable};
 ghost use Rattle.trays.specs.Faults.{refusal};
 use answers::Composed;
 use layout::JOINS;

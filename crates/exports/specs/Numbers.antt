@@ -2,12 +2,13 @@
 --   slipNumbers r  == number, detail, start, end
 --   pairNumbers r  == number, detail, letters shared
 --   readNumbers r  == number, detail, letters, slips
---   ReadExported   == what reading a tray file leaves
+--   SlipExported, PairExported, ReadExported == what the calls leave
 use mathlib.Core.Path.{_≡_}
 use mathlib.Core.List.{List, [], _∷_}
 use Prim.Native.Nat.{ℕ}
 use Rattle.trays.specs.declared.Located.{Located}
 use Rattle.trays.specs.declared.Pair.{Pair}
+use Rattle.trays.specs.Answers.{locatedOf, pairOf}
 use Rattle.files.specs.declared.Read.{Read}
 use Rattle.files.specs.Answers.{Reading}
 
@@ -19,6 +20,16 @@ pairNumbers r = r .number ∷ (r .detail ∷ (r .letters ∷ []))
 
 abbrev pub readNumbers : Read → List ℕ
 readNumbers r = r .number ∷ (r .detail ∷ (r .letters ∷ (r .slips ∷ [])))
+
+pub record SlipExported (s es : List ℕ) (i : ℕ) (a′ : List ℕ) : Type 0 where
+  pub answer : Located
+  pub says : answer ≡ locatedOf s es i
+  pub numbers-are : a′ ≡ slipNumbers answer
+
+pub record PairExported (s es : List ℕ) (i j : ℕ) (a′ : List ℕ) : Type 0 where
+  pub answer : Pair
+  pub says : answer ≡ pairOf s es i j
+  pub numbers-are : a′ ≡ pairNumbers answer
 
 pub record ReadExported (file ls ls′ es es′ a′ : List ℕ) : Type 0 where
   pub answer : Read

@@ -1,7 +1,5 @@
 // The calls for other languages: a slice is a pointer and a length, and the answer is a list of numbers behind a pointer.
-ghost use mathlib.Core.Path.{_≡_};
-ghost use Rattle.trays.specs.Answers.{locatedOf, pairOf};
-ghost use Rattle.exports.specs.Numbers.{slipNumbers, pairNumbers, ReadExported};
+ghost use Rattle.exports.specs.Numbers.{SlipExported, PairExported, ReadExported};
 ghost use Rattle.answers.specs.Exported.{ComposeExported, FindExported};
 
 // Composing. A join is three numbers (left slip, right slip, overlap), a place two (the place, and 1 if the slip is kept).
@@ -52,7 +50,7 @@ pub extern "C" fn kotsghane_find(
 // Where the letters of one slip start and end in those of the tray: number, detail, start and end are four numbers.
 #[no_mangle]
 pub extern "C" fn kotsghane_slip(letters: &[u8], ends: &[u16], slip: u32, answer: &mut [u32; 4])
-    ensures { λ _. ⌜ now (answer .exit) ≡ slipNumbers (locatedOf (now (letters .entry)) (now (ends .entry)) slip) ⌝ }
+    ensures { λ _. ⌜ SlipExported (now (letters .entry)) (now (ends .entry)) slip (now (answer .exit)) ⌝ }
 {
     let r = asking::slip_place(letters, ends, slip);
     *answer = [r.number as u32, r.detail, r.start, r.end];
@@ -67,7 +65,7 @@ pub extern "C" fn kotsghane_pair(
     right: u32,
     answer: &mut [u32; 3],
 )
-    ensures { λ _. ⌜ now (answer .exit) ≡ pairNumbers (pairOf (now (letters .entry)) (now (ends .entry)) left right) ⌝ }
+    ensures { λ _. ⌜ PairExported (now (letters .entry)) (now (ends .entry)) left right (now (answer .exit)) ⌝ }
 {
     let r = asking::pair_overlap(letters, ends, left, right);
     *answer = [r.number as u32, r.detail, r.letters];

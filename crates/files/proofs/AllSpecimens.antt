@@ -1,6 +1,6 @@
 -- Computed specimens of tray files. Modules are checked in the order of their names: an edited definition is refused here first, where it
 -- computes another value.
---   composeFile   == document 01's specimen tray, as `compose` reads it
+--   composeFile   == the sample tray, as `compose` reads it
 use mathlib.Core.Path.{_≡_, refl}
 use mathlib.Core.List.{List, [], _∷_, map}
 use Prim.Native.Nat.{ℕ}

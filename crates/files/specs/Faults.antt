@@ -1,4 +1,4 @@
--- Refusals 15 to 19, the rows of document 01's table that a tray file meets.
+-- Refusals 15 to 19, the rows of the rules' table that a tray file meets.
 --   lineFault k l    == what turns back the line l, which is line k: 17, 18, 19
 --   linesFault k ls  == what turns back the first bad one of the lines ls, counted from k
 --   readFault s a b  == what turns back the file s, where a letters and b ends are lent: place A

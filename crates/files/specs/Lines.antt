@@ -1,4 +1,4 @@
--- Document 01, files and sheets: the lines of a tray file, and what a line holds.
+-- Rules, files and sheets: the lines of a tray file, and what a line holds.
 --   linesOf s      == the lines of the file s, each with its LF, which the last may lack
 --   firstLine s    == the first of them
 --   isDigit b      == b is a decimal digit

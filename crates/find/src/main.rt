@@ -16,7 +16,10 @@ fn print_sheet(tray: &[u8], text: &[u8]) {
         &mut found,
         &mut out,
     );
-    io::write_all(1, &out[..n]);
+    let written = io::write_all(1, &out[..n]);
+    if !written {
+        io::write_all(2, b"find: the sheet could not be written\n");
+    }
 }
 
 fn no_file() {

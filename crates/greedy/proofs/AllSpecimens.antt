@@ -1,9 +1,9 @@
--- Computed specimens of the definitions on composing. The outcomes are worked out by hand from document 01's sentences and computed here
+-- Computed specimens of the definitions on composing. The outcomes are worked out by hand from the rules' sentences and computed here
 -- from the definitions. Modules are checked in the order of their names: an edited definition is refused here first.
 --   Outcome        == all that the definitions say of one tray
 --   outcomeOf ss   == the outcome of the slips ss
---   Specimen       == a tray, written as words, and the outcome that document 01 gives
---   starred        == the trays that document 01 marks for proof
+--   Specimen       == a tray, written as words, and the outcome that the rules gives
+--   starred        == the trays that the rules marks for proof
 --   telling        == trays at which a misread rule has another outcome
 --   tight          == a tray and a text that holds it, at which the bound of demand 3 is met with equality
 use mathlib.Core.Path.{_≡_, refl}

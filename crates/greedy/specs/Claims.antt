@@ -11,12 +11,12 @@ use Rattle.trays.specs.Faults.{trayFault}
 use Rattle.greedy.specs.Joins.{saved}
 use Rattle.greedy.specs.Composing.{Composing, whole, keptOf, joinsOf, walkOf, legendOf, keptLetters}
 
--- Document 01: a text holds a slip whose letters stand in it as one stretch. Here: it holds every slip of K.
+-- Rules: a text holds a slip whose letters stand in it as one stretch. Here: it holds every slip of K.
 abbrev pub holdsAll : List (List ℕ) → List ℕ → List ℕ → Bool
 holdsAll ss [] t = true
 holdsAll ss (i ∷ is) t = standsIn (slip ss i) t && holdsAll ss is t
 
--- Document 01: a text's length + 2 × saved.
+-- Rules: a text's length + 2 × saved.
 abbrev pub bound : Composing → List ℕ → ℕ
 bound c t = length t + 2 * saved (joinsOf c)
 

@@ -38,6 +38,6 @@ legendOf c = legendFor counted (c .slips) (c .members)
 abbrev pub placeOf : Composing → ℕ → ℕ
 placeOf c i = placeFor counted (c .slips) (c .members) i
 
--- Document 01: kept letters is the sum of the kept slips' lengths.
+-- Rules: kept letters is the sum of the kept slips' lengths.
 abbrev pub keptLetters : Composing → ℕ
 keptLetters c = total (c .slips) (keptOf c)

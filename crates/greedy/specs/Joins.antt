@@ -16,7 +16,7 @@ use Rattle.words.specs.Words.{same, before, overlapFor}
 use Rattle.trays.specs.Slips.{slip}
 use Rattle.trays.specs.Aside.{kept}
 
--- Document 01: a record of a join has left slip, right slip and overlap.
+-- Rules: a record of a join has left slip, right slip and overlap.
 pub record Join : Type 0 where
   pub left : ℕ
   pub right : ℕ
@@ -41,12 +41,12 @@ lastFrom (suc n) i js = elim (eqb (rightOf i js) 0) [ true ↦ i | false ↦ las
 abbrev pub lastOf : ℕ → List Join → ℕ
 lastOf i js = lastFrom (length js) i js
 
--- Document 01, plain rule: the left slip has no right neighbour, the right slip no left neighbour, and the joins close no ring:
+-- Rules, plain rule: the left slip has no right neighbour, the right slip no left neighbour, and the joins close no ring:
 -- a ring would close where an arc's left slip is the last of the chain its right slip begins.
 abbrev pub free : ℕ → ℕ → List Join → Bool
 free l r js = eqb (rightOf l js) 0 && (eqb (leftOf r js) 0 && not (eqb (lastOf r js) l))
 
--- Document 01, arcs: ordered pairs of different kept slips with a non-empty overlap.
+-- Rules, arcs: ordered pairs of different kept slips with a non-empty overlap.
 abbrev pub arc : (List ℕ → Bool) → List (List ℕ) → ℕ → ℕ → List Join
 arc counts ss l r =
     let o = overlapFor counts (slip ss l) (slip ss r) in
@@ -59,7 +59,7 @@ arcs counts ss K = each (λ l. each (arc counts ss l) K) K
 abbrev pub stringOf : List (List ℕ) → Join → List ℕ
 stringOf ss a = take (a .overlap) (slip ss (a .right))
 
--- Document 01: longer overlap first; then smaller overlap string; then lower right slip; then lower left slip.
+-- Rules: longer overlap first; then smaller overlap string; then lower right slip; then lower left slip.
 abbrev pub firstArc : List (List ℕ) → Join → Join → Bool
 firstArc ss a b =
     let x = stringOf ss a in

@@ -35,15 +35,15 @@ chainFrom zero js i o = []
 chainFrom (suc n) js i o =
     elim (eqb i 0) [ true ↦ [] | false ↦ piece i o ∷ chainFrom n js (rightOf i js) (overlapAfter i js) ]
 
--- Document 01: a chain runs from a slip without a left neighbour; it has at most one slip more than there are joins.
+-- Rules: a chain runs from a slip without a left neighbour; it has at most one slip more than there are joins.
 abbrev pub chainAt : List Join → ℕ → List Piece
 chainAt js i = elim (eqb (leftOf i js) 0) [ true ↦ chainFrom (suc (length js)) js i 0 | false ↦ [] ]
 
--- Document 01: chains, single slips included, stand one after another by ascending number of their first slip.
+-- Rules: chains, single slips included, stand one after another by ascending number of their first slip.
 abbrev pub pieces : List Join → List ℕ → List Piece
 pieces js K = each (chainAt js) K
 
--- Document 01: each slip adds its letters beyond the overlap.
+-- Rules: each slip adds its letters beyond the overlap.
 abbrev pub added : List (List ℕ) → Piece → List ℕ
 added ss p = drop (p .overlap) (slip ss (p .number))
 
@@ -65,7 +65,7 @@ abbrev pub lowest : ℕ → List ℕ → List ℕ → ℕ
 lowest p x [] = p
 lowest p x (y ∷ ys) = elim (begins x (y ∷ ys)) [ true ↦ p | false ↦ lowest (suc p) x ys ]
 
--- Document 01, place: for a kept slip, where it was laid; for one set aside, the lowest place at which it stands.
+-- Rules, place: for a kept slip, where it was laid; for one set aside, the lowest place at which it stands.
 abbrev pub placeFor : (List ℕ → Bool) → List (List ℕ) → List ℕ → ℕ → ℕ
 placeFor counts ss M i =
     elim (isAside ss M i)

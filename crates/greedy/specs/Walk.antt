@@ -23,19 +23,19 @@ prefixesTo (suc n) s = take (suc n) s ∷ prefixesTo n s
 abbrev pub beginnings : (List ℕ → Bool) → List (List ℕ) → List ℕ → List (List ℕ)
 beginnings counts ss K = each (λ i. those counts (prefixesTo (length (slip ss i)) (slip ss i))) K
 
--- Document 01: longest first, equal lengths in byte order.
+-- Rules: longest first, equal lengths in byte order.
 abbrev pub sooner : List ℕ → List ℕ → Bool
 sooner x y = ltb (length y) (length x) || (eqb (length x) (length y) && before x y)
 
--- Document 01: waiting there are the kept slips of which it is a proper ending and which have no right neighbour.
+-- Rules: waiting there are the kept slips of which it is a proper ending and which have no right neighbour.
 abbrev pub waiting : List (List ℕ) → List ℕ → List ℕ → List Join → List ℕ
 waiting ss x K js = those (λ i. endsProperly x (slip ss i) && eqb (rightOf i js) 0) K
 
--- Document 01: the lowest waiting slip; if that one is the last of the chain the slip itself begins, the second lowest.
+-- Rules: the lowest waiting slip; if that one is the last of the chain the slip itself begins, the second lowest.
 abbrev pub behind : ℕ → List ℕ → List Join → ℕ
 behind r ws js = cond (eqb (headOr 0 ws) (lastOf r js)) (headOr 0 (tailOf ws)) (headOr 0 ws)
 
--- Document 01: each kept slip that has this beginning and no left neighbour, in ascending order, is joined behind that one; if there
+-- Rules: each kept slip that has this beginning and no left neighbour, in ascending order, is joined behind that one; if there
 -- is none, not joined.
 abbrev pub visitSlip : List (List ℕ) → List ℕ → List ℕ → ℕ → List Join → List Join
 visitSlip ss K x r js =
@@ -50,6 +50,6 @@ abbrev pub walkFrom : List (List ℕ) → List ℕ → List (List ℕ) → List 
 walkFrom ss K [] js = js
 walkFrom ss K (x ∷ xs) js = walkFrom ss K xs (visit ss K x K js)
 
--- Document 01: visit each different non-empty beginning of kept slips.
+-- Rules: visit each different non-empty beginning of kept slips.
 abbrev pub walkFor : (List ℕ → Bool) → List (List ℕ) → List ℕ → List Join
 walkFor counts ss K = walkFrom ss K (inOrder sooner (beginnings counts ss K)) []

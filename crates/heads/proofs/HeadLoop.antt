@@ -22,7 +22,7 @@ use Rattle.layout.specs.Layout.{MEMBERS, HEAD, TWIN}
 use Rattle.layout.specs.Tables.{cell, members, owners}
 use Rattle.layout.specs.Numbered.{patternsIn, Automaton, SameBelow}
 use Rattle.layout.proofs.Frames.{members-kept, automaton-kept}
-use Rattle.heads.specs.Heads.{Among, CanPush, Pushed, Lists, HeadsFilled}
+use Rattle.heads.specs.steps.Heads.{Among, CanPush, Pushed, Lists, HeadsFilled}
 use Rattle.heads.proofs.Threading.{drop-here, drop-later, push-lists}
 use Rattle.heads.proofs.Keeping.{kept-trans, kept-filled, kept-pushed}
 use Rattle.heads.proofs.MemberNodes.{Member, got-member, members-length, node-num, node-most, num-most}

@@ -7,7 +7,7 @@ use Rattle.tables.specs.Tables.{Put, Filled}
 use Rattle.tables.proofs.Tables.{put-only}
 use Rattle.layout.specs.Numbered.{SameBelow}
 use Rattle.layout.proofs.Frames.{only-kept}
-use Rattle.heads.specs.Heads.{Pushed}
+use Rattle.heads.specs.steps.Heads.{Pushed}
 
 pub kept-refl : {b : ℕ} {w : List ℕ} → SameBelow b w w
 kept-refl = record { same = refl; cells = λ p h. refl }

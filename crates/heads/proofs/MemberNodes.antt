@@ -26,7 +26,7 @@ use Rattle.matching.proofs.NodeLaws.{node-root}
 use Rattle.layout.specs.Layout.{MEMBERS, AT}
 use Rattle.layout.specs.Tables.{cell, members}
 use Rattle.layout.specs.Numbered.{patternsIn, Numbered}
-use Rattle.heads.specs.Heads.{Among}
+use Rattle.heads.specs.steps.Heads.{Among}
 
 module _ (s es : List ℕ) (acc : trayFault s es .number ≡ 0) where
   pub slip-length : (i : ℕ) → 1 ≤ i → i ≤ length es → length (slip (slipsOf s es) i) ≡ endOf es i - startOf es i

@@ -22,7 +22,7 @@ use Rattle.tables.specs.Tables.{Got, Put}
 use Rattle.tables.proofs.Tables.{put-only, put-here}
 use Rattle.layout.specs.Tables.{cell, Threaded}
 use Rattle.layout.proofs.Heads.{threaded-same}
-use Rattle.heads.specs.Heads.{CanPush, Pushed, Lists}
+use Rattle.heads.specs.steps.Heads.{CanPush, Pushed, Lists}
 
 -- a list from a place on: its first member, and those behind it
 pub asc-drop : {A : Type 0} (R : A → A → Type 0) (j : ℕ) (xs : List A) → Asc R xs → Asc R (drop j xs)

@@ -1,2 +1,2 @@
--- The members of each node.
-pub mod Heads
+-- heads
+pub mod steps

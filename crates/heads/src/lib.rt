@@ -4,7 +4,7 @@ ghost use Rattle.trays.specs.Slips.{slip, slipsOf};
 ghost use Rattle.matching.specs.Nodes.{IsNode};
 ghost use Rattle.layout.specs.Tables.{members};
 ghost use Rattle.layout.specs.Numbered.{patternsIn, Automaton};
-ghost use Rattle.heads.specs.Heads as N;
+ghost use Rattle.heads.specs.steps.Heads as N;
 
 // The node of all letters of member `i`: that of its last letter.
 pub fn node_of(

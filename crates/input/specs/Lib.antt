@@ -1,2 +1,2 @@
--- What one read answers.
-pub mod Came
+-- input
+pub mod steps

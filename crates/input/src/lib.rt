@@ -2,7 +2,7 @@
 ghost use Prim.Native.Nat.{_≤_};
 ghost use lib.ListN.{length};
 ghost use Rattle.io.specs.Counts.{Counts};
-ghost use Rattle.input.specs.Came.{More};
+ghost use Rattle.input.specs.steps.Came.{More};
 
 // How many bytes have come, and whether a read failed.
 pub struct Came {

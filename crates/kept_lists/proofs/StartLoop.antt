@@ -22,8 +22,8 @@ use Rattle.matching.proofs.NodeLaws.{node-some}
 use Rattle.layout.specs.Layout.{AT, KEPT, STARTS, STARTS-NEXT}
 use Rattle.layout.specs.Tables.{cell}
 use Rattle.layout.specs.Numbered.{patternsIn, Numbered}
-use Rattle.kept_lists.specs.KeptLists.{beginnings, Listing, ListedTo}
-use Rattle.heads.specs.Heads.{CanPush, Pushed}
+use Rattle.kept_lists.specs.steps.KeptLists.{beginnings, Listing, ListedTo}
+use Rattle.heads.specs.steps.Heads.{CanPush, Pushed}
 use Rattle.heads.proofs.MemberNodes.{Member, node-num}
 use Rattle.kept_lists.proofs.SideLoop.{OneMore, Adding, added, adding-none, adding-can, adding-more, adding-all}
 

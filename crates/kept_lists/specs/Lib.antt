@@ -1,2 +1,2 @@
--- The tables read off the automaton for composing.
-pub mod KeptLists
+-- kept_lists
+pub mod steps

@@ -6,7 +6,7 @@ ghost use Rattle.trays.specs.Slips.{slip, slipsOf};
 ghost use Rattle.trays.specs.Aside.{isAside};
 ghost use Rattle.layout.specs.Tables.{members};
 ghost use Rattle.layout.specs.Numbered.{Automaton, Headed};
-ghost use Rattle.kept_lists.specs.KeptLists as O;
+ghost use Rattle.kept_lists.specs.steps.KeptLists as O;
 
 // Fills MARK.
 fn fill_marks(letters: &[u8], ends: &[u16], work: &mut [u16], n: usize, count: usize)

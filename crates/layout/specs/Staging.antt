@@ -23,7 +23,7 @@ joinIn w i = join (cell w JOINS (3 * i)) (cell w JOINS (3 * i + 1)) (cell w JOIN
 abbrev pub joinsIn : List ℕ → ℕ → List Join
 joinsIn w k = map (joinIn w) (upFrom 0 k)
 
--- Document 01: neighbours are kept in two lists of 200 marks, 0 meaning none. The mark of slip i + 1 is the i-th.
+-- Rules: neighbours are kept in two lists of 200 marks, 0 meaning none. The mark of slip i + 1 is the i-th.
 pub record Neighbours (js : List Join) (left right overs : List ℕ) : Type 0 where
   pub lefts : length left ≡ maxSlips
   pub rights : length right ≡ maxSlips

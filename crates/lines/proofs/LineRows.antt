@@ -15,7 +15,7 @@ use Rattle.checking.proofs.CheckLoops.{last-some}
 use Rattle.files.specs.Lines.{lf, blank, field, firstLine, isLaidOut}
 use Rattle.files.specs.Faults.{lineFault}
 use Rattle.files.specs.declared.Line.{Line}
-use Rattle.lines.specs.Parsed.{lineAt}
+use Rattle.lines.specs.steps.Parsed.{lineAt}
 use Rattle.files.proofs.FirstLines.{first-take}
 use Rattle.files.proofs.LineFaults.{letters-length}
 

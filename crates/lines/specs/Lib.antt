@@ -1,2 +1,2 @@
--- The parser of a line.
-pub mod Parsed
+-- lines
+pub mod steps

@@ -4,7 +4,7 @@ ghost use Prim.Native.Nat.{_+_, _≤_};
 ghost use lib.ListN.{length, drop};
 ghost use Rattle.files.specs.Lines as L;
 ghost use Rattle.files.specs.Faults as F;
-ghost use Rattle.lines.specs.Parsed.{lineAt};
+ghost use Rattle.lines.specs.steps.Parsed.{lineAt};
 use files::BLANK;
 use files::LF;
 use files::Line;

@@ -1,8 +1,8 @@
--- Computed specimens of the definitions on finding. The outcomes are worked out by hand from document 01's sentences and computed here
+-- Computed specimens of the definitions on finding. The outcomes are worked out by hand from the rules' sentences and computed here
 -- from the definitions. Modules are checked in the order of their names: an edited definition is refused here first.
 --   Outcome          == the moves and the occurrences
 --   outcomeOf ss t   == those of the slips ss in the text t
---   Specimen         == a tray and a text, written as words, and the outcome that document 01 gives
+--   Specimen         == a tray and a text, written as words, and the outcome that the rules gives
 use mathlib.Core.Path.{_≡_, refl}
 use mathlib.Core.List.{List, [], _∷_, map}
 use Prim.Native.Nat.{ℕ}

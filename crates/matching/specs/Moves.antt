@@ -16,7 +16,7 @@ use Rattle.trays.specs.Faults.{trayFault}
 abbrev pub beginsSome : List ℕ → List (List ℕ) → Bool
 beginsSome x ps = any (begins x) ps
 
--- Document 01, state: the longest ending of the text so far that begins a slip.
+-- Rules, state: the longest ending of the text so far that begins a slip.
 abbrev pub longestEnding : List ℕ → List (List ℕ) → List ℕ
 longestEnding [] ps = []
 longestEnding (x ∷ xs) ps = elim (beginsSome (x ∷ xs) ps) [ true ↦ x ∷ xs | false ↦ longestEnding xs ps ]
@@ -28,7 +28,7 @@ pub record Stepped : Type 0 where
 abbrev pub stepped : List ℕ → ℕ → Stepped
 stepped s n = record { state = s; drops = n }
 
--- Document 01, moves: on a letter b, the state s drops to its longest proper ending that begins a slip until the letter extends it or
+-- Rules, moves: on a letter b, the state s drops to its longest proper ending that begins a slip until the letter extends it or
 -- it is empty. A state falls by a letter at least, so as many turns as it has letters, and one more, are enough.
 abbrev pub stepFrom : ℕ → List (List ℕ) → List ℕ → ℕ → ℕ → Stepped
 stepFrom zero ps s b n = stepped s n
@@ -48,6 +48,6 @@ movesFrom ps s (b ∷ bs) n = let x = step ps s b in movesFrom ps (x .state) bs 
 abbrev pub moves : List (List ℕ) → List ℕ → ℕ
 moves ps t = movesFrom ps [] t 0
 
--- Document 01: moves are at most 2 × the letters.
+-- Rules: moves are at most 2 × the letters.
 abbrev pub Few-moves : Type 0
 Few-moves = (s es t : List ℕ) → trayFault s es .number ≡ 0 → moves (slipsOf s es) t ≤ 2 * length t

@@ -19,7 +19,7 @@ pub record Occurrence : Type 0 where
 abbrev pub occurrence : ℕ → ℕ → Occurrence
 occurrence e i = record { end = e; which = i }
 
--- Document 01: longer slip first, then lower number.
+-- Rules: longer slip first, then lower number.
 abbrev pub firstHere : List (List ℕ) → ℕ → ℕ → Bool
 firstHere ss i k =
     ltb (length (slip ss k)) (length (slip ss i)) || (eqb (length (slip ss i)) (length (slip ss k)) && ltb i k)
@@ -27,7 +27,7 @@ firstHere ss i k =
 abbrev pub endingAt : List (List ℕ) → List ℕ → List ℕ
 endingAt ss t = inOrder (firstHere ss) (those (λ i. ends (slip ss i) t) (numbers ss))
 
--- Document 01, finding: by end place, then longer slip first, then lower number.
+-- Rules, finding: by end place, then longer slip first, then lower number.
 abbrev pub occurrences : List (List ℕ) → List ℕ → List Occurrence
 occurrences ss t = each (λ e. map (occurrence e) (endingAt ss (take e t))) (upFrom 1 (length t))
 

@@ -12,7 +12,7 @@ use Rattle.matching.specs.Nodes.{nodes}
 use Rattle.matching.proofs.Numbering.{levelsUp, nodeAt, nodeAt-is}
 use Rattle.layout.specs.Layout.{LEVEL, AT, OWN}
 use Rattle.layout.specs.Tables.{cell, patterns, AtIs, OwnIs, LevelIs}
-use Rattle.numbering.specs.Stages.{Counted}
+use Rattle.numbering.specs.steps.Stages.{Counted}
 use Rattle.numbering.proofs.Ranked.{Ranked, nodes-are, nodes-few}
 use Rattle.numbering.proofs.LevelParts.{nodeAt-fits, levels-are}
 use Rattle.numbering.proofs.Turns.{pattern-at}

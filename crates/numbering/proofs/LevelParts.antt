@@ -18,7 +18,7 @@ use Rattle.matching.proofs.Levels.{level, level-length}
 use Rattle.matching.proofs.Ranks.{rank-fits}
 use Rattle.matching.proofs.Numbering.{levelsUp, nodeAt, in-levelsUp}
 use Rattle.layout.specs.Tables.{LevelIs}
-use Rattle.numbering.specs.Stages.{LevelDone}
+use Rattle.numbering.specs.steps.Stages.{LevelDone}
 
 module _ (zs : List (List ℕ)) where
   record Split (c D : ℕ) : Type 0 where

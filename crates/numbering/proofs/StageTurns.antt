@@ -21,7 +21,7 @@ use Rattle.matching.proofs.Numbering.{levelsUp}
 use Rattle.layout.specs.Layout.{COMMON, LEVEL, AT, OWN, KID}
 use Rattle.layout.specs.Tables.{cell, patterns}
 use Rattle.numbering.specs.Numbering.{NodeCells}
-use Rattle.numbering.specs.Stages.{numbered, Counted, Lettered}
+use Rattle.numbering.specs.steps.Stages.{numbered, Counted, Lettered}
 use Rattle.numbering.proofs.Spans.{span-place}
 use Rattle.numbering.proofs.Ranked.{Ranked, rank-real, nodes-few}
 use Rattle.numbering.proofs.LevelParts.{levels-grow, nodeAt-fits}

@@ -20,7 +20,7 @@ use Rattle.matching.proofs.Ranks.{near, adds, adds-new, adds-old, level-next}
 use Rattle.matching.proofs.Numbering.{levelsUp, nodeAt, nodeAt-is}
 use Rattle.order.specs.Order.{commons}
 use Rattle.layout.specs.Tables.{patterns, Owned}
-use Rattle.numbering.specs.Stages.{AtDone, OwnDone, numbered}
+use Rattle.numbering.specs.steps.Stages.{AtDone, OwnDone, numbered}
 use Rattle.numbering.proofs.Spans.{span-place, span-one}
 use Rattle.numbering.proofs.Ranked.{Ranked, rank-real, rank-one}
 

@@ -2,7 +2,7 @@
 // The letters of the tray are lent for the contracts alone: what two members have in common stands in COMMON.
 ghost use Prim.Native.Nat.{_+_};
 ghost use Rattle.numbering.specs.Numbering.{Sorted, NodesFilled};
-ghost use Rattle.numbering.specs.Stages.{LevelNext, AtStage, Letterable, Lettered};
+ghost use Rattle.numbering.specs.steps.Stages.{LevelNext, AtStage, Letterable, Lettered};
 
 // Numbers letter `c` of the member of rank `r`, which stands at `place`. Its node is the last one numbered, or a new one where the
 // member has no more than `c` letters in common with the one before.

@@ -20,7 +20,7 @@ use Rattle.tables.specs.Tables.{table, Filled}
 use Rattle.tables.proofs.Tables.{part-table, part-filled, table-length}
 use Rattle.order.specs.declared.Bound.the-variants.{Number}
 use Rattle.order.specs.Order.{precedes, below, rankOf, Distinct, Sortable, Rankable}
-use Rattle.order.specs.Steps.{layBehind, insertFirst, Insertable}
+use Rattle.order.specs.steps.Steps.{layBehind, insertFirst, Insertable}
 use Rattle.order.proofs.Inserting.{insert-rank, less-falls}
 use Rattle.order.proofs.Precedes.{precedes-irr, precedes-tr, precedes-con, order-sorts, order-length}
 

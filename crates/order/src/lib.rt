@@ -9,7 +9,7 @@ ghost use Rattle.trays.specs.Faults.{trayFault};
 ghost use Rattle.trays.specs.Limits.{maxSlips};
 ghost use Rattle.tables.specs.Tables.{table, Filled};
 ghost use Rattle.order.specs.Order as O;
-ghost use Rattle.order.specs.Steps.{layBehind, insertFirst, Insertable};
+ghost use Rattle.order.specs.steps.Steps.{layBehind, insertFirst, Insertable};
 
 // How far two strings agree, and whether the first is before the second.
 pub struct Compared {

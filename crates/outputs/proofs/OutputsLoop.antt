@@ -22,7 +22,7 @@ use Rattle.layout.specs.Layout.{FAIL, HEAD, TWIN, MARK, OUT, TALLY}
 use Rattle.layout.specs.Tables.{cell, members, patterns, owners}
 use Rattle.layout.specs.Numbered.{patternsIn, Numbered, SameBelow, Headed}
 use Rattle.layout.proofs.Frames.{only-kept, kept-lower, members-kept}
-use Rattle.outputs.specs.Outputs.{OutOf, TallyOf, Telling, Tallied, OutputsFilled}
+use Rattle.outputs.specs.steps.Outputs.{OutOf, TallyOf, Telling, Tallied, OutputsFilled}
 use Rattle.outputs.proofs.Outs.{by-list, ending-most, ending-link, ending-root, out-root, out-here, out-next}
 use Rattle.layout.proofs.Heads.{threaded-head, member-some, member-letters, members-length, node-most, headed-kept}
 

@@ -34,7 +34,7 @@ use Rattle.matching.proofs.Numbering.{lower-shorter}
 use Rattle.matching.proofs.NodeLaws.{node-root, is-root, node-some, node-lower}
 use Rattle.matching.proofs.Paths.{path}
 use Rattle.layout.specs.Tables.{patterns, owners}
-use Rattle.outputs.specs.Outputs.{longestOwned, OutOf, OutIs}
+use Rattle.outputs.specs.steps.Outputs.{longestOwned, OutOf, OutIs}
 
 pub by-list : {P : Type 0} (xs : List ℕ) → (xs ≡ [] → P) → ((i : ℕ) (is : List ℕ) → xs ≡ i ∷ is → P) → P
 by-list [] f g = f refl

@@ -13,7 +13,7 @@ use Rattle.matching.specs.Nodes.{string}
 use Rattle.layout.specs.Layout.{HEAD, TWIN}
 use Rattle.layout.specs.Tables.{cell, members, owners, Threaded}
 use Rattle.layout.specs.Numbered.{patternsIn}
-use Rattle.outputs.specs.Outputs.{Owning}
+use Rattle.outputs.specs.steps.Outputs.{Owning}
 use Rattle.outputs.proofs.Outs.{by-list, length-those}
 use Rattle.layout.proofs.Heads.{member-few, member-some, members-length, node-most}
 

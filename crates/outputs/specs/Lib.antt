@@ -1,2 +1,2 @@
--- Output links and tallies of the automaton.
-pub mod Outputs
+-- outputs
+pub mod steps

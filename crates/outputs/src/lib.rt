@@ -6,7 +6,7 @@ ghost use Rattle.trays.specs.Slips.{slipsOf};
 ghost use Rattle.matching.specs.Nodes.{string};
 ghost use Rattle.layout.specs.Tables.{members, owners};
 ghost use Rattle.layout.specs.Numbered.{patternsIn, Headed};
-ghost use Rattle.outputs.specs.Outputs as O;
+ghost use Rattle.outputs.specs.steps.Outputs as O;
 
 // How many members have all letters of node `v`.
 fn owners_of(letters: &[u8], ends: &[u16], work: &[u16], n: usize, count: usize, v: usize) -> usize

@@ -29,7 +29,7 @@ use Rattle.sheets.specs.Programs.{textFault, textSheet}
 use Rattle.sheet_sizes.proofs.Flat.{two-length}
 use Rattle.sheet_sizes.proofs.Printing.{find-ready, find-printed}
 use Rattle.sheet_sizes.proofs.TextRows.{TextAccepted, text-tells, text-refusal-fits}
-use Rattle.printing.specs.Lent.{TextRoom}
+use Rattle.printing.specs.steps.Lent.{TextRoom}
 use Rattle.printing.proofs.TraySteps.{printed-is}
 
 -- a silent row among others

@@ -1,2 +1,2 @@
--- What the functions from file bytes to sheets ask and leave.
-pub mod Lent
+-- printing
+pub mod steps

@@ -1,7 +1,7 @@
 // From the bytes of a program's files to the whole sheet that it prints.
 ghost use Rattle.sheet_lines.specs.steps.Lines.{Printed};
 ghost use Rattle.sheets.specs.Programs.{traySheet, composeSheet, textSheet, findSheet};
-ghost use Rattle.printing.specs.Lent.{TrayRoom, ComposeRoom, TextRoom, FindRoom, Trimmed};
+ghost use Rattle.printing.specs.steps.Lent.{TrayRoom, ComposeRoom, TextRoom, FindRoom, Trimmed};
 use files::LF;
 use layout::JOINS;
 use layout::PLACES;

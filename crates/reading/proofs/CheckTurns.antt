@@ -21,7 +21,7 @@ use Rattle.files.specs.Lines.{linesOf, firstLine}
 use Rattle.files.specs.Faults.{lineFault, linesFault}
 use Rattle.files.proofs.FirstLines.{lines-at, first-length, first-some}
 use Rattle.files.proofs.LineFaults.{fault-detail}
-use Rattle.lines.specs.Parsed.{lineAt}
+use Rattle.lines.specs.steps.Parsed.{lineAt}
 use Rattle.reading.specs.declared.Checked.{Checked}
 use Rattle.reading.specs.steps.Checking.{begunAt, judged}
 

@@ -20,7 +20,7 @@ use Rattle.layout.specs.Numbered.{patternsIn}
 use Rattle.links.specs.Links.{StepIs, CanStep}
 use Rattle.links.proofs.Steps.{node-within, state-none, state-next, moves-next, moves-least}
 use Rattle.scanning.specs.declared.TextCounts.{TextCounts}
-use Rattle.scanning.specs.Scanning.{occursFrom, Able, TextCountsAre}
+use Rattle.scanning.specs.steps.Scanning.{occursFrom, Able, TextCountsAre}
 use Rattle.scanning.proofs.Occurs.{slips-all, occurs-all, occurs-next, occurs-none}
 use Rattle.scanning.proofs.Scans.{able-endings, able-few, able-steps}
 

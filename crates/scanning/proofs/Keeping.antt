@@ -22,10 +22,10 @@ use Rattle.layout.specs.Tables.{cell, members}
 use Rattle.layout.specs.Numbered.{patternsIn, SameBelow}
 use Rattle.layout.proofs.Frames.{kept-lower, members-kept}
 use Rattle.links.proofs.Steps.{node-within, state-none}
-use Rattle.outputs.specs.Outputs.{Told}
+use Rattle.outputs.specs.steps.Outputs.{Told}
 use Rattle.layout.proofs.Heads.{threaded-same, member-few, node-most, headed-kept}
 use Rattle.scanning.specs.declared.Scan.{Scan}
-use Rattle.scanning.specs.Scanning.{Able, Pending, Standing, scanIn, CanKeep, Keeps, fresh, ScanStarted}
+use Rattle.scanning.specs.steps.Scanning.{Able, Pending, Standing, scanIn, CanKeep, Keeps, fresh, ScanStarted}
 use Rattle.layout.specs.Layout.{SCAN}
 use Rattle.scanning.proofs.Occurs.{occurs-all}
 

@@ -17,7 +17,7 @@ use Rattle.trays.specs.Limits.{maxSlips}
 use Rattle.trays.specs.Slips.{slip, numbers}
 use Rattle.matching.specs.Occurrences.{occurrence, endingAt, occurrences}
 use Rattle.outputs.proofs.Outs.{ending-most}
-use Rattle.scanning.specs.Scanning.{occursFrom}
+use Rattle.scanning.specs.steps.Scanning.{occursFrom}
 
 slips-from : (ys xs : List (List ℕ)) → map (slip (ys ++ xs)) (upFrom (suc (length ys)) (length xs)) ≡ xs
 slips-from ys [] = refl

@@ -20,10 +20,10 @@ use Rattle.matching.proofs.NodeLaws.{node-some}
 use Rattle.layout.specs.Layout.{HEAD, TWIN, OUT}
 use Rattle.layout.specs.Tables.{cell, members, owners, Threaded}
 use Rattle.layout.specs.Numbered.{patternsIn, Numbered}
-use Rattle.outputs.specs.Outputs.{longestOwned, OutOf, Told}
+use Rattle.outputs.specs.steps.Outputs.{longestOwned, OutOf, Told}
 use Rattle.outputs.proofs.Outs.{by-list, owned-here, owned-past, ending-out, ending-root}
 use Rattle.layout.proofs.Heads.{member-few, member-some, member-letters, node-most}
-use Rattle.scanning.specs.Scanning.{Reporting, Pending, AtNode}
+use Rattle.scanning.specs.steps.Scanning.{Reporting, Pending, AtNode}
 
 owned-owned : (ss : List (List ℕ)) (M t : List ℕ) → 1 ≤ length (longestOwned ss M t) → (i : ℕ) × (is : List ℕ) × (owners ss M (longestOwned ss M t) ≡ i ∷ is)
 owned-owned ss M [] h = absurd (omega arith)

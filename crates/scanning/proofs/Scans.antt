@@ -31,7 +31,7 @@ use Rattle.layout.specs.Numbered.{patternsIn, Numbered}
 use Rattle.links.specs.Links.{StepIs, CanStep}
 use Rattle.links.proofs.Steps.{automaton-steps, node-within, state-next}
 use Rattle.scanning.specs.declared.Scan.{Scan}
-use Rattle.scanning.specs.Scanning.{occursFrom, Able, Reporting, Pending, AtNode, Standing, Ahead, Unread, ReadOn, Reached, Reportable, Passed}
+use Rattle.scanning.specs.steps.Scanning.{occursFrom, Able, Reporting, Pending, AtNode, Standing, Ahead, Unread, ReadOn, Reached, Reportable, Passed}
 use Rattle.scanning.proofs.Occurs.{occurs-next, occurs-none, occurs-few}
 use Rattle.scanning.proofs.Reports.{twin-next, twin-behind, reporting-room, reporting-node}
 

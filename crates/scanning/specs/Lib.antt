@@ -1,2 +1,2 @@
--- A text read by the automaton of a tray's slips.
-pub mod Scanning
+-- scanning
+pub mod steps

@@ -7,7 +7,7 @@ ghost use Rattle.matching.specs.Nodes.{Num};
 ghost use Rattle.layout.specs.Tables.{cell};
 ghost use Rattle.layout.specs.Layout as L;
 ghost use Rattle.layout.specs.Numbered.{patternsIn};
-ghost use Rattle.scanning.specs.Scanning as S;
+ghost use Rattle.scanning.specs.steps.Scanning as S;
 use layout::SCAN;
 
 // The moves of a text, and how many occurrences it has.

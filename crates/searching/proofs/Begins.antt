@@ -13,12 +13,12 @@ use Rattle.matching.proofs.States.{few-from}
 use Rattle.layout.specs.Numbered.{Numbered}
 use Rattle.answers.specs.WorkArea.{WorkKept}
 use Rattle.layout.proofs.Frames.{members-kept}
-use Rattle.automaton.specs.Built.{Built}
-use Rattle.heads.specs.Heads.{HeadsFilled}
-use Rattle.outputs.specs.Outputs.{OutputsFilled}
+use Rattle.automaton.specs.steps.Built.{Built}
+use Rattle.heads.specs.steps.Heads.{HeadsFilled}
+use Rattle.outputs.specs.steps.Outputs.{OutputsFilled}
 use Rattle.scanning.specs.declared.TextCounts.{TextCounts}
 use Rattle.scanning.specs.declared.Scan.{Scan}
-use Rattle.scanning.specs.Scanning.{Able, TextCountsAre, Loadable, Standing, fresh, scanIn, ScanStarted}
+use Rattle.scanning.specs.steps.Scanning.{Able, TextCountsAre, Loadable, Standing, fresh, scanIn, ScanStarted}
 use Rattle.scanning.proofs.Scans.{able-few}
 use Rattle.scanning.proofs.Keeping.{standing-kept, fresh-standing}
 use Rattle.searching.specs.declared.Begun.{Begun}

@@ -19,7 +19,7 @@ use Rattle.trays.specs.Faults.{refusal, accepted, row, orElse, firstRow, badPla
 use Rattle.trays.proofs.Rows.{or-zero, or-some, both-silent, rows-append}
 use Rattle.matching.specs.Occurrences.{occurrences}
 use Rattle.answers.specs.WorkArea.{workRow}
-use Rattle.automaton.specs.Built.{Buildable}
+use Rattle.automaton.specs.steps.Built.{Buildable}
 use Rattle.answers.specs.Finding.{textRows, findRows, findBefore, listRow, findFault}
 use Rattle.searching.specs.steps.Searching.{Clear}
 

@@ -17,7 +17,7 @@ use Rattle.layout.specs.Tables.{cell}
 use Rattle.layout.specs.Numbered.{Numbered}
 use Rattle.layout.proofs.Frames.{kept-lower}
 use Rattle.scanning.specs.declared.Scan.{Scan}
-use Rattle.scanning.specs.Scanning.{Standing, Ahead, Reached, Reportable, Passed, scanIn, CanKeep, Loadable, Keeps}
+use Rattle.scanning.specs.steps.Scanning.{Standing, Ahead, Reached, Reportable, Passed, scanIn, CanKeep, Loadable, Keeps}
 use Rattle.layout.specs.Layout.{SCAN}
 use Rattle.scanning.proofs.Scans.{reportable-found}
 use Rattle.scanning.proofs.Keeping.{standing-kept, standing-keeps}

@@ -2,7 +2,7 @@
 ghost use mathlib.Core.Path.{_≡_};
 ghost use Prim.Native.Nat.{_<_};
 ghost use Rattle.trays.specs.Faults.{refusal};
-ghost use Rattle.automaton.specs.Built.{Buildable};
+ghost use Rattle.automaton.specs.steps.Built.{Buildable};
 ghost use Rattle.answers.specs.Finding as F;
 ghost use Rattle.searching.specs.steps.Searching as T;
 use answers::Found;

@@ -1,5 +1,5 @@
 -- Every number that is printed fits its columns.
---   ComposeFits ss   == the numbers of the `compose` sheet are within document 01's limits
+--   ComposeFits ss   == the numbers of the `compose` sheet are within the rules' limits
 --   FindFits ss t    == those of the `find` sheet
 --   RefusalFits f    == a refusal's number has at most two digits, and its detail fits
 use Prim.Native.Nat.{ℕ, _*_, _-_, _^_, _≤_, _<_}

@@ -1,4 +1,4 @@
--- Computed specimens of the sheets: document 01's two, whole, the empty tray's, refusals, and what `compose` and `find` print for files.
+-- Computed specimens of the sheets: the rules' two, whole, the empty tray's, refusals, and what `compose` and `find` print for files.
 -- Modules are checked in the order of their names: an edited layout is refused here first.
 use mathlib.Core.Path.{_≡_, refl}
 use mathlib.Core.List.{List, [], _∷_, _++_, map}
@@ -38,7 +38,7 @@ pub refused-specimens :
 unfolding decimal column
 refused-specimens = refl
 
--- from the file's bytes: document 01's tray, an empty file, and files that are turned back
+-- from the file's bytes: the rules' tray, an empty file, and files that are turned back
 pub compose-file-specimens :
     map composeSheet
     (word "   1   7 IMPCAES\n   2   3 AES\n   3   7 CAESAVG\n   4   6 VGPIVS\n   5   4 SIMP\n"
@@ -60,7 +60,7 @@ pub compose-file-specimens :
 unfolding decimal column composeSheetOf trayFault readFault composeSheetFault composeSheet
 compose-file-specimens = refl
 
--- from both files' bytes: document 01's text with and without LF, no text, and what is turned back, the tray before the text
+-- from both files' bytes: the rules' text with and without LF, no text, and what is turned back, the tray before the text
 abbrev sample : List ℕ
 sample = word "   1   7 IMPCAES\n   2   3 AES\n   3   7 CAESAVG\n   4   6 VGPIVS\n   5   4 SIMP\n"
 

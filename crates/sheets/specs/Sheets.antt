@@ -1,4 +1,4 @@
--- What the programs print, byte by byte: document 01, files and sheets.
+-- What the programs print, byte by byte: the rules, files and sheets.
 --   decimal n             == the decimal digits of n, without leading zeros
 --   column w n            == n right-justified in w columns, blanks in front
 --   trayLine, slipLine, joinLine  == the header, a slip's line and a join's line of a `compose` sheet

@@ -1,4 +1,4 @@
--- Computed specimens of the definitions on trays. The values are worked out by hand from document 01's sentences and computed here from
+-- Computed specimens of the definitions on trays. The values are worked out by hand from the rules' sentences and computed here from
 -- the definitions. Modules are checked in the order of their names: an edited definition of set aside is refused here first.
 --   Specimen A B   == an input of type A and its value of type B
 --   keptOf ws      == the kept slips of a tray that is written as words

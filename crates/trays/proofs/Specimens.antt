@@ -1,6 +1,6 @@
 -- Computed specimens of the definitions that AllSpecimens leaves: limits, signs, the slips of a tray, the order of the rows. An edited definition
 -- computes another value.
---   letters, bounds  == the letters and the ends of document 01's `compose` tray, whose slips are `slips`
+--   letters, bounds  == the letters and the ends of the sample tray, whose slips are `slips`
 use mathlib.Core.Path.{_≡_, refl}
 use mathlib.Core.List.{List, [], _∷_, map}
 use Prim.Native.Nat.{ℕ}

@@ -12,7 +12,7 @@ use Rattle.words.specs.Lists.{those, any}
 use Rattle.words.specs.Words.{same, standsIn, nonEmpty}
 use Rattle.trays.specs.Slips.{slip}
 
--- Document 01, set aside: its letters stand in a longer slip, or equal those of a lower-numbered slip.
+-- Rules, set aside: its letters stand in a longer slip, or equal those of a lower-numbered slip.
 abbrev pub asideFor : List (List ℕ) → ℕ → ℕ → Bool
 asideFor ss i k =
     (ltb (length (slip ss i)) (length (slip ss k)) && standsIn (slip ss i) (slip ss k)) || (ltb k i && same (slip ss i) (slip ss k))
@@ -20,10 +20,10 @@ asideFor ss i k =
 abbrev pub isAside : List (List ℕ) → List ℕ → ℕ → Bool
 isAside ss M i = any (asideFor ss i) M
 
--- Document 01, kept: the others.
+-- Rules, kept: the others.
 abbrev pub kept : List (List ℕ) → List ℕ → List ℕ
 kept ss M = those (λ i. not (isAside ss M i)) M
 
--- Document 01, arcs: a non-empty overlap. The one rule that the pair query, the joins and the legend go by.
+-- Rules, arcs: a non-empty overlap. The one rule that the pair query, the joins and the legend go by.
 abbrev pub counted : List ℕ → Bool
 counted x = nonEmpty x

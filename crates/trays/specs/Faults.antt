@@ -1,4 +1,4 @@
--- Refusals 1 to 6, 10 and 11 with their details, as the rows of document 01's table.
+-- Refusals 1 to 6, 10 and 11 with their details, as the rows of the rules' table.
 --   row n b d     == the row numbered n with detail d if its condition b holds, else no refusal
 --   firstRow rs   == the first refusal of the rows, which are taken top to bottom
 --   written f xs old == a lent buffer afterwards: xs written over its first part, unless f turns the call back

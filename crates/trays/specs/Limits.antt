@@ -1,4 +1,4 @@
--- The limits of document 01, each named once.
+-- The limits of the rules, each named once.
 use Prim.Native.Nat.{ℕ}
 
 -- 1: a tray has at most so many slips

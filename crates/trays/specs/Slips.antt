@@ -15,7 +15,7 @@ use lib.ListN.{length, getD, take, drop}
 use Rattle.words.specs.Lists.{upFrom}
 use Rattle.trays.specs.declared.Span.{Span}
 
--- Document 01: slip 1 runs from the start to the first end, slip i from the end before it to its own.
+-- Rules: slip 1 runs from the start to the first end, slip i from the end before it to its own.
 abbrev pub slipsFrom : ℕ → List ℕ → List ℕ → List (List ℕ)
 slipsFrom here s [] = []
 slipsFrom here s (e ∷ es) = take (e - here) s ∷ slipsFrom e (drop (e - here) s) es
@@ -30,7 +30,7 @@ slip ss (suc i) = getD ss i []
 abbrev pub numbers : List (List ℕ) → List ℕ
 numbers ss = upFrom 1 (length ss)
 
--- Document 01: capitals A to Z and the full stop.
+-- Rules: capitals A to Z and the full stop.
 abbrev pub isLetter : ℕ → Bool
 isLetter b = eqb b 46 || (leb 65 b && leb b 90)
 

@@ -6,7 +6,7 @@ pub const MAX_SLIP: usize = 40;
 
 pub const MAX_LETTERS: usize = 2000;
 
-// A refusal of document 01's table: its number and detail, or 0 and 0.
+// A refusal of the rules' table: its number and detail, or 0 and 0.
 pub struct Refusal {
     pub number: u8,
     pub detail: u32,

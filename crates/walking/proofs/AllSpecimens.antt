@@ -1,4 +1,4 @@
--- Computed specimens of the definitions on the walk over the tables. The outcomes are worked out by hand from document 01's sentences. Modules
+-- Computed specimens of the definitions on the walk over the tables. The outcomes are worked out by hand from the rules' sentences. Modules
 -- are checked in the order of their names: an edited definition is refused here first.
 --   partners == whom a slip is joined behind, for some right neighbours, lists of slips that end with a node, and ends of the slip's chain
 --   visits   == the strings that the walk visits, for the slips AB and B
@@ -8,7 +8,7 @@ use Prim.Native.Nat.{ℕ}
 use lib.ListN.{getD}
 use Rattle.words.specs.Quoted.{word}
 use Rattle.matching.specs.Nodes.{nodes}
-use Rattle.walking.specs.Walking.{partnerIn, rows}
+use Rattle.walking.specs.steps.Walking.{partnerIn, rows}
 
 abbrev pub partners : List ℕ
 partners =

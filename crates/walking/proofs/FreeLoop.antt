@@ -9,8 +9,8 @@ use lib.ListN.{length}
 use Rattle.words.specs.Lists.{headOr}
 use Rattle.trays.specs.Limits.{maxSlips}
 use Rattle.layout.proofs.Heads.{threaded-head}
-use Rattle.walking.specs.Runs.{nextEnder, endersFrom, mark, waitingIn, Real, ListedFrom}
-use Rattle.walking.specs.Walking.{Searches, FoundPartner, Chooses, partnerIn}
+use Rattle.walking.specs.steps.Runs.{nextEnder, endersFrom, mark, waitingIn, Real, ListedFrom}
+use Rattle.walking.specs.steps.Walking.{Searches, FoundPartner, Chooses, partnerIn}
 use Rattle.walking.proofs.RunLaws.{listed-none, listed-first, listed-next, listed-real, along-none}
 use Rattle.walking.proofs.ScanLaws.{waiting-stop, waiting-pass, partner-lowest, partner-second}
 

@@ -18,9 +18,9 @@ use Rattle.greedy.specs.Joins.{Join, join}
 use Rattle.layout.specs.Layout.{JOINS}
 use Rattle.layout.specs.Tables.{cell}
 use Rattle.layout.specs.Staging.{joinIn, joinsIn}
-use Rattle.walking.specs.Runs.{mark}
-use Rattle.walking.specs.Marks.{chainEnds}
-use Rattle.walking.specs.Walking.{CanJoin, JoinPut, EndsFit, EndsJoined}
+use Rattle.walking.specs.steps.Runs.{mark}
+use Rattle.walking.specs.steps.Marks.{chainEnds}
+use Rattle.walking.specs.steps.Walking.{CanJoin, JoinPut, EndsFit, EndsJoined}
 use Rattle.walking.proofs.MarkLaws.{ends-mark, ends-set}
 
 pub joins-length : (w : List ℕ) (k : ℕ) → length (joinsIn w k) ≡ k

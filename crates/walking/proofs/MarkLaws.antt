@@ -29,9 +29,9 @@ use Rattle.greedy.specs.Legends.{overlapAfter}
 use Rattle.greedy.proofs.Linked as L
 use Rattle.greedy.proofs.Threads.{threads-none, putAt, threads-join}
 use Rattle.layout.specs.Staging.{Neighbours}
-use Rattle.walking.specs.Runs.{mark}
-use Rattle.walking.specs.Marks.{chainEnds, zeros, Marks}
-use Rattle.walking.specs.Walking.{EndsFit, EndsJoined}
+use Rattle.walking.specs.steps.Runs.{mark}
+use Rattle.walking.specs.steps.Marks.{chainEnds, zeros, Marks}
+use Rattle.walking.specs.steps.Walking.{EndsFit, EndsJoined}
 
 -- a mark set, and every slip marked as its own
 pub mark-set : (xs : List ℕ) (i x r : ℕ) → r ≡ x → set xs (i - 1) r ≡ set xs (i - 1) x

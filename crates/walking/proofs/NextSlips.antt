@@ -10,8 +10,8 @@ use Rattle.trays.specs.Slips.{startOf, endOf}
 use Rattle.trays.specs.Slips.{spanOf}
 use Rattle.tables.specs.Tables.{Got}
 use Rattle.layout.specs.Layout.{STARTS-NEXT, ENDS-NEXT}
-use Rattle.walking.specs.Runs.{nextStarter, nextEnder, Real}
-use Rattle.walking.specs.Walking.{Sized}
+use Rattle.walking.specs.steps.Runs.{nextStarter, nextEnder, Real}
+use Rattle.walking.specs.steps.Walking.{Sized}
 
 pub start-short : (es : List ℕ) → ((i : ℕ) → endOf es i ≤ maxLetters) → (i : ℕ) → startOf es i ≤ maxLetters
 start-short es h zero = omega arith

@@ -10,9 +10,9 @@ use Rattle.tables.proofs.Tables.{only-refl}
 use Rattle.greedy.specs.Joins.{Join, join, lastOf}
 use Rattle.greedy.proofs.Scans as S
 use Rattle.layout.specs.Staging.{joinsIn}
-use Rattle.walking.specs.Runs.{endersFrom, mark}
-use Rattle.walking.specs.Marks.{Marks}
-use Rattle.walking.specs.Walking.{Chooses, partnerIn, JoinsMade, CanJoin, JoinPut, EndsFit, EndsJoined, Joinable, Offers}
+use Rattle.walking.specs.steps.Runs.{endersFrom, mark}
+use Rattle.walking.specs.steps.Marks.{Marks}
+use Rattle.walking.specs.steps.Walking.{Chooses, partnerIn, JoinsMade, CanJoin, JoinPut, EndsFit, EndsJoined, Joinable, Offers}
 use Rattle.walking.proofs.ScanLaws.{MarksOf, partner-among, partner-marks, offer-taken, offer-none, offer-made}
 use Rattle.walking.proofs.MarkLaws.{left-mark, right-mark, last-mark, last-some, marks-room, ends-fit, marks-join}
 use Rattle.walking.proofs.JoinCells.{joins-length}

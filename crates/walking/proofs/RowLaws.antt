@@ -25,7 +25,7 @@ use Rattle.matching.specs.Nodes.{lower, nodes, string, Num}
 use Rattle.matching.proofs.Endings.{slip-some}
 use Rattle.matching.proofs.NodeLaws.{nodes-numbered, node-of}
 use Rattle.layout.specs.Tables.{patterns, LevelIs}
-use Rattle.walking.specs.Walking.{nodesAt, rows}
+use Rattle.walking.specs.steps.Walking.{nodesAt, rows}
 
 asc-map : {A B : Type 0} (R : A → A → Type 0) (S : B → B → Type 0) (f : A → B) (xs : List A) → Asc R xs
     → ((a b : A) → In a xs → In b xs → R a b → S (f a) (f b)) → Asc S (map f xs)

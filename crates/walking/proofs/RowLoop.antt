@@ -21,9 +21,9 @@ use Rattle.layout.specs.Layout.{LEVEL, JOINS}
 use Rattle.layout.specs.Tables.{cell}
 use Rattle.layout.specs.Numbered.{patternsIn}
 use Rattle.layout.specs.Staging.{keptIn, joinsIn}
-use Rattle.walking.specs.Runs.{startersAt, endersAt}
-use Rattle.walking.specs.Marks.{Marks}
-use Rattle.walking.specs.Walking.{JoinsMade, Visits, Walkable, RowAsks, rowWalked}
+use Rattle.walking.specs.steps.Runs.{startersAt, endersAt}
+use Rattle.walking.specs.steps.Marks.{Marks}
+use Rattle.walking.specs.steps.Walking.{JoinsMade, Visits, Walkable, RowAsks, rowWalked}
 use Rattle.walking.proofs.RowLaws.{row-num}
 use Rattle.walking.proofs.WalkableLaws.{kept-rises, here-sized, node-starts, node-ends, patterns-same, kept-same, walkable-kept}
 

@@ -14,8 +14,8 @@ use Rattle.trays.specs.Slips.{startOf, endOf}
 use Rattle.tables.specs.Tables.{Cells, Only}
 use Rattle.layout.specs.Layout.{STARTS-NEXT, ENDS-NEXT, JOINS}
 use Rattle.layout.specs.Tables.{Threaded}
-use Rattle.walking.specs.Runs.{along, nextStarter, nextEnder, Real, ListedFrom}
-use Rattle.walking.specs.Walking.{Sized}
+use Rattle.walking.specs.steps.Runs.{along, nextStarter, nextEnder, Real, ListedFrom}
+use Rattle.walking.specs.steps.Walking.{Sized}
 use Rattle.walking.proofs.NextSlips.{start-short}
 
 module _ (next : ℕ → ℕ) where

@@ -20,8 +20,8 @@ use Rattle.words.proofs.Picks.{those-same}
 use Rattle.greedy.specs.Joins.{Join, join, rightOf, leftOf, lastOf}
 use Rattle.greedy.proofs.Takes.{rightOf-append}
 use Rattle.greedy.proofs.Scans as S
-use Rattle.walking.specs.Runs.{mark, waitingIn}
-use Rattle.walking.specs.Walking.{partnerIn, Waits}
+use Rattle.walking.specs.steps.Runs.{mark, waitingIn}
+use Rattle.walking.specs.steps.Walking.{partnerIn, Waits}
 
 -- the search
 module _ (right : List ℕ) where

@@ -12,9 +12,9 @@ use Rattle.greedy.specs.Joins.{Join}
 use Rattle.greedy.proofs.Scans as S
 use Rattle.layout.specs.Layout.{STARTS, ENDS, JOINS}
 use Rattle.layout.specs.Staging.{joinsIn}
-use Rattle.walking.specs.Runs.{nextStarter, nextEnder, startersFrom, startersAt, endersFrom, endersAt, Real, ListedFrom}
-use Rattle.walking.specs.Marks.{Marks}
-use Rattle.walking.specs.Walking.{Sized, Searches, FoundPartner, JoinsMade, Offers, Visits}
+use Rattle.walking.specs.steps.Runs.{nextStarter, nextEnder, startersFrom, startersAt, endersFrom, endersAt, Real, ListedFrom}
+use Rattle.walking.specs.steps.Marks.{Marks}
+use Rattle.walking.specs.steps.Walking.{Sized, Searches, FoundPartner, JoinsMade, Offers, Visits}
 use Rattle.walking.proofs.RunLaws.{listed-first, listed-next, listed-real, sized-kept, ender-kept, starter-kept}
 use Rattle.walking.proofs.ScanLaws.{MarksOf, waiting-twice, scan-waiting}
 use Rattle.walking.proofs.MarkLaws.{right-mark}

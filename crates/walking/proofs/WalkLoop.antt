@@ -26,8 +26,8 @@ use Rattle.layout.specs.Layout.{LEVEL, JOINS}
 use Rattle.layout.specs.Tables.{cell, members}
 use Rattle.layout.specs.Numbered.{patternsIn}
 use Rattle.layout.specs.Staging.{keptIn, joinsIn}
-use Rattle.walking.specs.Marks.{Marks}
-use Rattle.walking.specs.Walking.{JoinsMade, Walkable, RowAsks, nodesAt, rows, rowWalked, Fresh, Walked}
+use Rattle.walking.specs.steps.Marks.{Marks}
+use Rattle.walking.specs.steps.Walking.{JoinsMade, Walkable, RowAsks, nodesAt, rows, rowWalked, Fresh, Walked}
 use Rattle.walking.proofs.MarkLaws.{marks-none}
 use Rattle.walking.proofs.JoinCells.{joins-length}
 use Rattle.walking.proofs.RowLaws.{rows-nodes}

@@ -31,8 +31,8 @@ use Rattle.layout.specs.Numbered.{patternsIn, Numbered, SameBelow}
 use Rattle.layout.specs.Staging.{keptIn}
 use Rattle.layout.proofs.Heads.{threaded-kept}
 use Rattle.layout.proofs.Frames.{only-kept, members-kept, patterns-kept, numbered-kept}
-use Rattle.walking.specs.Runs.{along, nextStarter, nextEnder, startersAt, endersAt, Real, ListedFrom}
-use Rattle.walking.specs.Walking.{Sized, Walkable}
+use Rattle.walking.specs.steps.Runs.{along, nextStarter, nextEnder, startersAt, endersAt, Real, ListedFrom}
+use Rattle.walking.specs.steps.Walking.{Sized, Walkable}
 use Rattle.walking.proofs.NextSlips.{start-short}
 use Rattle.walking.proofs.RunLaws.{threaded-along, listed-is}
 

@@ -1,4 +1,4 @@
-// The walk of document 01 over the tables of the automaton in the lent work area: it makes the joins. Neighbours, overlaps and the two ends
+// The walk of the rules over the tables of the automaton in the lent work area: it makes the joins. Neighbours, overlaps and the two ends
 // of each chain stand in lists of 200 marks: the mark of slip i is the one at i - 1, and 0 means none.
 ghost use mathlib.Core.Path.{_≡_};
 ghost use mathlib.Core.List.{_∷_, _++_, []};
@@ -9,8 +9,8 @@ ghost use Rattle.trays.specs.Limits.{maxSlips};
 ghost use Rattle.greedy.specs.Joins.{join};
 ghost use Rattle.greedy.specs.steps.Scans as S;
 ghost use Rattle.layout.specs.Staging.{joinsIn};
-ghost use Rattle.walking.specs.Runs as R;
-ghost use Rattle.walking.specs.Walking as W;
+ghost use Rattle.walking.specs.steps.Runs as R;
+ghost use Rattle.walking.specs.steps.Walking as W;
 
 // The mark of slip `i`.
 fn mark_of(marks: &[u16], i: usize) -> usize

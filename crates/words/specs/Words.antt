@@ -47,7 +47,7 @@ common [] ys = 0
 common (x ∷ xs) [] = 0
 common (x ∷ xs) (y ∷ ys) = elim (eqb x y) [ true ↦ suc (common xs ys) | false ↦ 0 ]
 
--- Document 01, overlap: the longest string that ends the one and begins the other, perhaps a whole slip, perhaps empty.
+-- Rules, overlap: the longest string that ends the one and begins the other, perhaps a whole slip, perhaps empty.
 abbrev pub overlap : List ℕ → List ℕ → ℕ
 overlap [] ys = 0
 overlap (x ∷ xs) ys = elim (begins (x ∷ xs) ys) [ true ↦ suc (length xs) | false ↦ overlap xs ys ]

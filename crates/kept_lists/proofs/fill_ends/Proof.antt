@@ -1,6 +1,6 @@
 -- Invariant: the list of each node in ENDS holds the kept members from the j-th on that properly end with it, ascending; no cell below ENDS has
 -- changed.
-use Rattle.kept_lists.specs.KeptLists.{endings, ListedTo}
+use Rattle.kept_lists.specs.steps.KeptLists.{endings, ListedTo}
 use Rattle.kept_lists.proofs.SideLoop.{listing-start, listing-before, listing-more, listing-all}
 use borrow.Author.Needs.{needs}
 use Rattle.kept_lists.proofs.fill_ends.Statement.{statement}

@@ -1,5 +1,5 @@
 -- Invariant: the list of each node in STARTS holds the kept members from the j-th on that begin with it, ascending; no cell below STARTS has changed.
-use Rattle.kept_lists.specs.KeptLists.{beginnings, ListedTo}
+use Rattle.kept_lists.specs.steps.KeptLists.{beginnings, ListedTo}
 use Rattle.kept_lists.proofs.SideLoop.{listing-start, listing-before, listing-more, listing-all}
 use borrow.Author.Needs.{needs}
 use Rattle.kept_lists.proofs.fill_starts.Statement.{statement}

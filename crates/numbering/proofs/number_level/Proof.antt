@@ -4,7 +4,7 @@ use native.Mathlib.Omega.{arith}
 use borrow.Author.Needs.{needs}
 use Prim.Native.Nat.{_≤_, _-_}
 use mathlib.Core.Logic.{⊎-elim}
-use Rattle.numbering.specs.Stages.{AtStage}
+use Rattle.numbering.specs.steps.Stages.{AtStage}
 use Rattle.numbering.proofs.StageLoops.{level-slip, level-start, level-letterable, level-letter, level-short, level-few, level-room, level-done}
 use Rattle.numbering.proofs.number_level.Statement.{statement}
 use Rattle.numbering.proofs.number_level.Tie as tie

@@ -2,7 +2,7 @@
 use borrow.Author.Needs.{needs}
 use Prim.Native.Nat.{_≤_, _-_}
 use Rattle.trays.specs.Limits.{maxSlip}
-use Rattle.numbering.specs.Stages.{AtStage}
+use Rattle.numbering.specs.steps.Stages.{AtStage}
 use Rattle.numbering.proofs.StageLoops.{nodes-begin, nodes-next, nodes-all}
 use Rattle.numbering.proofs.number_nodes.Statement.{statement}
 use Rattle.numbering.proofs.number_nodes.Tie as tie

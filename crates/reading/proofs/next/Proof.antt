@@ -52,7 +52,7 @@ use Rattle.files.proofs.Reader as T
 use Rattle.files.proofs.Reader.Laws as T′
 use Rattle.files.proofs.Line as S
 use Rattle.files.proofs.Line.Laws as S′
-use Rattle.lines.specs.Parsed.{lineAt}
+use Rattle.lines.specs.steps.Parsed.{lineAt}
 use Rattle.lines.proofs.line_at as parser
 use Rattle.lines.proofs.line_at.Symbol as parser-def
 use Rattle.lines.proofs.line_at.Met as parser-thm

@@ -17,8 +17,8 @@ use Rattle.trays.specs.Slips.{slipsOf, numbers}
 use Rattle.matching.specs.Occurrences as O
 use Rattle.matching.specs.Occurrences.{occurrences}
 use Rattle.layout.specs.Tables.{cell, members}
-use Rattle.outputs.specs.Outputs.{Told}
-use Rattle.scanning.specs.Scanning.{Standing, scanIn}
+use Rattle.outputs.specs.steps.Outputs.{Told}
+use Rattle.scanning.specs.steps.Scanning.{Standing, scanIn}
 use Rattle.layout.specs.Layout.{SCAN}
 use Rattle.answers.specs.declared.Found.{Found}
 use Rattle.searching.specs.declared.Begun.{Begun}

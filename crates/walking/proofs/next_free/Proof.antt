@@ -1,6 +1,6 @@
 -- Invariant: every slip of the list from `from` up to l has a right neighbour, so those that have none are found from l on.
 use lib.ListN.{length}
-use Rattle.walking.specs.Runs.{endersFrom}
+use Rattle.walking.specs.steps.Runs.{endersFrom}
 use Rattle.walking.proofs.FreeLoop.{Searching, free-start, free-real, free-within, free-found, free-turn, free-less, free-none}
 use borrow.Author.Needs.{needs}
 use Rattle.walking.proofs.next_free.Statement.{statement}

@@ -25,8 +25,8 @@ use Rattle.layout.specs.Layout.{LEVEL, STARTS, STARTS-NEXT, ENDS, ENDS-NEXT, JO
 use Rattle.layout.specs.Tables.{cell, members, StartsIs, EndsIs}
 use Rattle.layout.specs.Numbered.{patternsIn, Numbered}
 use Rattle.layout.specs.Staging.{keptIn, joinsIn, Neighbours}
-use Rattle.walking.specs.Runs.{nextStarter, nextEnder, endersFrom, mark, waitingIn, Real, ListedFrom}
-use Rattle.walking.specs.Marks.{chainEnds, Marks}
+use Rattle.walking.specs.steps.Runs.{nextStarter, nextEnder, endersFrom, mark, waitingIn, Real, ListedFrom}
+use Rattle.walking.specs.steps.Marks.{chainEnds, Marks}
 
 pub record Sized (es w : List ℕ) (d : ℕ) : Type 0 where
   pub room : workNeed ≤ length w
@@ -140,7 +140,7 @@ abbrev pub rowWalked : List ℕ → List ℕ → ℕ → ℕ → List ℕ → �
 rowWalked s es n k w d made =
     walkFrom (slipsOf s es) (keptIn w k) (those counted (nodesAt (patternsIn s es n w) (cell w LEVEL) d)) (joinsIn w made)
 
--- Document 01: two lists of 200 marks, each starting as none; so the overlaps. The lists of chain ends may hold anything.
+-- Rules: two lists of 200 marks, each starting as none; so the overlaps. The lists of chain ends may hold anything.
 pub record Fresh (left right overs first last : List ℕ) : Type 0 where
   pub left-none : left ≡ replicate maxSlips 0
   pub right-none : right ≡ replicate maxSlips 0

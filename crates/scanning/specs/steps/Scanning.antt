@@ -25,7 +25,7 @@ use Rattle.matching.specs.Occurrences.{endingOf}
 use Rattle.layout.specs.Layout.{TWIN, OUT, SCAN}
 use Rattle.layout.specs.Tables.{cell, members, patterns, Threaded}
 use Rattle.layout.specs.Numbered.{patternsIn, SameBelow}
-use Rattle.outputs.specs.Outputs.{Told}
+use Rattle.outputs.specs.steps.Outputs.{Told}
 use Rattle.scanning.specs.declared.TextCounts.{TextCounts}
 use Rattle.scanning.specs.declared.Report.{Report}
 use Rattle.scanning.specs.declared.Scan.{Scan}

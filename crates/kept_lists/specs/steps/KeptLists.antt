@@ -28,7 +28,7 @@ use Rattle.layout.specs.Layout.{FAIL, HEAD, MARK, KEPT, STARTS, STARTS-NEXT, EN
 use Rattle.layout.specs.Tables.{cell, members, StartsIs, EndsIs}
 use Rattle.layout.specs.Numbered.{patternsIn, Automaton, SameBelow, Headed}
 use Rattle.layout.specs.Staging.{keptIn}
-use Rattle.heads.specs.Heads.{Lists}
+use Rattle.heads.specs.steps.Heads.{Lists}
 
 -- the sides of a slip, and the tables of their lists
 pub data Side : Type 0 where
