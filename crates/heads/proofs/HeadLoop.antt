@@ -15,17 +15,18 @@ use Rattle.words.proofs.Orders.{same-is, same-at}
 use Rattle.words.proofs.Members.{those-yes, those-no, in-those}
 use Rattle.trays.specs.Slips.{slipsOf, slip}
 use Rattle.tables.specs.Tables.{Got, Filled}
-use Rattle.tables.proofs.Tables.{table-at, filled-at, replicate-at}
+use Rattle.tables.proofs.Tables.{table-at}
 use Rattle.matching.specs.Nodes.{string, IsNode, Num}
 use Rattle.matching.proofs.NodeLaws.{node-one}
 use Rattle.layout.specs.Layout.{MEMBERS, HEAD, TWIN}
 use Rattle.layout.specs.Tables.{cell, members, owners}
 use Rattle.layout.specs.Numbered.{patternsIn, Automaton, SameBelow}
 use Rattle.layout.proofs.Frames.{members-kept, automaton-kept}
+use Rattle.layout.proofs.Heads.{members-length, num-most}
 use Rattle.heads.specs.steps.Heads.{Among, CanPush, Pushed, Lists, HeadsFilled}
 use Rattle.heads.proofs.Threading.{drop-here, drop-later, push-lists}
-use Rattle.heads.proofs.Keeping.{kept-trans, kept-filled, kept-pushed}
-use Rattle.heads.proofs.MemberNodes.{Member, got-member, members-length, node-num, node-most, num-most}
+use Rattle.heads.proofs.Keeping.{kept-trans, kept-filled, kept-pushed, cleared}
+use Rattle.heads.proofs.MemberNodes.{Member, got-member, node-num, node-most}
 
 pub record Heading (s es : List ℕ) (n count : ℕ) (w : List ℕ) (j : ℕ) : Type 0 where
   pub automaton : Automaton s es n count w
@@ -44,10 +45,8 @@ module _ {s es : List ℕ} {n count : ℕ} {w : List ℕ} where
       record {
         automaton = B;
         upto = omega arith;
-        lists = λ v m.
-            let l = num-most N v m in
-            rw (drop-of-length-le (members w′ n) {i = n} (rw (members-length N) (omega arith)))
-            (filled-at v f (omega arith) ∙ sym (replicate-at (count + 1) v 0 (omega arith)));
+        lists =
+            rw (drop-of-length-le (members w′ n) {i = n} (rw (members-length N) (omega arith))) (λ v m. cleared f (omega (arith, num-most N v m)));
       }
 
   pub heading-place : {j : ℕ} → Heading s es n count w j → 0 < j → MEMBERS + (j - 1) < length w

@@ -20,12 +20,13 @@ use Rattle.trays.specs.Slips.{spanOf}
 use Rattle.trays.specs.declared.Span.{Span}
 use Rattle.trays.proofs.Accepted.{accepted-tells, span-rises, span-fits, span-slip}
 use Rattle.tables.specs.Tables.{Got}
-use Rattle.tables.proofs.Tables.{table-length, table-at}
+use Rattle.tables.proofs.Tables.{table-at}
 use Rattle.matching.specs.Nodes.{string, IsNode, Num}
 use Rattle.matching.proofs.NodeLaws.{node-root}
 use Rattle.layout.specs.Layout.{MEMBERS, AT}
 use Rattle.layout.specs.Tables.{cell, members}
 use Rattle.layout.specs.Numbered.{patternsIn, Numbered}
+use Rattle.layout.proofs.Heads.{members-length}
 use Rattle.heads.specs.steps.Heads.{Among}
 
 module _ (s es : List ℕ) (acc : trayFault s es .number ≡ 0) where
@@ -78,12 +79,9 @@ module _ {s es : List ℕ} {n count : ℕ} {w : List ℕ} (N : Numbered s es n c
         fits = omega (arith, span-fits s es acc i h l, accepted-tells s es acc .small);
       }
 
-  pub members-length : length (members w n) ≡ n
-  members-length = table-length w MEMBERS n (omega (arith, N .few-members, N .room))
-
   pub got-member : {j i : ℕ} → Got w MEMBERS j i → j < n → Member s es n w i
   got-member {j} {i} g h =
-      in-member i (rw (sym (g .is ∙ sym (table-at w MEMBERS n j h))) at (getD-in 0 (members w n) j (rw members-length h)))
+      in-member i (rw (sym (g .is ∙ sym (table-at w MEMBERS n j h))) at (getD-in 0 (members w n) j (rw (members-length N) h)))
 
   -- the node of a whole member
   pub member-node : {i : ℕ} → Member s es n w i → IsNode (patternsIn s es n w) (cell w AT (endOf es i - 1)) (slip (slipsOf s es) i)
@@ -96,9 +94,6 @@ module _ {s es : List ℕ} {n count : ℕ} {w : List ℕ} (N : Numbered s es n c
 
   pub node-most : {v : ℕ} {x : List ℕ} → IsNode (patternsIn s es n w) v x → v ≤ count
   node-most v = omega (arith, v .inside, N .all-nodes)
-
-  pub num-most : (v : ℕ) → Num (patternsIn s es n w) v → v ≤ count
-  num-most v m = omega (arith, m .inside, N .all-nodes)
 
 -- what `node_of` asks and gives
 module _ {s es : List ℕ} {n count : ℕ} {w : List ℕ} {i : ℕ} (a : Among s es n count w i) where

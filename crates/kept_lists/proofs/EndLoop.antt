@@ -30,9 +30,10 @@ use Rattle.matching.proofs.NodeLaws.{node-root, node-some}
 use Rattle.layout.specs.Layout.{AT, FAIL, LEVEL, KEPT, ENDS, ENDS-NEXT}
 use Rattle.layout.specs.Tables.{cell}
 use Rattle.layout.specs.Numbered.{patternsIn, Numbered}
+use Rattle.layout.proofs.Heads.{num-most}
 use Rattle.kept_lists.specs.steps.KeptLists.{endings, Listing, ListedTo}
 use Rattle.heads.specs.steps.Heads.{CanPush, Pushed}
-use Rattle.heads.proofs.MemberNodes.{Member, member-node, node-num, node-most, num-most}
+use Rattle.heads.proofs.MemberNodes.{Member, member-node, node-num, node-most}
 use Rattle.kept_lists.proofs.SideLoop.{OneMore, Adding, added}
 use Rattle.kept_lists.proofs.SideLoop.{adding-none, adding-skip, adding-can, adding-more, adding-all}
 

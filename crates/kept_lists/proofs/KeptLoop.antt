@@ -23,7 +23,8 @@ use Rattle.layout.specs.Numbered.{patternsIn, SameBelow}
 use Rattle.layout.proofs.Frames.{kept-lower, members-kept, patterns-kept}
 use Rattle.kept_lists.specs.steps.KeptLists.{Marked, Judged, KeptFilled}
 use Rattle.heads.proofs.Keeping.{kept-put}
-use Rattle.heads.proofs.MemberNodes.{got-member, members-length, node-most, num-most}
+use Rattle.layout.proofs.Heads.{members-length, num-most}
+use Rattle.heads.proofs.MemberNodes.{got-member, node-most}
 use Rattle.layout.proofs.Heads.{headed-kept}
 
 pub marked-kept : {s es : List ℕ} {n count : ℕ} {w w′ : List ℕ} → SameBelow KEPT w w′ → Marked s es n count w → Marked s es n count w′

@@ -3,15 +3,15 @@
 --   got-kept, drop-got, kept-apart           == the member at a place of KEPT, and those behind it
 --   staged-kept                              == what is written behind KEPT leaves them as they are
 use mathlib.Core.Path.{_≡_, refl, sym, ap, _∙_}
-use mathlib.Core.Bool.{not}
 use mathlib.Core.List.{List, _∷_}
 use Prim.Native.Nat.{ℕ, _+_, _≤_, _<_}
 use native.Mathlib.Omega.{arith}
 use lib.ListN.{length, getD, drop}
-use Rattle.words.proofs.Members.{In, Asc, in-those, asc-those}
+use Rattle.words.proofs.Members.{In, Asc}
 use Rattle.words.proofs.Picks.{getD-in}
 use Rattle.trays.specs.Slips.{slipsOf, startOf, endOf}
-use Rattle.trays.specs.Aside.{isAside, kept}
+use Rattle.trays.specs.Aside.{kept}
+use Rattle.trays.proofs.Kept.{kept-asc, in-kept}
 use Rattle.tables.specs.Tables.{Got}
 use Rattle.tables.proofs.Tables.{table-at, table-length, table-same}
 use Rattle.layout.specs.Layout.{HEAD, KEPT, STARTS}
@@ -28,15 +28,10 @@ module _ {s es : List ℕ} {n k count : ℕ} {w : List ℕ} (S : KeptFound s es 
   kept-length = table-length w KEPT k (omega (arith, S .few-kept, S .automaton .branched .numbered .room))
 
   pub kept-member : (i : ℕ) → In i (keptIn w k) → Member s es n w i
-  kept-member i m =
-      let ss = slipsOf s es in
-      let M = members w n in
-      in-member (S .automaton .branched .numbered) i (in-those (λ i. not (isAside ss M i)) M (rw (S .kept-are) at m) .0)
+  kept-member i m = in-member (S .automaton .branched .numbered) i (in-kept (slipsOf s es) (members w n) (rw (S .kept-are) at m) .0)
 
   pub kept-ascending : Asc _<_ (keptIn w k)
-  kept-ascending =
-      rw (S .kept-are)
-      (asc-those _<_ (λ i. not (isAside (slipsOf s es) (members w n) i)) (members w n) (S .automaton .branched .numbered .ascending))
+  kept-ascending = rw (S .kept-are) (kept-asc (slipsOf s es) (members w n) (S .automaton .branched .numbered .ascending))
 
   module _ {j i : ℕ} (g : Got w KEPT j i) (h : j < k) where
     pub got-is : i ≡ getD (keptIn w k) j 0

@@ -8,15 +8,16 @@ use native.Mathlib.Decide.{ℕ-discrete}
 use native.Mathlib.Omega.{arith}
 use lib.ListN.{length, replicate}
 use Rattle.tables.specs.Tables.{Got, Put, Room, Filled}
-use Rattle.tables.proofs.Tables.{put-here, put-other, filled-at, replicate-at}
+use Rattle.tables.proofs.Tables.{put-here, put-other}
 use Rattle.matching.specs.Nodes.{nodes, Num}
 use Rattle.layout.specs.Layout.{FAIL, MARK}
 use Rattle.layout.specs.Tables.{cell}
 use Rattle.layout.specs.Numbered.{patternsIn, Numbered, SameBelow, Headed}
 use Rattle.layout.proofs.Frames.{patterns-kept}
 use Rattle.kept_lists.specs.steps.KeptLists.{MarksFilled}
-use Rattle.heads.proofs.Keeping.{kept-trans, kept-filled, kept-put}
-use Rattle.heads.proofs.MemberNodes.{node-most, num-most}
+use Rattle.heads.proofs.Keeping.{kept-trans, kept-filled, kept-put, cleared}
+use Rattle.layout.proofs.Heads.{num-most}
+use Rattle.heads.proofs.MemberNodes.{node-most}
 use Rattle.layout.proofs.Heads.{headed-kept}
 
 pub record Marking (s es : List ℕ) (n count : ℕ) (w : List ℕ) (v : ℕ) : Type 0 where
@@ -41,7 +42,7 @@ module _ {s es : List ℕ} {n count : ℕ} {w : List ℕ} where
         into = λ x m l. absurd (omega (arith, m .some));
         back = λ u l e.
             let r : u < count + 1 = omega (arith, N .all-nodes) in
-            absurd (omega (arith, e, filled-at u f r, replicate-at (count + 1) u 0 r));
+            absurd (omega (arith, e, cleared f r));
       }
 
   module _ {v : ℕ} (M : Marking s es n count w v) (h : v ≤ count) where

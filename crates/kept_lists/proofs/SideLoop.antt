@@ -21,7 +21,6 @@ use Rattle.words.proofs.Members.{In, in-those}
 use Rattle.trays.specs.Limits.{maxLetters, workNeed}
 use Rattle.trays.specs.Slips.{slipsOf, slip, startOf, endOf}
 use Rattle.tables.specs.Tables.{Got, Filled}
-use Rattle.tables.proofs.Tables.{filled-at, replicate-at}
 use Rattle.matching.specs.Nodes.{string, Num}
 use Rattle.matching.proofs.NodeLaws.{node-some, node-one}
 use Rattle.layout.specs.Layout.{KEPT, STARTS}
@@ -29,11 +28,12 @@ use Rattle.layout.specs.Tables.{cell}
 use Rattle.layout.specs.Numbered.{patternsIn, Numbered, SameBelow}
 use Rattle.layout.specs.Staging.{keptIn}
 use Rattle.layout.proofs.Frames.{kept-lower, members-kept}
+use Rattle.layout.proofs.Heads.{num-most}
 use Rattle.kept_lists.specs.steps.KeptLists.{Side, beginnings, endings, has, place, heads, nexts, atSide, KeptFound, Listing, ListedTo, SideFilled}
 use Rattle.heads.specs.steps.Heads.{CanPush, Pushed, Lists}
 use Rattle.heads.proofs.Threading.{front, those-front, in-front, push-lists}
-use Rattle.heads.proofs.Keeping.{kept-refl, kept-trans, kept-filled, kept-pushed}
-use Rattle.heads.proofs.MemberNodes.{Member, num-most}
+use Rattle.heads.proofs.Keeping.{kept-refl, kept-trans, kept-filled, kept-pushed, cleared}
+use Rattle.heads.proofs.MemberNodes.{Member}
 use Rattle.kept_lists.proofs.KeptMembers.{kept-length, got-kept, drop-got, kept-apart, kept-same, staged-kept}
 
 tables-fit : (a : Side) → (STARTS ≤ heads a) × (heads a + maxLetters < nexts a) × (nexts a + maxLetters ≤ workNeed)
@@ -207,16 +207,14 @@ module _ {a : Side} {s es : List ℕ} {n k count : ℕ} {w : List ℕ} where
       ListedTo a s es n k count w′ k w′
   listing-start {w′} S f =
       let T = staged-kept (kept-lower STARTS (tables-fit a .0) (kept-filled f)) S in
-      let cleared : (v : ℕ) → Num (patternsIn s es n w′) v → cell w′ (heads a) v ≡ 0 =
-      λ v m.
-      let l = num-most (T .automaton .branched .numbered) v m in
-      filled-at v f (omega arith) ∙ sym (replicate-at (count + 1) v 0 (omega arith)) in
       record {
         listing =
             record {
               staged = T;
               upto = omega arith;
-              lists = rw (drop-of-length-le (keptIn w′ k) {i = k} (rw (kept-length T) (omega arith))) cleared;
+              lists =
+                  rw (drop-of-length-le (keptIn w′ k) {i = k} (rw (kept-length T) (omega arith)))
+                  (λ v m. cleared f (omega (arith, num-most (T .automaton .branched .numbered) v m)));
             };
         below = kept-refl;
       }

@@ -17,9 +17,8 @@ use Rattle.layout.specs.Staging.{keptIn}
 use Rattle.layout.proofs.Frames.{kept-lower, members-kept}
 use Rattle.kept_lists.specs.steps.KeptLists.{beginnings, endings, atSide, SideIs, KeptFound, MarksFilled, KeptFilled, SideFilled, ListsFilled}
 use Rattle.heads.specs.steps.Heads.{HeadsFilled}
-use Rattle.layout.proofs.Heads.{threaded-kept}
+use Rattle.layout.proofs.Heads.{threaded-kept, num-most}
 use Rattle.heads.proofs.Keeping.{kept-trans}
-use Rattle.heads.proofs.MemberNodes.{num-most}
 use Rattle.kept_lists.proofs.KeptMembers.{kept-member, kept-same}
 
 -- what is written behind STARTS-NEXT leaves its lists as they are

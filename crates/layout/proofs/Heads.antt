@@ -1,7 +1,7 @@
 -- Members and their nodes, in the work area of an automaton with HEAD and TWIN.
 --   threaded-..   == a list threaded through a table: its first number, another table with the same cells
 --   member-..     == a member has a letter, and a number up to the most slips
---   node-most     == the number of a node is at most count
+--   num-most      == the number of a node is at most count
 --   headed-kept   == what is written behind TWIN leaves HEAD and TWIN as they are
 use mathlib.Core.Path.{_≡_, refl}
 use mathlib.Core.List.{List, [], _∷_, List·Memᴰ·head, List·Memᴰ·tail}
@@ -54,8 +54,8 @@ module _ {s es : List ℕ} {n count : ℕ} {w : List ℕ} (N : Numbered s es n c
   pub members-length : length (members w n) ≡ n
   members-length = table-length w MEMBERS n (omega (arith, N .few-members, N .room))
 
-  pub node-most : (v : ℕ) → Num (patternsIn s es n w) v → v ≤ count
-  node-most v m = omega (arith, m .inside, N .all-nodes)
+  pub num-most : (v : ℕ) → Num (patternsIn s es n w) v → v ≤ count
+  num-most v m = omega (arith, m .inside, N .all-nodes)
 
 pub headed-kept : {s es : List ℕ} {n count : ℕ} {w w′ : List ℕ} → SameBelow MARK w w′ → Headed s es n count w → Headed s es n count w′
 headed-kept {s} {es} {n} {count} {w} {w′} k H =
@@ -67,7 +67,7 @@ headed-kept {s} {es} {n} {count} {w} {w′} k H =
       automaton = automaton-kept (kept-lower HEAD (omega arith) k) (H .automaton);
       heads =
           rw f (λ v m.
-          threaded-kept k HEAD v TWIN (λ r. r) (owners ss (members w n) (string ps v)) (omega (arith, node-most N v m, N .few-nodes))
+          threaded-kept k HEAD v TWIN (λ r. r) (owners ss (members w n) (string ps v)) (omega (arith, num-most N v m, N .few-nodes))
           (λ r q. omega (arith, member-few N r (in-those (λ i. same (slip ss i) (string ps v)) (members w n) q .0)))
           (H .heads v m));
     }

@@ -24,7 +24,7 @@ use Rattle.layout.specs.Numbered.{patternsIn, Numbered, SameBelow, Headed}
 use Rattle.layout.proofs.Frames.{only-kept, kept-lower, members-kept}
 use Rattle.outputs.specs.steps.Outputs.{OutOf, TallyOf, Telling, Tallied, OutputsFilled}
 use Rattle.outputs.proofs.Outs.{by-list, ending-most, ending-link, ending-root, out-root, out-here, out-next}
-use Rattle.layout.proofs.Heads.{threaded-head, member-some, member-letters, members-length, node-most, headed-kept}
+use Rattle.layout.proofs.Heads.{threaded-head, member-some, member-letters, members-length, num-most, headed-kept}
 
 -- one node
 module _ {s es : List ℕ} {n count : ℕ} {w : List ℕ} {v : ℕ} (T : Telling s es n count w v) where
@@ -44,7 +44,7 @@ module _ {s es : List ℕ} {n count : ℕ} {w : List ℕ} {v : ℕ} (T : Telling
   numbered = T .owning .headed .automaton .branched .numbered
 
   pub telling-fail : FAIL + v < length w
-  telling-fail = omega (arith, node-most numbered v node, numbered .few-nodes, numbered .room)
+  telling-fail = omega (arith, num-most numbered v node, numbered .few-nodes, numbered .room)
 
   module _ {f : ℕ} (g : Got w FAIL v f) where
     link : IsNode ps f (fail ps (string ps v))
@@ -54,7 +54,7 @@ module _ {s es : List ℕ} {n count : ℕ} {w : List ℕ} {v : ℕ} (T : Telling
     below = node-fails ps v node link
 
     few : f ≤ 2000
-    few = omega (arith, below, node-most numbered v node, numbered .few-nodes)
+    few = omega (arith, below, num-most numbered v node, numbered .few-nodes)
 
     pub telling-head : HEAD + f < length w
     telling-head = omega (arith, few, numbered .room)
@@ -152,7 +152,7 @@ module _ {s es : List ℕ} {n count : ℕ} {w : List ℕ} (H : Headed s es n cou
       record {
         told = record {
           headed = headed-kept (kept-lower MARK (omega arith) (F .kept)) (F .headed);
-          outs = rw e (λ u m. F .outs u m (omega (arith, node-most N u m)));
+          outs = rw e (λ u m. F .outs u m (omega (arith, num-most N u m)));
           tallies = rw e (λ u l. F .tallies u (omega (arith, N .all-nodes)));
         };
         below = record { same = F .kept .same ∙ k .same; cells = λ x l. F .kept .cells x l ∙ k .cells x l };

@@ -15,7 +15,7 @@ use Rattle.layout.specs.Tables.{cell, members, owners, Threaded}
 use Rattle.layout.specs.Numbered.{patternsIn}
 use Rattle.outputs.specs.steps.Outputs.{Owning}
 use Rattle.outputs.proofs.Outs.{by-list, length-those}
-use Rattle.layout.proofs.Heads.{member-few, member-some, members-length, node-most}
+use Rattle.layout.proofs.Heads.{member-few, member-some, members-length, num-most}
 
 pub record Counting (s es : List ℕ) (n count : ℕ) (w : List ℕ) (v i k : ℕ) : Type 0 where
   pub owning : Owning s es n count w v
@@ -29,7 +29,7 @@ module _ {s es : List ℕ} {n count : ℕ} {w : List ℕ} {v : ℕ} (O : Owning 
   pub owners-head : HEAD + v < length w
   owners-head =
       let N = O .headed .automaton .branched .numbered in
-      omega (arith, node-most N v (O .node), N .few-nodes, N .room)
+      omega (arith, num-most N v (O .node), N .few-nodes, N .room)
 
   pub counting-start : {i : ℕ} → Got w HEAD v i → Counting s es n count w v i 0
   counting-start g =

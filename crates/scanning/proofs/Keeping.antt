@@ -23,7 +23,7 @@ use Rattle.layout.specs.Numbered.{patternsIn, SameBelow}
 use Rattle.layout.proofs.Frames.{kept-lower, members-kept}
 use Rattle.links.proofs.Steps.{node-within, state-none}
 use Rattle.outputs.specs.steps.Outputs.{Told}
-use Rattle.layout.proofs.Heads.{threaded-same, member-few, node-most, headed-kept}
+use Rattle.layout.proofs.Heads.{threaded-same, member-few, num-most, headed-kept}
 use Rattle.scanning.specs.declared.Scan.{Scan}
 use Rattle.scanning.specs.steps.Scanning.{Able, Pending, Standing, scanIn, CanKeep, Keeps, fresh, ScanStarted}
 use Rattle.layout.specs.Layout.{SCAN}
@@ -101,7 +101,7 @@ told-kept {n = n} {w = w} {w′} k T =
     let f : members w′ n ≡ members w n = members-kept n (omega (arith, N .few-members)) k in
     record {
       headed = headed-kept (kept-lower MARK (omega arith) k) (T .headed);
-      outs = rw f (λ v m. rw (k .cells (OUT + v) (omega (arith, node-most N v m, N .few-nodes))) (T .outs v m));
+      outs = rw f (λ v m. rw (k .cells (OUT + v) (omega (arith, num-most N v m, N .few-nodes))) (T .outs v m));
       tallies = rw f (λ v l. k .cells (TALLY + v) (omega (arith, N .all-nodes, N .few-nodes)) ∙ T .tallies v l);
     }
 
@@ -129,7 +129,7 @@ module _ {s es t : List ℕ} {n count : ℕ} {w w′ : List ℕ} (k : SameBelow 
                   rw (twin slip (R .among slip (List·Memᴰ·head refl)))
                   (threaded-same (cell w TWIN) (cell w′ TWIN) (cell w TWIN slip) (R .others) (λ i m. twin i (R .among i (List·Memᴰ·tail m))) (R .threaded));
               among = R .among;
-              list-is = rw (k .cells (OUT + node) (omega (arith, node-most N node (R .is-node), N .few-nodes))) (R .list-is);
+              list-is = rw (k .cells (OUT + node) (omega (arith, num-most N node (R .is-node), N .few-nodes))) (R .list-is);
             };
       }
 

@@ -22,7 +22,7 @@ use Rattle.layout.specs.Tables.{cell, members, owners, Threaded}
 use Rattle.layout.specs.Numbered.{patternsIn, Numbered}
 use Rattle.outputs.specs.steps.Outputs.{longestOwned, OutOf, Told}
 use Rattle.outputs.proofs.Outs.{by-list, owned-here, owned-past, ending-out, ending-root}
-use Rattle.layout.proofs.Heads.{member-few, member-some, member-letters, node-most}
+use Rattle.layout.proofs.Heads.{member-few, member-some, member-letters, num-most}
 use Rattle.scanning.specs.steps.Scanning.{Reporting, Pending, AtNode}
 
 owned-owned : (ss : List (List ℕ)) (M t : List ℕ) → 1 ≤ length (longestOwned ss M t) → (i : ℕ) × (is : List ℕ) × (owners ss M (longestOwned ss M t) ≡ i ∷ is)
@@ -74,7 +74,7 @@ module _ {s es : List ℕ} {n count : ℕ} {w : List ℕ} (T : Told s es n count
     from-head : Pending ss M w v h (endingOf ss M (string ps v))
     from-head =
         record {
-          small = omega (arith, node-most numbered v m, numbered .few-nodes);
+          small = omega (arith, num-most numbered v m, numbered .few-nodes);
           none = λ z. absurd (first-some z);
           some = λ q.
               record {
@@ -123,7 +123,7 @@ module _ {s es : List ℕ} {n count : ℕ} {w : List ℕ} (T : Told s es n count
   reporting-room {slip = slip} R = omega (arith, member-few numbered slip (R .among slip (List·Memᴰ·head refl)), numbered .room)
 
   pub reporting-node : {node slip : ℕ} {xs : List ℕ} → Reporting ss M w node slip xs → AtNode s es n count w node
-  reporting-node {node} R = record { told = T; node = node-most numbered node (R .is-node) }
+  reporting-node {node} R = record { told = T; node = num-most numbered node (R .is-node) }
 
   -- the members behind one that is reported
   module _ {node slip twin : ℕ} {xs : List ℕ} (R : Reporting ss M w node slip xs) (g : Got w TWIN slip twin) where
@@ -133,7 +133,7 @@ module _ {s es : List ℕ} {n count : ℕ} {w : List ℕ} (T : Told s es n count
     pub twin-next : (twin ≡ 0 → ⊥) → Pending ss M w node twin (tailOf xs)
     twin-next z =
         record {
-          small = omega (arith, node-most numbered node (R .is-node), numbered .few-nodes);
+          small = omega (arith, num-most numbered node (R .is-node), numbered .few-nodes);
           none = λ e. absurd (z e);
           some = λ q. by-list (R .others)
               (λ e. absurd (z (g .is ∙ subst (Threaded (cell w TWIN) (cell w TWIN slip)) e (R .threaded))))

@@ -5,17 +5,14 @@
 -- The joins make chains of the kept slips, so they are fewer; their slips are kept slips, and an overlap is within its right slip. At one
 -- place of a text each slip ends at most once.
 use mathlib.Core.Path.{_≡_, refl}
-use mathlib.Core.Bool.{Bool}
 use mathlib.Core.List.{List, [], _∷_, map}
 use Prim.Native.Nat.{ℕ, suc, _+_, _-_, _*_, _≤_}
 use native.Mathlib.Nat.{mul-suc}
 use native.Mathlib.Omega.{arith}
 use lib.ListN.{length, take, length-append, length-map}
-use Rattle.words.specs.Lists.{each, those, upFrom, insert, inOrder}
-use Rattle.words.specs.Words.{ends}
-use Rattle.words.proofs.Tests.{by-test}
+use Rattle.words.specs.Lists.{each, upFrom}
 use Rattle.words.proofs.Runs.{length-upFrom}
-use Rattle.words.proofs.Members.{in-upFrom, those-yes, those-no}
+use Rattle.words.proofs.Members.{in-upFrom}
 use Rattle.words.proofs.Maps.{all-each}
 use Rattle.words.proofs.Sums.{sum, All, all-in, all-at, held-in}
 use Rattle.words.proofs.Overlaps.{overlapFor-fits}
@@ -30,9 +27,10 @@ use Rattle.greedy.specs.Composing.{whole, joinsOf}
 use Rattle.greedy.proofs.Chains.{Chain, wholeChain, Arc}
 use Rattle.greedy.proofs.Letters.{weight}
 use Rattle.greedy.proofs.Demand3.{composed}
-use Rattle.matching.specs.Occurrences.{Occurrence, occurrence, endingAt, firstHere, occurrences}
+use Rattle.matching.specs.Occurrences.{Occurrence, occurrence, endingAt, occurrences}
 use Rattle.matching.proofs.States.{few-moves}
 use Rattle.matching.proofs.Finds.{in-ending}
+use Rattle.outputs.proofs.Outs.{ending-most}
 use Rattle.composing.proofs.PiecesFit.{kept-real, kept-few, kept-small, legend-small}
 use Rattle.sheet_sizes.specs.Fits.{JoinFits, ComposeFits, OccurrenceFits, FindFits}
 use Rattle.sheet_sizes.proofs.Placed.{joins-rep, place-most}
@@ -85,29 +83,13 @@ module _ (s es : List ℕ) (acc : trayFault s es .number ≡ 0) where
         legend = legend-small s es acc;
         lengths = λ i p l. accepted-spanned s es acc .short i p (omega arith);
         places = λ i p l. omega (arith, legend-small s es acc, place-most s es acc i p (omega arith));
-        joins = all-in JoinFits (joinsOf (whole ss))
+        joins =
+            all-in JoinFits (joinsOf (whole ss))
             (λ j m. join-fits j (all-at (Arc (weight counted ss) K) (joinsOf (whole ss)) j (joins-rep s es acc .1 .arcs) m));
         count = joins-fewer;
       }
 
 -- occurrences: at each place at most one of each slip
-those-few : {A : Type 0} (t : A → Bool) (xs : List A) → length (those t xs) ≤ length xs
-those-few t [] = omega arith
-those-few t (x ∷ xs) =
-    by-test (t x)
-    (λ e. rw (those-yes t x xs e) (omega (arith, those-few t xs)))
-    (λ e. rw (those-no t x xs e) (omega (arith, those-few t xs)))
-
-insert-few : {A : Type 0} (lt : A → A → Bool) (x : A) (ys : List A) → length (insert lt x ys) ≤ suc (length ys)
-insert-few lt x [] = omega arith
-insert-few lt x (y ∷ ys) =
-    by-test (lt x y) (λ e. rw (e, insert) (omega arith)) λ e. by-test (lt y x)
-    (λ d. rw (e, d, insert) (omega (arith, insert-few lt x ys))) (λ d. rw (e, d, insert) (omega arith))
-
-inOrder-few : {A : Type 0} (lt : A → A → Bool) (xs : List A) → length (inOrder lt xs) ≤ length xs
-inOrder-few lt [] = omega arith
-inOrder-few lt (x ∷ xs) = omega (arith, insert-few lt x (inOrder lt xs), inOrder-few lt xs)
-
 each-few : {A B : Type 0} (f : A → List B) (n : ℕ) (xs : List A) → ((x : A) → length (f x) ≤ n) → length (each f xs) ≤ n * length xs
 each-few f n [] h = omega arith
 each-few f n (x ∷ xs) h =
@@ -124,9 +106,8 @@ module _ (ss : List (List ℕ)) (few : length ss ≤ maxSlips) (t : List ℕ) (s
   place-few : (e : ℕ) → length (at-place e) ≤ maxSlips
   unfolding at-place
   place-few e =
-      let b = those-few (λ i. ends (slip ss i) (take e t)) (numbers ss) in
       rw (length-map (endingAt ss (take e t)) (occurrence e))
-      (omega (arith, b, inOrder-few (firstHere ss) (those (λ i. ends (slip ss i) (take e t)) (numbers ss)), length-upFrom 1 (length ss)))
+      (omega (arith, ending-most ss (numbers ss) (take e t), length-upFrom 1 (length ss)))
 
   occurrences-few : length (occurrences ss t) ≤ maxSlips * maxText
   unfolding at-place
