@@ -24,14 +24,14 @@ use Rattle.trays.proofs.Rows.{or-zero, or-some, or-assoc, both-silent, by-numbe
 use Rattle.trays.proofs.Accepted.{accepted-tells}
 use Rattle.spans.proofs.Stretches.{slip-small, part-rises, part-fits, part-is}
 
-pub request-zero : (es : List ℕ) (i : ℕ) → i ≡ 0 → refusal 10 i ≡ slipRow es i
-request-zero es i e = rw (eq-eqb i 0 e)
+pub request-zero : (es : List ℕ) (i : ℕ) (r : Refusal) → r ≡ refusal 10 i → i ≡ 0 → r ≡ slipRow es i
+request-zero es i r q e = q ∙ rw (eq-eqb i 0 e)
 
-pub request-above : (es : List ℕ) (i n : ℕ) → (i ≡ 0 → ⊥) → n ≡ i → length es < n → refusal 10 i ≡ slipRow es i
-request-above es i n z e h = rw (ne-eqb i 0 z, lt-ltb (length es) i (omega arith))
+pub request-above : (es : List ℕ) (i n : ℕ) (r : Refusal) → r ≡ refusal 10 i → (i ≡ 0 → ⊥) → n ≡ i → length es < n → r ≡ slipRow es i
+request-above es i n r q z e h = q ∙ rw (ne-eqb i 0 z, lt-ltb (length es) i (omega arith))
 
-pub request-good : (es : List ℕ) (i n : ℕ) → (i ≡ 0 → ⊥) → n ≡ i → n ≤ length es → refusal 0 0 ≡ slipRow es i
-request-good es i n z e h = rw (ne-eqb i 0 z, le-ltb (length es) i (omega arith))
+pub request-good : (es : List ℕ) (i n : ℕ) (r : Refusal) → r ≡ refusal 0 0 → (i ≡ 0 → ⊥) → n ≡ i → n ≤ length es → r ≡ slipRow es i
+request-good es i n r q z e h = q ∙ rw (ne-eqb i 0 z, le-ltb (length es) i (omega arith))
 
 -- a row that is silent is the accepting one
 row-accepts : (es : List ℕ) (i : ℕ) → slipRow es i .number ≡ 0 → (1 ≤ i) × (i ≤ length es) × (slipRow es i ≡ accepted)
@@ -89,11 +89,11 @@ module _ (s es : List ℕ) (i j : ℕ) where
       pub pair-right : (g .number ≡ 0 → ⊥) → g ≡ pairFault s es i j
       pair-right w = rw (pair-rows, ← e, or-zero f _ z, ← h) (sym (or-some g _ (omega arith)))
 
-      pub pair-twice : g .number ≡ 0 → i ≡ j → refusal 11 i ≡ pairFault s es i j
-      pair-twice w q = rw (pair-rows, ← e, or-zero f _ z, ← h, or-zero g _ w, eq-eqb i j q)
+      pub pair-twice : (r : Refusal) → r ≡ refusal 11 i → g .number ≡ 0 → i ≡ j → r ≡ pairFault s es i j
+      pair-twice r p w q = p ∙ rw (pair-rows, ← e, or-zero f _ z, ← h, or-zero g _ w, eq-eqb i j q)
 
-      pub pair-different : g .number ≡ 0 → (i ≡ j → ⊥) → refusal 0 0 ≡ pairFault s es i j
-      pair-different w q = rw (pair-rows, ← e, or-zero f _ z, ← h, or-zero g _ w, ne-eqb i j q)
+      pub pair-different : (r : Refusal) → r ≡ refusal 0 0 → g .number ≡ 0 → (i ≡ j → ⊥) → r ≡ pairFault s es i j
+      pair-different r p w q = p ∙ rw (pair-rows, ← e, or-zero f _ z, ← h, or-zero g _ w, ne-eqb i j q)
 
   pub pair-good : pairFault s es i j .number ≡ 0 → (trayFault s es .number ≡ 0) × (1 ≤ i) × (i ≤ length es) × (1 ≤ j) × (j ≤ length es)
   pair-good h =

@@ -11,27 +11,19 @@ use spans::slip_span;
 use trays::Located;
 use trays::Pair;
 use trays::Refusal;
+use trays::refuse;
 
 // Refusal 10.
 fn check_request(ends: &[u16], slip: u32) -> Refusal
     ensures { λ r. ⌜ r ≡ F.slipRow (now (ends .entry)) slip ⌝ }
 {
     if slip == 0 {
-        return Refusal {
-            number: 10,
-            detail: slip,
-        };
+        return refuse(10, slip);
     }
     if ends.len() < slip as usize {
-        return Refusal {
-            number: 10,
-            detail: slip,
-        };
+        return refuse(10, slip);
     }
-    Refusal {
-        number: 0,
-        detail: 0,
-    }
+    refuse(0, 0)
 }
 
 // Refusals 1 to 6 and 10, for one slip number.
@@ -103,15 +95,9 @@ fn check_pair(letters: &[u8], ends: &[u16], left: u32, right: u32) -> Refusal
         return second;
     }
     if left == right {
-        return Refusal {
-            number: 11,
-            detail: left,
-        };
+        return refuse(11, left);
     }
-    Refusal {
-        number: 0,
-        detail: 0,
-    }
+    refuse(0, 0)
 }
 
 // The overlap of two strings that counts.

@@ -16,6 +16,7 @@ use lib.ListN.{length, getD, drop, drop-of-length-le}
 use lib.Seq.{drop-cons}
 use Rattle.words.specs.Lists.{lastOr}
 use Rattle.words.proofs.Tests.{by-test}
+use Rattle.trays.specs.declared.Refusal.{Refusal}
 use Rattle.trays.specs.Limits.{maxSlip}
 use Rattle.trays.specs.Slips.{isLetter}
 use Rattle.trays.specs.Faults.{refusal, notAbove, tooLong, badPlace}
@@ -64,8 +65,8 @@ module _ (es : List ℕ) (i k here e : ℕ) (h : i < length es) (v : e ≡ getD 
   above-here : leb e here ≡ true → notAbove 1 0 es ≡ k
   above-here t = n ∙ rw (drop-cons es i 0, rw v at t, notAbove)
 
-  pub ends-fall : k ≡ i + 1 → e ≤ here → refusal 2 k ≡ endsFault es
-  ends-fall p t = let a : notAbove 1 0 es ≡ k = above-here (le-leb e here t) in rw (a, le-leb 1 k (omega arith))
+  pub ends-fall : (r : Refusal) → r ≡ refusal 2 k → k ≡ i + 1 → e ≤ here → r ≡ endsFault es
+  ends-fall r q p t = let a : notAbove 1 0 es ≡ k = above-here (le-leb e here t) in q ∙ rw (a, le-leb 1 k (omega arith))
 
   pub ends-above : here < e → notAbove 1 0 es ≡ notAbove (k + 1) e (drop (i + 1) es)
   ends-above t =
@@ -91,11 +92,11 @@ module _ (es : List ℕ) (i k here long : ℕ) (h : length es ≤ i) (n : notAbo
   first-long : tooLong 1 0 es ≡ long
   first-long = l ∙ rw (drop-of-length-le es h) (elim long [ zero ↦ refl | suc m ↦ refl ])
 
-  pub ends-too-long : (long ≡ 0 → ⊥) → refusal 3 long ≡ endsFault es
-  ends-too-long z = rw (no-fall, first-long, le-leb 1 long (omega arith))
+  pub ends-too-long : (r : Refusal) → r ≡ refusal 3 long → (long ≡ 0 → ⊥) → r ≡ endsFault es
+  ends-too-long r q z = q ∙ rw (no-fall, first-long, le-leb 1 long (omega arith))
 
-  pub ends-good : long ≡ 0 → refusal 0 0 ≡ endsFault es
-  ends-good z = rw (no-fall, first-long, z)
+  pub ends-good : (r : Refusal) → r ≡ refusal 0 0 → long ≡ 0 → r ≡ endsFault es
+  ends-good r q z = q ∙ rw (no-fall, first-long, z)
 
 module _ (es : List ℕ) (p i k e : ℕ) (h : i < length es) (v : e ≡ getD es i 0) (n : slipHolding 1 p es ≡ slipHolding k p (drop i es)) where
   pub holding-here : p ≤ e → k ≡ slipHolding 1 p es

@@ -29,9 +29,9 @@ module _ (s es : List ℕ) where
       orElse (row 4 (ltb maxLetters (length s)) 0)
       (orElse (row 5 (not (eqb (lastOr 0 es) (length s))) 0) (orElse (slipAt 6 (badSlip 1 (slipsOf s es))) accepted))
 
-  pub check-many : maxSlips < length es → refusal 1 0 ≡ trayFault s es
+  pub check-many : (r : Refusal) → r ≡ refusal 1 0 → maxSlips < length es → r ≡ trayFault s es
   unfolding trayFault
-  check-many h = rw (lt-ltb maxSlips (length es) h)
+  check-many r q h = q ∙ rw (lt-ltb maxSlips (length es) h)
 
   few : length es ≤ maxSlips → trayFault s es ≡ orElse (endsFault es) rest
   unfolding trayFault
@@ -47,12 +47,12 @@ module _ (s es : List ℕ) where
     ordered : trayFault s es ≡ rest
     ordered = rw (few h, ← e) (or-zero f rest z)
 
-    pub check-letters : maxLetters < length s → refusal 4 0 ≡ trayFault s es
-    check-letters l = rw (ordered, lt-ltb maxLetters (length s) l)
+    pub check-letters : (r : Refusal) → r ≡ refusal 4 0 → maxLetters < length s → r ≡ trayFault s es
+    check-letters r q l = q ∙ rw (ordered, lt-ltb maxLetters (length s) l)
 
     module _ (last : ℕ) (l : length s ≤ maxLetters) (v : last ≡ lastOr 0 es) where
-      pub check-last : (last ≡ length s → ⊥) → refusal 5 0 ≡ trayFault s es
-      check-last w = rw (ordered, le-ltb maxLetters (length s) l, ← v, ne-eqb last (length s) w)
+      pub check-last : (r : Refusal) → r ≡ refusal 5 0 → (last ≡ length s → ⊥) → r ≡ trayFault s es
+      check-last r q w = q ∙ rw (ordered, le-ltb maxLetters (length s) l, ← v, ne-eqb last (length s) w)
 
       module _ (bad : ℕ) (w : last ≡ length s) (b : bad ≡ badPlace 1 s) where
         asc : notAbove 1 0 es ≡ 0
@@ -61,12 +61,12 @@ module _ (s es : List ℕ) where
         only : trayFault s es ≡ orElse (slipAt 6 (badSlip 1 (slipsOf s es))) accepted
         only = rw (ordered, le-ltb maxLetters (length s) l, eq-eqb (lastOr 0 es) (length s) (sym v ∙ w))
 
-        pub check-good : bad ≡ 0 → refusal 0 0 ≡ trayFault s es
-        check-good o = rw (only, bad-none s es asc (sym v ∙ w) (sym b ∙ o))
+        pub check-good : (r : Refusal) → r ≡ refusal 0 0 → bad ≡ 0 → r ≡ trayFault s es
+        check-good r q o = q ∙ rw (only, bad-none s es asc (sym v ∙ w) (sym b ∙ o))
 
-        pub check-bad : (d : ℕ) → (bad ≡ 0 → ⊥) → d ≡ slipHolding 1 bad es → refusal 6 d ≡ trayFault s es
-        check-bad d o h =
+        pub check-bad : (d : ℕ) (r : Refusal) → r ≡ refusal 6 d → (bad ≡ 0 → ⊥) → d ≡ slipHolding 1 bad es → r ≡ trayFault s es
+        check-bad d r q o h =
             let n : badPlace 1 s ≡ 0 → ⊥ = λ q. o (b ∙ q) in
             let k : badSlip 1 (slipsOf s es) ≡ d = bad-some s es asc (sym v ∙ w) n ∙ rw (h, b) in
             let p : 1 ≤ d = rw (h, b) (bad-positive s es asc (sym v ∙ w) n) in
-            rw (only, k, le-leb 1 d p)
+            q ∙ rw (only, k, le-leb 1 d p)

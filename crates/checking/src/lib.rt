@@ -13,6 +13,7 @@ use trays::MAX_LETTERS;
 use trays::MAX_SLIP;
 use trays::MAX_SLIPS;
 use trays::Refusal;
+use trays::refuse;
 
 // Whether a byte is one of the 27 signs.
 fn is_letter(b: u8) -> bool
@@ -69,10 +70,7 @@ fn check_ends(ends: &[u16]) -> Refusal
     while i < ends.len() {
         let end = wide(ends[i]);
         if end <= here {
-            return Refusal {
-                number: 2,
-                detail: slip,
-            };
+            return refuse(2, slip);
         }
         long = note_long(long, slip, here, end);
         here = end;
@@ -80,15 +78,9 @@ fn check_ends(ends: &[u16]) -> Refusal
         i += 1;
     }
     if long != 0 {
-        return Refusal {
-            number: 3,
-            detail: long,
-        };
+        return refuse(3, long);
     }
-    Refusal {
-        number: 0,
-        detail: 0,
-    }
+    refuse(0, 0)
 }
 
 // The last end, 0 if there is none.
@@ -123,36 +115,21 @@ pub fn check_tray(letters: &[u8], ends: &[u16]) -> Refusal
     ensures { λ r. ⌜ r ≡ F.trayFault (now (letters .entry)) (now (ends .entry)) ⌝ }
 {
     if MAX_SLIPS < ends.len() {
-        return Refusal {
-            number: 1,
-            detail: 0,
-        };
+        return refuse(1, 0);
     }
     let order = check_ends(ends);
     if order.number != 0 {
         return order;
     }
     if MAX_LETTERS < letters.len() {
-        return Refusal {
-            number: 4,
-            detail: 0,
-        };
+        return refuse(4, 0);
     }
     if last_end(ends) != letters.len() {
-        return Refusal {
-            number: 5,
-            detail: 0,
-        };
+        return refuse(5, 0);
     }
     let bad = first_bad(letters);
     if bad == 0 {
-        return Refusal {
-            number: 0,
-            detail: 0,
-        };
+        return refuse(0, 0);
     }
-    Refusal {
-        number: 6,
-        detail: slip_holding(ends, bad),
-    }
+    refuse(6, slip_holding(ends, bad))
 }

@@ -11,6 +11,7 @@ use answers::Composed;
 use answers::Search;
 use layout::JOINS;
 use layout::PLACES;
+use tables::whole;
 
 // Copies the first `n` cells of the table at `base` over the first part of `out`.
 fn copy_cells(work: &[u16], base: usize, n: usize, out: &mut [u16])
@@ -22,12 +23,6 @@ fn copy_cells(work: &[u16], base: usize, n: usize, out: &mut [u16])
         out[i] = work[base + i];
         i += 1;
     }
-}
-
-fn whole(x: u32) -> usize
-    ensures { λ r. ⌜ r ≡ x ⌝ }
-{
-    x as usize
 }
 
 // Composes any tray, or refuses it. A join is three numbers (left slip, right slip, overlap), a place two (the place, and 1 if the slip is kept).

@@ -5,7 +5,7 @@
 --   keeps          == it has, behind one line more; the reader comes nearer to the end
 -- A line is the first of those that are left, so its fault, if it has one, is theirs.
 use mathlib.Core.Path.{_≡_, refl, sym, _∙_, ap}
-use mathlib.Core.Bool.{true, false}
+use mathlib.Core.Bool.{Bool, true, false}
 use mathlib.Core.List.{List}
 use Prim.Native.Nat.{ℕ, zero, suc, _+_, _-_, _≤_, _<_}
 use borrow.Author.Tests.{ltb-true, ltb-false}
@@ -14,6 +14,7 @@ use native.Mathlib.Omega.{arith}
 use lib.Dec.{ltb}
 use lib.ListN.{length, drop, length-drop, drop-of-length-le}
 use Rattle.words.proofs.Tests.{not-both}
+use Rattle.trays.specs.declared.Refusal.{Refusal}
 use Rattle.trays.specs.Faults.{refusal, accepted, orElse}
 use Rattle.trays.proofs.Rows.{or-zero, or-some}
 use Rattle.files.specs.declared.Line.{Line}
@@ -46,15 +47,21 @@ passed s at k h f e = record {
 
 -- the two ways through judge
 module _ (c : Checked) (l : Line) (size : ℕ) where
-  pub judge-bad : (l .fault ≡ 0 → ⊥) → _≡_ {A = Checked} (record { found = refusal (l .fault) (c .line); line = c .line; more = false }) (judged c l size)
-  judge-bad z = go (l .fault) refl
+  abbrev told : Refusal → ℕ → Bool → Checked
+  told r k more = record { found = r; line = k; more = more }
+
+  pub judge-bad : (r : Refusal) → r ≡ refusal (l .fault) (c .line) → (l .fault ≡ 0 → ⊥) → told r (c .line) false ≡ judged c l size
+  judge-bad r q z = ap (λ (x : Refusal). told x (c .line) false) q ∙ go (l .fault) refl
     where
-      go : (n : ℕ) → l .fault ≡ n → _≡_ {A = Checked} (record { found = refusal (l .fault) (c .line); line = c .line; more = false }) (judged c l size)
+      go : (n : ℕ) → l .fault ≡ n → told (refusal (l .fault) (c .line)) (c .line) false ≡ judged c l size
       go zero p = absurd (z p)
       go (suc n) p = rw (p, judged)
 
-  pub judge-good : l .fault ≡ 0 → _≡_ {A = Checked} (record { found = accepted; line = c .line + 1; more = ltb (l .next) size }) (judged c l size)
-  judge-good z = rw (z, judged)
+  pub judge-good : (r : Refusal) → r ≡ refusal 0 0 → l .fault ≡ 0 → told r (c .line + 1) (ltb (l .next) size) ≡ judged c l size
+  judge-good r q z = ap (λ (x : Refusal). told x (c .line + 1) (ltb (l .next) size)) q ∙ rw (z, judged)
+
+pub begins-so : (r : Refusal) (n : ℕ) → r ≡ refusal 0 0 → _≡_ {A = Checked} (record { found = r; line = 1; more = ltb 0 n }) (begunAt n)
+begins-so r n q = ap (λ (x : Refusal). record { found = x; line = 1; more = ltb 0 n }) q
 
 pub begins : (s : List ℕ) → Through s 0 (begunAt (length s))
 begins s = passed s 0 1 (omega arith) (omega arith) refl

@@ -19,19 +19,19 @@ use Rattle.reading.specs.steps.Copying.{Lent, Copied}
 use Rattle.files.proofs.LineFaults.{or-last, lines-accepted}
 
 module _ (s : List ℕ) (a b : ℕ) where
-  pub place-letters : a < maxFile → refusal 15 0 ≡ readFault s a b
+  pub place-letters : (r : Refusal) → r ≡ refusal 15 0 → a < maxFile → r ≡ readFault s a b
   unfolding readFault
-  place-letters h = rw (lt-ltb a maxFile h)
+  place-letters r e h = e ∙ rw (lt-ltb a maxFile h)
 
   module _ (h : maxFile ≤ a) where
-    pub place-ends : b < endsNeed → refusal 15 0 ≡ readFault s a b
+    pub place-ends : (r : Refusal) → r ≡ refusal 15 0 → b < endsNeed → r ≡ readFault s a b
     unfolding readFault
-    place-ends l = rw (le-ltb a maxFile h, lt-ltb b endsNeed l)
+    place-ends r e l = e ∙ rw (le-ltb a maxFile h, lt-ltb b endsNeed l)
 
     module _ (l : endsNeed ≤ b) where
-      pub place-long : maxFile < length s → refusal 16 0 ≡ readFault s a b
+      pub place-long : (r : Refusal) → r ≡ refusal 16 0 → maxFile < length s → r ≡ readFault s a b
       unfolding readFault
-      place-long m = rw (le-ltb a maxFile h, le-ltb b endsNeed l, lt-ltb maxFile (length s) m)
+      place-long r e m = e ∙ rw (le-ltb a maxFile h, le-ltb b endsNeed l, lt-ltb maxFile (length s) m)
 
       pub place-lines : (f : Refusal) → length s ≤ maxFile → f ≡ linesFault 1 (linesOf s) → f ≡ readFault s a b
       unfolding readFault
@@ -56,11 +56,11 @@ module _ (s a b : List ℕ) (f : Refusal) (e : f ≡ readFault s (length a) (len
     pub read-lent : Lent s a b
     read-lent =
         elim (decLt (length a) maxFile) [
-          | yes h ↦ absurd (silent 14 (place-letters s (length a) (length b) h))
+          | yes h ↦ absurd (silent 14 (place-letters s (length a) (length b) _ refl h))
           | no h ↦ elim (decLt (length b) endsNeed) [
-            | yes l ↦ absurd (silent 14 (place-ends s (length a) (length b) (omega arith) l))
+            | yes l ↦ absurd (silent 14 (place-ends s (length a) (length b) (omega arith) _ refl l))
             | no l ↦ elim (decLt maxFile (length s)) [
-              | yes m ↦ absurd (silent 15 (place-long s (length a) (length b) (omega arith) (omega arith) m))
+              | yes m ↦ absurd (silent 15 (place-long s (length a) (length b) (omega arith) (omega arith) _ refl m))
               | no m ↦ record {
                 good =
                     let q : f ≡ linesFault 1 (linesOf s) =

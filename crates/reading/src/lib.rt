@@ -17,6 +17,7 @@ use files::MAX_FILE;
 use files::Read;
 use files::Reader;
 use trays::Refusal;
+use trays::refuse;
 
 // How far the check has come: what turns the file back so far, the number of the line that comes next, and whether to read it.
 struct Checked {
@@ -29,10 +30,7 @@ struct Checked {
 fn begun(size: usize) -> Checked
     ensures { λ r. ⌜ r ≡ begunAt size ⌝ }
 {
-    let found = Refusal {
-        number: 0,
-        detail: 0,
-    };
+    let found = refuse(0, 0);
     Checked {
         found,
         line: 1,
@@ -46,20 +44,14 @@ fn judge(state: Checked, line: Line, size: usize) -> Checked
     ensures { λ r. ⌜ r ≡ judged state line size ⌝ }
 {
     if line.fault != 0 {
-        let found = Refusal {
-            number: line.fault,
-            detail: state.line as u32,
-        };
+        let found = refuse(line.fault, state.line as u32);
         return Checked {
             found,
             line: state.line,
             more: false,
         };
     }
-    let found = Refusal {
-        number: 0,
-        detail: 0,
-    };
+    let found = refuse(0, 0);
     Checked {
         found,
         line: state.line + 1,
@@ -97,22 +89,13 @@ fn check_file(file: &[u8], letters: usize, ends: usize) -> Refusal
     ensures { λ r. ⌜ r ≡ F.readFault (now (file .entry)) letters ends ⌝ }
 {
     if letters < MAX_FILE {
-        return Refusal {
-            number: 15,
-            detail: 0,
-        };
+        return refuse(15, 0);
     }
     if ends < ENDS_NEED {
-        return Refusal {
-            number: 15,
-            detail: 0,
-        };
+        return refuse(15, 0);
     }
     if MAX_FILE < file.len() {
-        return Refusal {
-            number: 16,
-            detail: 0,
-        };
+        return refuse(16, 0);
     }
     check_lines(file)
 }

@@ -49,25 +49,25 @@ module _ (s es t : List ℕ) (cells : ℕ) (f : Refusal) (e : f ≡ trayFault s 
     unfolding findBefore trayFault
     behind-tray = rows-append (trayRows s es) (textRows t ++ (workRow cells ∷ [])) ∙ rw (← e) (or-zero f (firstRow (textRows t ++ (workRow cells ∷ []))) z)
 
-    pub before-long : maxText < length t → refusal 12 0 ≡ findBefore s es t cells
-    before-long h = sym (behind-tray ∙ rw (lt-ltb maxText (length t) h))
+    pub before-long : (r : Refusal) → r ≡ refusal 12 0 → maxText < length t → r ≡ findBefore s es t cells
+    before-long r e h = e ∙ sym (behind-tray ∙ rw (lt-ltb maxText (length t) h))
 
     module _ (h : length t ≤ maxText) {b : ℕ} (p : b ≡ badPlace 1 t) where
       pub place-fits : b < 4294967296
       place-fits = omega (arith, place-most t)
 
-      pub before-bad : (b ≡ 0 → ⊥) → refusal 13 b ≡ findBefore s es t cells
-      before-bad q = sym (behind-tray ∙ rw (le-ltb maxText (length t) h, ← p, le-leb 1 b (omega arith)))
+      pub before-bad : (r : Refusal) → r ≡ refusal 13 b → (b ≡ 0 → ⊥) → r ≡ findBefore s es t cells
+      before-bad r e q = e ∙ sym (behind-tray ∙ rw (le-ltb maxText (length t) h, ← p, le-leb 1 b (omega arith)))
 
       module _ (q : b ≡ 0) where
         behind-text : findBefore s es t cells ≡ orElse (workRow cells) accepted
         behind-text = behind-tray ∙ rw (le-ltb maxText (length t) h, ← p, q)
 
-        pub before-room : cells < workNeed → refusal 7 0 ≡ findBefore s es t cells
-        before-room l = sym (behind-text ∙ rw (lt-ltb cells workNeed l))
+        pub before-room : (r : Refusal) → r ≡ refusal 7 0 → cells < workNeed → r ≡ findBefore s es t cells
+        before-room r e l = e ∙ sym (behind-text ∙ rw (lt-ltb cells workNeed l))
 
-        pub before-none : workNeed ≤ cells → accepted ≡ findBefore s es t cells
-        before-none l = sym (behind-text ∙ rw (le-ltb cells workNeed l))
+        pub before-none : (r : Refusal) → r ≡ refusal 0 0 → workNeed ≤ cells → r ≡ findBefore s es t cells
+        before-none r e l = e ∙ sym (behind-text ∙ rw (le-ltb cells workNeed l))
 
 -- none of them turns the call back
 module _ {s es t w : List ℕ} (c : Clear s es t w) where

@@ -11,6 +11,7 @@ use answers::Search;
 use layout::SCAN;
 use layout::WORK_NEED;
 use trays::Refusal;
+use trays::refuse;
 
 // The answer, and how many occurrences are to be stored.
 pub struct Begun {
@@ -27,28 +28,16 @@ fn check_find(letters: &[u8], ends: &[u16], text: &[u8], cells: usize) -> Refusa
         return tray;
     }
     if MAX_TEXT < text.len() {
-        return Refusal {
-            number: 12,
-            detail: 0,
-        };
+        return refuse(12, 0);
     }
     let bad = checking::first_bad(text);
     if bad != 0 {
-        return Refusal {
-            number: 13,
-            detail: bad as u32,
-        };
+        return refuse(13, bad as u32);
     }
     if cells < WORK_NEED {
-        return Refusal {
-            number: 7,
-            detail: 0,
-        };
+        return refuse(7, 0);
     }
-    Refusal {
-        number: 0,
-        detail: 0,
-    }
+    refuse(0, 0)
 }
 
 // The automaton of all slips with the members of each node, output links and tallies. Answers how many nodes have a letter.

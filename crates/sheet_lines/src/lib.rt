@@ -10,6 +10,8 @@ ghost use Rattle.sheets.specs.Sheets as S;
 ghost use Rattle.sheet_lines.specs.steps.Lines as P;
 use answers::Composed;
 use files::LF;
+use tables::whole;
+use tables::wide;
 
 const BLANK: u8 = b' ';
 
@@ -21,18 +23,6 @@ const COUNT_WIDTH: usize = 6;
 
 // Columns of a refusal's detail.
 const DETAIL_WIDTH: usize = 6;
-
-fn wide(x: u16) -> usize
-    ensures { λ r. ⌜ r ≡ x ⌝ }
-{
-    x as usize
-}
-
-fn whole(x: u32) -> usize
-    ensures { λ r. ⌜ r ≡ x ⌝ }
-{
-    x as usize
-}
 
 fn small(xs: &[u16], i: usize) -> usize
     requires { ⌜ i < length (now xs) ⌝ }

@@ -11,6 +11,13 @@ pub fn wide(x: u16) -> usize
     x as usize
 }
 
+// A number of 32 bits as a count.
+pub fn whole(x: u32) -> usize
+    ensures { λ r. ⌜ r ≡ x ⌝ }
+{
+    x as usize
+}
+
 pub fn narrow(x: usize) -> u16
     requires { ⌜ x < 65536 ⌝ }
     ensures { λ r. ⌜ r ≡ x ⌝ }

@@ -1,4 +1,6 @@
-// Trays: limits, and what calls on a tray answer. The functions stand in checking, spans and asking.
+// Trays: limits, and what calls on a tray answer. The calls stand in checking, spans and asking.
+ghost use mathlib.Core.Path.{_≡_};
+ghost use Rattle.trays.specs.Faults.{refusal};
 
 pub const MAX_SLIPS: usize = 200;
 
@@ -28,4 +30,11 @@ pub struct Located {
 pub struct Span {
     pub start: usize,
     pub end: usize,
+}
+
+// The refusal with this number and detail; 0 and 0 for none.
+pub fn refuse(number: u8, detail: u32) -> Refusal
+    ensures { λ r. ⌜ r ≡ refusal number detail ⌝ }
+{
+    Refusal { number, detail }
 }

@@ -1,3 +1,4 @@
+use borrow.Author.Needs.{needs}
 use Rattle.asking.proofs.Requests.{request-zero, request-above, request-good}
 use Rattle.asking.proofs.check_request.Statement.{statement}
 use Rattle.asking.proofs.check_request.Tie as tie
@@ -12,4 +13,4 @@ returns-3 : tie.Need-returns-3
 returns-3 c = search request-good
 
 pub check-request-spec : {M : Type 1} → statement M
-check-request-spec = tie.close (tie.spec returns returns-2 returns-3)
+check-request-spec = tie.close (tie.spec (λ c κs. search needs) returns (λ c κs. search needs) returns-2 (λ c κs. search needs) returns-3)

@@ -10,4 +10,4 @@ returns-2 : tie.Need-returns-2
 returns-2 c = search judge-good
 
 pub judge-spec : {M : Type 1} → statement M
-judge-spec = tie.close (tie.spec (λ c. search needs) returns (λ c. search needs) returns-2)
+judge-spec = tie.close (tie.spec (λ c. search needs) (λ c κs. search needs) returns (λ c κs. search needs) (λ c. search needs) returns-2)

@@ -22,4 +22,5 @@ returns-5 : tie.Need-returns-5
 returns-5 c = search before-none
 
 pub check-find-spec : {M : Type 1} → statement M
-check-find-spec = tie.close (tie.spec (λ c κs. search needs) returns returns-2 (λ c κs. search needs) cast-t9 returns-3 returns-4 returns-5)
+check-find-spec = tie.close (tie.spec (λ c κs. search needs) returns (λ c κs. search needs) returns-2 (λ c κs. search needs) cast-t9 (λ c κs. search needs) returns-3 (λ c κs. search needs) returns-4
+    (λ c κs. search needs) returns-5)
