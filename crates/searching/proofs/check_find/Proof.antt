@@ -9,8 +9,8 @@ returns c = search before-tray
 returns-2 : tie.Need-returns-2
 returns-2 c = search before-long
 
-cast-t9 : tie.Need-cast-t9
-cast-t9 c = record { fits = search place-fits }
+cast-refuse : tie.Need-cast-refuse
+cast-refuse c = record { fits = search place-fits }
 
 returns-3 : tie.Need-returns-3
 returns-3 c = search before-bad
@@ -22,5 +22,5 @@ returns-5 : tie.Need-returns-5
 returns-5 c = search before-none
 
 pub check-find-spec : {M : Type 1} → statement M
-check-find-spec = tie.close (tie.spec (λ c κs. search needs) returns (λ c κs. search needs) returns-2 (λ c κs. search needs) cast-t9 (λ c κs. search needs) returns-3 (λ c κs. search needs) returns-4
+check-find-spec = tie.close (tie.spec (λ c κs. search needs) returns (λ c κs. search needs) returns-2 (λ c κs. search needs) cast-refuse (λ c κs. search needs) returns-3 (λ c κs. search needs) returns-4
     (λ c κs. search needs) returns-5)
