@@ -16,4 +16,5 @@ returns-4 : tie.Need-returns-4
 returns-4 c = search place-lines
 
 pub check-file-spec : {M : Type 1} → statement M
-check-file-spec = tie.close (tie.spec (λ c κs. search needs) returns (λ c κs. search needs) returns-2 (λ c κs. search needs) returns-3 (λ c κs. search needs) returns-4)
+check-file-spec = tie.close
+    (tie.spec (λ c κs. search needs) returns (λ c κs. search needs) returns-2 (λ c κs. search needs) returns-3 (λ c κs. search needs) returns-4)

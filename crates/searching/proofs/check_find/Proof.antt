@@ -22,5 +22,6 @@ returns-5 : tie.Need-returns-5
 returns-5 c = search before-none
 
 pub check-find-spec : {M : Type 1} → statement M
-check-find-spec = tie.close (tie.spec (λ c κs. search needs) returns (λ c κs. search needs) returns-2 (λ c κs. search needs) cast-refuse (λ c κs. search needs) returns-3 (λ c κs. search needs) returns-4
+check-find-spec = tie.close (tie.spec (λ c κs. search needs) returns (λ c κs. search needs) returns-2 (λ c κs. search needs) cast-refuse
+    (λ c κs. search needs) returns-3 (λ c κs. search needs) returns-4
     (λ c κs. search needs) returns-5)
