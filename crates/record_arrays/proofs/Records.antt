@@ -27,7 +27,8 @@ use denote.Struct.Values.{Values, intos}
 use denote.Struct.Record.{declared, Done, done-prop}
 use denote.Struct.Laws.{FLaws, Laws, spells, tuple-vals}
 
-each-into : (T : Declared) (zs : List (T .D)) (us : List Val) → shadow (each (T .D) (row T .own) zs us) → shadow (each (field T .row .Denot) (field T .row .own) (map (T .to) zs) us)
+each-into : (T : Declared) (zs : List (T .D)) (us : List Val) → shadow (each (T .D) (row T .own) zs us)
+    → shadow (each (field T .row .Denot) (field T .row .own) (map (T .to) zs) us)
 each-into T [] [] s = s
 each-into T [] (u ∷ us) s = s
 each-into T (z ∷ zs) [] s = s
@@ -41,26 +42,33 @@ module _ (T : Declared) (n : ℕ) (L : FLaws (array-field (field T) n)) (zs : Li
   value-of = ap only (L .tells (map (T .to) zs) (v ∷ []) (array-into T n zs (v ∷ []) is))
 
   pub is-of : Is (Array (field T .row) n) (map (T .to) zs) (L .val (map (T .to) zs) ∷ [])
-  is-of = subst (Is (Array (field T .row) n) (map (T .to) zs)) (L .tells (map (T .to) zs) (v ∷ []) (array-into T n zs (v ∷ []) is)) (array-into T n zs (v ∷ []) is)
+  is-of = subst (Is (Array (field T .row) n) (map (T .to) zs)) (L .tells (map (T .to) zs) (v ∷ []) (array-into T n zs (v ∷ []) is))
+      (array-into T n zs (v ∷ []) is)
 
 module _ {M : Type 1} (𝓤 : URA M) (H : Heap 𝓤) (A : Atoms 𝓤) (W : Given 𝓤 H A) (T : Declared) (law : Lawful 𝓤 H A (row T)) (n : ℕ) (zs : List (T .D)) where
   pub typed : (vs : List Val) → Is (Array (row T) n) zs vs → Typed (Array (row T) n .mir) vs
   typed vs is = array-lawful 𝓤 H A W (row T) law n .typed zs vs is
 
-  pub typed-of : (L : FLaws (array-field (field T) n)) (v : Val) → Is (Array (row T) n) zs (v ∷ []) → Typed (Array (row T) n .mir) (L .val (map (T .to) zs) ∷ [])
+  pub typed-of : (L : FLaws (array-field (field T) n)) (v : Val) → Is (Array (row T) n) zs (v ∷ [])
+      → Typed (Array (row T) n .mir) (L .val (map (T .to) zs) ∷ [])
   typed-of L v is = subst (λ (u : Val). Typed (Array (row T) n .mir) (u ∷ [])) (value-of T n L zs v is) (typed (v ∷ []) is)
 
-pub big-lit : {M : Type 1} {𝓤 : URA M} {H : Heap 𝓤} {A : Atoms 𝓤} {K : Type 0} {W : Given 𝓤 H A} {Γ : List (Item 𝓤)} {E : Env 𝓤 H} → K → {w : Width} {n : ℕ} → Fits w n → Opd K W Γ E (intBig w n) (vint w n)
+pub big-lit : {M : Type 1} {𝓤 : URA M} {H : Heap 𝓤} {A : Atoms 𝓤} {K : Type 0} {W : Given 𝓤 H A} {Γ : List (Item 𝓤)} {E : Env 𝓤 H} → K → {w : Width} {n : ℕ}
+    → Fits w n → Opd K W Γ E (intBig w n) (vint w n)
 big-lit {𝓤 = 𝓤} t {w} {n} z = record { go = λ Kt h. via 𝓤 (Kt (vint w n)) h (guardI 𝓤 (Fits w n) (Kt (vint w n)) z) }
 
 -- a struct with these fields and no ghost field
-module _ (Fs : List Field) (name : Sym) (D : Type 0) (values : D → Values Fs) (make : (v : Values Fs) → Done → D) (eta : (d : D) → make (values d) tt ≡ d) (beta : (v : Values Fs) (g : Done) → values (make v g) ≡ v) where
+module _ (Fs : List Field) (name : Sym) (D : Type 0) (values : D → Values Fs) (make : (v : Values Fs) → Done → D) (eta : (d : D) → make (values d) tt ≡ d)
+    (beta : (v : Values Fs) (g : Done) → values (make v g) ≡ v) where
   abbrev pub struct-of : Declared
-  struct-of = declared (record { name = name; args = []; parts = Fs; D = D; as-values = values; Ghost = λ v. Done; ghosts = λ d. tt; make = make; eta = eta; beta = beta }) (λ v. done-prop)
+  struct-of = declared (record
+      { name = name; args = []; parts = Fs; D = D; as-values = values; Ghost = λ v. Done; ghosts = λ d. tt; make = make; eta = eta; beta = beta })
+      (λ v. done-prop)
 
   module _ (L : Laws struct-of) (v : Values Fs) where
     abbrev pub made-vals : List Val
     made-vals = tuple-vals struct-of L (intos Fs v)
 
     pub is-made : AreAll (rows Fs) (intos Fs v) (valss (rows Fs) (spells Fs L) (intos Fs v)) → Is (row struct-of) (make v tt) made-vals
-    is-made h = subst (λ (x : Values Fs). Is (Struct (shape struct-of)) (intos Fs x) made-vals) (sym (beta v tt)) (valss (rows Fs) (spells Fs L) (intos Fs v), (refl, h))
+    is-made h = subst (λ (x : Values Fs). Is (Struct (shape struct-of)) (intos Fs x) made-vals) (sym (beta v tt))
+        (valss (rows Fs) (spells Fs L) (intos Fs v), (refl, h))

@@ -40,7 +40,8 @@ pub fn compose(
     mut joins: [Join; 200],
     mut places: [Place; 200],
 ) -> Composition
-    ensures { λ r. ⌜ ComposeSays (now (letters .entry)) (now (ends .entry)) (now (work .entry)) (now (work .exit)) (now (legend .entry)) (now (legend .exit)) joins (r .joins) places (r .places) (r .answer) ⌝ }
+    ensures { λ r. ⌜ ComposeSays (now (letters .entry)) (now (ends .entry)) (now (work .entry)) (now (work .exit))
+        (now (legend .entry)) (now (legend .exit)) joins (r .joins) places (r .places) (r .answer) ⌝ }
 {
     let answer = legends::compose_tray(letters, ends, work, legend, &mut joins, &mut places);
     Composition {
@@ -57,7 +58,8 @@ pub fn find(
     work: &mut [u16],
     mut found: [Found; 2000],
 ) -> Finding
-    ensures { λ r. ⌜ FindSays (now (letters .entry)) (now (ends .entry)) (now (text .entry)) (now (work .entry)) (now (work .exit)) found (r .found) (r .answer) ⌝ }
+    ensures { λ r. ⌜ FindSays (now (letters .entry)) (now (ends .entry)) (now (text .entry)) (now (work .entry)) (now (work .exit))
+        found (r .found) (r .answer) ⌝ }
 {
     let answer = finding::find_slips(letters, ends, text, work, &mut found);
     Finding { answer, found }
@@ -71,7 +73,8 @@ pub fn compose_two(
     mut joins: [Join; 2],
     mut places: [Place; 2],
 ) -> CompositionTwo
-    ensures { λ two. ⌜ ComposeSays (now (letters .entry)) (now (ends .entry)) (now (work .entry)) (now (work .exit)) (now (legend .entry)) (now (legend .exit)) joins (two .joins) places (two .places) (two .answer) ⌝ }
+    ensures { λ two. ⌜ ComposeSays (now (letters .entry)) (now (ends .entry)) (now (work .entry)) (now (work .exit))
+        (now (legend .entry)) (now (legend .exit)) joins (two .joins) places (two .places) (two .answer) ⌝ }
 {
     let answer = legends::compose_tray(letters, ends, work, legend, &mut joins, &mut places);
     CompositionTwo {
@@ -88,7 +91,8 @@ pub fn find_two(
     work: &mut [u16],
     mut found: [Found; 2],
 ) -> FindingTwo
-    ensures { λ two. ⌜ FindSays (now (letters .entry)) (now (ends .entry)) (now (text .entry)) (now (work .entry)) (now (work .exit)) found (two .found) (two .answer) ⌝ }
+    ensures { λ two. ⌜ FindSays (now (letters .entry)) (now (ends .entry)) (now (text .entry)) (now (work .entry)) (now (work .exit))
+        found (two .found) (two .answer) ⌝ }
 {
     let answer = finding::find_slips(letters, ends, text, work, &mut found);
     FindingTwo { answer, found }
