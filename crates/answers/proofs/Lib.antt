@@ -1,3 +1,4 @@
 -- Laws.
 pub mod AllComposed
 pub mod AllFound
+pub mod FlatPlaces

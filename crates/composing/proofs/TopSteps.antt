@@ -26,9 +26,9 @@ use Rattle.walking.specs.steps.Walking as W
 use Rattle.answers.specs.WorkArea.{workRow}
 use Rattle.answers.specs.declared.Composed.{Composed}
 use Rattle.answers.specs.Composing.{beforeC, composeFault, refusedBy}
+use Rattle.finishing.specs.steps.Finishing.{Joined, Finished}
 use Rattle.composing.specs.steps.Composing.{Staged}
-use Rattle.composing.specs.steps.Composing.{Joined, Finished}
-use Rattle.composing.proofs.FinishSteps.{turned-back}
+use Rattle.finishing.proofs.FinishSteps.{turned-back}
 
 module _ (s es w : List ℕ) (a : Buildable s es w) (nodes : ℕ) (w₁ : List ℕ) (b : Built s es w nodes w₁) (k : ℕ) (w₂ : List ℕ)
     (l : ListsFilled s es (length es) nodes w₁ k w₂) where

@@ -16,3 +16,4 @@ pub mod Bound
 pub mod Demand3
 pub mod Linked
 pub mod Threads
+pub mod KeptSizes

@@ -31,18 +31,14 @@ use Rattle.matching.specs.Occurrences.{Occurrence, occurrence, endingAt, occurr
 use Rattle.matching.proofs.States.{few-moves}
 use Rattle.matching.proofs.Finds.{in-ending}
 use Rattle.outputs.proofs.Outs.{ending-most}
-use Rattle.composing.proofs.PiecesFit.{kept-real, kept-few, kept-small, legend-small}
+use Rattle.greedy.proofs.KeptSizes.{kept-real, kept-few, kept-small, legend-small, length-sum}
 use Rattle.sheet_sizes.specs.Fits.{JoinFits, ComposeFits, OccurrenceFits, FindFits}
 use Rattle.sheet_sizes.proofs.Placed.{joins-rep, place-most}
-
-ones : {A : Type 0} (xs : List A) → sum (λ x. 1) xs ≡ length xs
-ones [] = refl
-ones (x ∷ xs) = omega (arith, ones xs)
 
 -- each chain has a join less than slips
 chains-fewer : (Cs : List Chain) → length Cs + sum (λ C. length (C .rest)) Cs ≡ sum (λ C. sum (λ i. 1) (wholeChain C)) Cs
 chains-fewer [] = refl
-chains-fewer (C ∷ Cs) = omega (arith, chains-fewer Cs, ones (C .rest))
+chains-fewer (C ∷ Cs) = omega (arith, chains-fewer Cs, length-sum (C .rest))
 
 fewer : (Cs : List Chain) (n : ℕ) → length Cs + sum (λ C. length (C .rest)) Cs ≤ suc n → sum (λ C. length (C .rest)) Cs ≤ n
 fewer [] n h = omega arith
@@ -70,7 +66,7 @@ module _ (s es : List ℕ) (acc : trayFault s es .number ≡ 0) where
   joins-fewer : length (joinsOf (whole ss)) ≤ maxSlips - 1
   joins-fewer =
       let (Cs, R) = joins-rep s es acc in
-      omega (arith, R .count, fewer Cs (maxSlips - 1) (omega (arith, chains-fewer Cs, R .all (λ i. 1), ones K, kept-few s es acc)))
+      omega (arith, R .count, fewer Cs (maxSlips - 1) (omega (arith, chains-fewer Cs, R .all (λ i. 1), length-sum K, kept-few s es acc)))
 
   pub compose-fits : ComposeFits ss
   compose-fits =

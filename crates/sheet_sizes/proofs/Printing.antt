@@ -1,7 +1,8 @@
 -- The sheets, as the programs print them: what the functions ask and leave, over the numbers that composing and finding leave.
 --   compose-ready, find-ready      == the functions' asks are met
 --   compose-printed, find-printed  == what is written is the sheet of the slips
-use mathlib.Core.Path.{_≡_}
+--   printed-is                     == what is written, by another name
+use mathlib.Core.Path.{_≡_, _∙_, ap}
 use mathlib.Core.List.{List}
 use Prim.Native.Nat.{ℕ, _≤_}
 use lib.ListN.{length}
@@ -18,6 +19,9 @@ use Rattle.sheets.specs.Sheets.{composeLines, composeSheetOf, findLines, findSh
 use Rattle.sheet_lines.specs.steps.Lines.{ComposeAsks, FindAsks, Printed}
 use Rattle.sheet_sizes.proofs.Flat.{compose-lines-are, find-lines-are}
 use Rattle.sheet_sizes.proofs.Sizes.{compose-asks, find-asks}
+
+pub printed-is : (xs ys o o′ : List ℕ) (n : ℕ) → xs ≡ ys → Printed xs o o′ n → Printed ys o o′ n
+printed-is xs ys o o′ n e p = record { is = p .is ∙ rw e; count = p .count ∙ ap length e }
 
 module _ (s es : List ℕ) (acc : trayFault s es .number ≡ 0) where
   abbrev ss : List (List ℕ)

@@ -1,0 +1,3 @@
+-- Laws of counting before writing.
+pub mod SumLoops
+pub mod CountSteps

@@ -1,0 +1,2 @@
+-- counting
+pub mod steps

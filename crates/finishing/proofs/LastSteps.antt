@@ -1,0 +1,176 @@
+-- From what the walk left to the answer.
+use mathlib.Core.Path.{_≡_, refl, sym, _∙_, ap, subst}
+use mathlib.Core.Bool.{true, _||_}
+use mathlib.Core.List.{List, [], _∷_}
+use Prim.Native.Nat.{ℕ, suc, _+_, _*_, _^_, _≤_, _<_}
+use borrow.Author.Tests.{lt-ltb}
+use native.Mathlib.Omega.{arith}
+use lib.Dec.{eqb, ltb}
+use lib.ListN.{length, getD, take, length-replicate, length-map}
+use Rattle.words.specs.Lists.{upFrom}
+use Rattle.words.proofs.Tests.{by-test, or-left, or-right}
+use Rattle.words.proofs.Sums.{All}
+use Rattle.words.proofs.Runs.{length-upFrom}
+use Rattle.tables.specs.Tables.{table}
+use Rattle.tables.proofs.Tables.{table-length, table-take, table-same}
+use Rattle.trays.specs.declared.Refusal.{Refusal}
+use Rattle.trays.specs.Limits.{maxSlips}
+use Rattle.trays.specs.Slips.{slipsOf, numbers}
+use Rattle.trays.specs.Aside.{kept, counted}
+use Rattle.trays.specs.Faults.{refusal, written}
+use Rattle.trays.proofs.Accepted.{accepted-tells, slips-count}
+use Rattle.greedy.specs.Joins.{Join, rightOf}
+use Rattle.greedy.specs.Composing.{whole, joinsOf, legendOf}
+use Rattle.greedy.specs.Legends.{pieces, piecesFor}
+use Rattle.greedy.proofs.Relabel.{plain-in}
+use Rattle.greedy.proofs.Demand3.{composed}
+use Rattle.greedy.proofs.KeptSizes.{kept-real, kept-few, kept-small, legend-small, pieces-count}
+use Rattle.chains.specs.Pieces.{piecesIn}
+use Rattle.chains.proofs.NeighbourPieces.{pieces-by}
+use Rattle.layout.specs.Layout.{KEPT, JOINS}
+use Rattle.layout.specs.Staging.{joinIn, joinsIn}
+use Rattle.answers.specs.declared.Composed.{Composed}
+use Rattle.answers.specs.Composing.{refusedBy}
+use Rattle.counting.specs.declared.LetterCounts.{LetterCounts}
+use Rattle.counting.specs.steps.Counting.{AfterWalk, LetterCountsAre}
+use Rattle.counting.proofs.CountSteps.{kept-part, kept-asks}
+use Rattle.writing.specs.steps.Writing.{piecesHere, StageAsks, PiecesStaged, WritingAsks, Written}
+use Rattle.finishing.specs.steps.Finishing.{Joined, Finished, OutcomeAsks, outcomeBy}
+use Rattle.finishing.proofs.FinishSteps.{legend-short, lists-short, nothing-short, answer-composed, turned-back, flat-table}
+
+right-most : (m i : ℕ) (js : List Join) → All (λ j. j .right ≤ m) js → rightOf i js ≤ m
+right-most m i [] a = omega arith
+right-most m i (j ∷ js) a = by-test (eqb i (j .left)) (λ t. rw (t, rightOf) (a .0)) (λ t. rw (t, rightOf) (right-most m i js (a .1)))
+
+all-map : {A : Type 0} {P Q : A → Type 0} → ((x : A) → P x → Q x) → (xs : List A) → All P xs → All Q xs
+all-map f [] a = tt
+all-map f (x ∷ xs) a = (f x (a .0), all-map f xs (a .1))
+
+module _ (s es w : List ℕ) (k j : ℕ) (left right overs : List ℕ) (a : Joined s es w k j left right overs) where
+  abbrev ss : List (List ℕ)
+  ss = slipsOf s es
+
+  abbrev K : List ℕ
+  K = kept ss (numbers ss)
+
+  walked : AfterWalk s es w k j
+  walked = a .walked
+
+  few-ends : length es ≤ maxSlips
+  few-ends = accepted-tells s es (walked .tray) .few
+
+  count-joins : length (joinsIn w j) ≡ j
+  count-joins = length-map (upFrom 0 j) (joinIn w) ∙ length-upFrom 0 j
+
+  count-kept : k ≡ length K
+  count-kept = sym (table-length w KEPT k (omega (arith, walked .room, walked .few-kept))) ∙ ap length (walked .kept-is)
+
+  first-kept : take k (table w KEPT maxSlips) ≡ K
+  first-kept = table-take w KEPT k maxSlips (walked .few-kept) ∙ walked .kept-is
+
+  small : (i : ℕ) → rightOf i (joinsIn w j) ≤ maxSlips
+  small i =
+      rw (walked .joins-are)
+      (right-most maxSlips i (joinsOf (whole ss))
+      (all-map (λ e h. omega (arith, few-ends, kept-real s es (walked .tray) (e .right) (h .1) .1)) (joinsOf (whole ss)) (plain-in counted ss K)))
+
+  here-pieces : piecesHere w k j left right overs ≡ piecesFor counted ss (numbers ss)
+  here-pieces =
+      let n = a .neighbours in
+      let t : j + 1 ≡ suc (length (joinsIn w j)) = omega (arith, count-joins) in
+      rw (first-kept, t)
+      (pieces-by (joinsIn w j) left right overs (n .left-is) (n .right-is) (n .over-is) small K
+      (λ i h. let r = kept-real s es (walked .tray) i h in (r .0, omega (arith, few-ends, r .1)))
+      ∙ rw (walked .joins-are))
+
+  pub stage-can : StageAsks w k j left right overs
+  stage-can =
+      let n = a .neighbours in
+      let r = kept-asks s es w k j walked in
+      record {
+        room = walked .room;
+        few-joins = walked .few-joins;
+        asks =
+            record {
+              enough = omega (arith, table-length w KEPT maxSlips (omega (arith, walked .room)), walked .few-kept);
+              real = λ i h. let q = r .real i h in let e =
+                  ap (λ (l : List ℕ). getD l i 0) (kept-part s es w k j walked) in (omega (arith, q .0), omega (arith, q .1, few-ends));
+              lefts = n .lefts;
+              rights = n .rights;
+              over-all = n .over-all;
+              right-small = λ i h. rw (n .right-is i h) (small (suc i));
+              cells = rw (length-replicate {A = ℕ} (2 * maxSlips) 0) (omega arith);
+              room = rw here-pieces (omega (arith, pieces-count s es (walked .tray), kept-few s es (walked .tray)));
+            };
+      }
+
+  module _ (c : LetterCounts) (h : LetterCountsAre s es c) where
+    pub small-need : c .need < 2 ^ 32
+    small-need = omega (arith, h .need-is, legend-small s es (walked .tray))
+
+    pub outcome-can : OutcomeAsks (length es) k c j
+    outcome-can =
+        record {
+          slips-fit = omega (arith, few-ends);
+          kept-fit = omega (arith, walked .few-kept);
+          letters-fit = omega (arith, h .letters-are, kept-small s es (walked .tray));
+          saved-fit = omega (arith, h .letters-are, h .saved-are, kept-small s es (walked .tray), composed ss .saving);
+          need-fit = small-need;
+          joins-fit = omega (arith, walked .few-joins);
+        }
+
+    count-plain : j ≡ length (joinsOf (whole ss))
+    count-plain = sym count-joins ∙ ap length (walked .joins-are)
+
+    module _ (l : List ℕ) (jr pr : ℕ) where
+      pub last-legend : (r : Composed) → length l < c .need → r ≡ refusedBy (refusal 8 (c .need)) → Finished s es w w l l jr pr r
+      last-legend r q e =
+          turned-back s es w l jr pr (refusal 8 (c .need)) 7 (c .need) r refl
+          (legend-short s es w (walked .tray) (walked .room) (length l) jr pr (omega (arith, h .need-is)) ∙ ap (refusal 8) (sym (h .need-is))) e
+
+      module _ (q : c .need ≤ length l) where
+        short-list : (r : Composed) → ltb jr (length (joinsOf (whole ss))) || ltb pr (length ss) ≡ true → r ≡ refusedBy (refusal 9 j) →
+            Finished s es w w l l jr pr r
+        short-list r t e =
+            turned-back s es w l jr pr (refusal 9 j) 8 j r refl
+            (lists-short s es w (walked .tray) (walked .room) (length l) jr pr (omega (arith, h .need-is)) t ∙ ap (refusal 9) (sym count-plain)) e
+
+        pub last-joins : (r : Composed) → jr < j → r ≡ refusedBy (refusal 9 j) → Finished s es w w l l jr pr r
+        last-joins r u e = short-list r
+            (or-left (ltb jr (length (joinsOf (whole ss)))) _ (lt-ltb jr (length (joinsOf (whole ss))) (omega (arith, count-plain)))) e
+
+        pub last-places : (r : Composed) → pr < length es → r ≡ refusedBy (refusal 9 j) → Finished s es w w l l jr pr r
+        last-places r u e = short-list r (or-right (ltb jr (length (joinsOf (whole ss)))) _ (lt-ltb pr (length ss) (omega (arith, slips-count s es)))) e
+
+        pub write-can : (xs : List ℕ) → PiecesStaged w k j left right overs xs → WritingAsks s es w l xs k (c .need)
+        write-can xs p =
+            record {
+              room = walked .room;
+              tray = walked .tray;
+              need-is = h .need-is;
+              space = q;
+              pieces = record {
+                size = p .size;
+                count-is = count-kept;
+                are = subst (λ (n : ℕ). piecesIn xs 0 n ≡ piecesFor counted ss (numbers ss))
+                    (pieces-count s es (walked .tray) ∙ sym count-kept) (rw here-pieces at (p .are));
+              };
+            }
+
+        pub last-good : (w′ l′ : List ℕ) (r : Composed) → j ≤ jr → length es ≤ pr → Written s es w w′ l l′ → r ≡ outcomeBy (length es) k c j →
+            Finished s es w w′ l l′ jr pr r
+        last-good w′ l′ r u v d o =
+            let f = nothing-short s es w (walked .tray) (walked .room) (length l) jr pr (omega (arith, h .need-is)) (omega (arith, count-plain))
+            (omega (arith, slips-count s es)) in
+            let b = d .placed .below in
+            record {
+              answer-is = o ∙ rw (← (slips-count s es), count-kept, h .letters-are, h .saved-are, h .need-is, count-plain)
+                  (sym (answer-composed s es (length w) (length l) jr pr f));
+              legend-is = d .legend-is ∙ sym (ap (λ (g : Refusal). written g (legendOf (whole ss)) l) f);
+              same = b .same;
+              joins-are = λ z. rw o
+                  (table-same w w′ JOINS (3 * j) (b .same) (λ i o. b .cells (JOINS + i) (omega (arith, walked .few-joins)))
+                  ∙ flat-table w (walked .room) j (walked .few-joins)
+                  ∙ rw (walked .joins-are));
+              places-are = λ z. rw o (d .placed .places-are);
+            }

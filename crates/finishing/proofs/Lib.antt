@@ -1,0 +1,3 @@
+-- Laws of the last step of composing.
+pub mod FinishSteps
+pub mod LastSteps

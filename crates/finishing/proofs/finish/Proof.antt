@@ -1,0 +1,43 @@
+use Rattle.finishing.proofs.LastSteps.{stage-can, small-need, outcome-can, last-legend, last-joins, last-places, write-can, last-good}
+use borrow.Author.Needs.{needs}
+use Rattle.finishing.proofs.finish.Statement.{statement}
+use Rattle.finishing.proofs.finish.Tie as tie
+
+cast-refused : tie.Need-cast-refused
+cast-refused c = record { fits = search small-need }
+
+returns : tie.Need-returns
+returns c = search last-legend
+
+returns-2 : tie.Need-returns-2
+returns-2 c = search last-joins
+
+returns-3 : tie.Need-returns-3
+returns-3 c = search last-places
+
+pieces-of-requires : tie.Need-pieces-of-requires
+pieces-of-requires c κs = search stage-can
+
+write-out-requires : tie.Need-write-out-requires
+write-out-requires c κs = search write-can
+
+outcome-requires : tie.Need-outcome-requires
+outcome-requires c κs = search outcome-can
+
+-- what is behind the moment at which the answer is made up: `search` does not find its way past more records, so these are no lets
+abbrev written : tie.After-outcome → tie.After-write-out
+written told = told .before .before .before .before .before
+
+abbrev start : tie.After-outcome → tie.Start
+start told =
+    written told .before .before .before .before .before .before .before .before .before .before .before .before .before .before .before .before .before .before
+
+returns-4 : tie.Need-returns-4
+returns-4 c =
+    last-good _ _ _ _ _ _ _ _ (start c .pre) _ (search needs) _ _ _ (search needs) _ _ _ (search needs) (search needs) (written c .write-out .ensures)
+    (c .outcome .ensures)
+
+pub finish-spec : {M : Type 1} → statement M
+finish-spec = tie.close (tie.spec (λ c κs. search needs) cast-refused (λ c κs. search needs) (λ c. search needs) returns (λ c. search needs)
+    (λ c κs. search needs) (λ c. search needs) returns-2 (λ c. search needs) (λ c κs. search needs) (λ c. search needs) returns-3
+    pieces-of-requires (λ c. search needs) write-out-requires outcome-requires (λ c. search needs) (λ c. search needs) returns-4)

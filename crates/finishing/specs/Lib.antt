@@ -1,0 +1,2 @@
+-- finishing
+pub mod steps

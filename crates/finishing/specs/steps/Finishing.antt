@@ -1,0 +1,42 @@
+-- The last step of composing: what it asks and leaves.
+--   Joined      == the work area and the lists of neighbours after the walk
+--   outcomeBy   == the answer made of the counts
+--   Finished    == what the last step leaves
+use mathlib.Core.Path.{_≡_}
+use mathlib.Core.List.{List}
+use Prim.Native.Nat.{ℕ, _*_, _^_, _<_}
+use lib.ListN.{length}
+use Rattle.tables.specs.Tables.{table}
+use Rattle.trays.specs.Slips.{slipsOf}
+use Rattle.trays.specs.Faults.{written}
+use Rattle.greedy.specs.Composing.{whole, joinsOf, legendOf}
+use Rattle.layout.specs.Layout.{JOINS, PLACES}
+use Rattle.layout.specs.Staging.{joinsIn, Neighbours}
+use Rattle.answers.specs.declared.Composed.{Composed}
+use Rattle.answers.specs.Composing.{composeFault, composedOf, flatJoins, flatPlaces}
+use Rattle.counting.specs.declared.LetterCounts.{LetterCounts}
+use Rattle.counting.specs.steps.Counting.{AfterWalk}
+
+pub record Joined (s es w : List ℕ) (k j : ℕ) (left right overs : List ℕ) : Type 0 where
+  pub walked : AfterWalk s es w k j
+  pub neighbours : Neighbours (joinsIn w j) left right overs
+
+-- the answer made of the counts
+abbrev pub outcomeBy : ℕ → ℕ → LetterCounts → ℕ → Composed
+outcomeBy slips k c j =
+    record { number = 0; detail = 0; slips = slips; kept = k; letters = c .letters; saved = c .saved; legend = c .need; joins = j }
+
+pub record OutcomeAsks (slips k : ℕ) (c : LetterCounts) (j : ℕ) : Type 0 where
+  pub slips-fit : slips < 2 ^ 32
+  pub kept-fit : k < 2 ^ 32
+  pub letters-fit : c .letters < 2 ^ 32
+  pub saved-fit : c .saved < 2 ^ 32
+  pub need-fit : c .need < 2 ^ 32
+  pub joins-fit : j < 2 ^ 32
+
+pub record Finished (s es w w′ l l′ : List ℕ) (j p : ℕ) (r : Composed) : Type 0 where
+  pub answer-is : r ≡ composedOf s es (length w) (length l) j p
+  pub legend-is : l′ ≡ written (composeFault s es (length w) (length l) j p) (legendOf (whole (slipsOf s es))) l
+  pub same : length w′ ≡ length w
+  pub joins-are : r .number ≡ 0 → table w′ JOINS (3 * r .joins) ≡ flatJoins (joinsOf (whole (slipsOf s es)))
+  pub places-are : r .number ≡ 0 → table w′ PLACES (2 * r .slips) ≡ flatPlaces (whole (slipsOf s es))

@@ -1,0 +1,144 @@
+-- Staging the pieces, and writing the places, step by step through the parts of the work area.
+use mathlib.Core.Path.{_≡_, refl, sym, _∙_, ap}
+use mathlib.Core.List.{List}
+use Prim.Native.Nat.{ℕ, _+_, _-_, _*_, _≤_, _<_}
+use native.Mathlib.Omega.{arith}
+use lib.ListN.{length, getD, take, drop, replicate, length-replicate, getD-replicate}
+use borrow.Rule.Slice.PartMut.{putMid}
+use Rattle.tables.specs.Tables.{table, Filled}
+use Rattle.tables.proofs.Tables.{table-take, part-table, part-filled}
+use Rattle.trays.specs.Limits.{maxSlips, workNeed}
+use Rattle.trays.specs.Slips.{slipsOf, numbers}
+use Rattle.trays.specs.Aside.{counted}
+use Rattle.trays.specs.Faults.{trayFault}
+use Rattle.trays.proofs.Accepted.{accepted-tells, slips-count}
+use Rattle.greedy.specs.Legends.{piecesFor}
+use Rattle.greedy.specs.Composing.{whole, legendOf}
+use Rattle.greedy.proofs.KeptSizes.{kept-few, legend-small}
+use Rattle.chains.specs.Pieces.{piecesIn}
+use Rattle.chains.specs.Chains.{piecesBy, PiecesAsk}
+use Rattle.chains.specs.Pieces.{PiecesBehind}
+use Rattle.placing.specs.Places.{placedBy, asideBy, PlacesAsk}
+use Rattle.placing.proofs.PlacesAre.{placed-length, aside-length}
+use Rattle.layout.specs.Layout.{KEPT, PLACES}
+use Rattle.answers.specs.Composing.{flatPlaces}
+use Rattle.writing.specs.steps.Writing.{piecesHere, StageAsks, PiecesStaged, PlacingAsks, PlacesWritten}
+use Rattle.writing.proofs.PiecesFit.{pieces-once, pieces-which, pieces-places}
+use Rattle.writing.proofs.PlacesFlat.{places-flat}
+
+-- the part `&work[KEPT..KEPT + 200]` is the table
+kept-part : (w : List ℕ) → take (KEPT + maxSlips - KEPT) (drop KEPT w) ≡ table w KEPT maxSlips
+kept-part w = part-table w KEPT maxSlips (KEPT + maxSlips) refl
+
+module _ (w : List ℕ) (k j : ℕ) (left right overs : List ℕ) where
+  pub stage-asks : StageAsks w k j left right overs →
+      PiecesAsk (take (KEPT + maxSlips - KEPT) (drop KEPT w)) k left right overs (j + 1) (replicate (2 * maxSlips) 0)
+  stage-asks a = rw (kept-part w) (a .asks)
+
+  pub stage-gives : (xs : List ℕ) (r : ℕ) →
+      PiecesBehind (piecesBy left right overs (j + 1) (take k (take (KEPT + maxSlips - KEPT) (drop KEPT w)))) 0 (replicate (2 * maxSlips) 0) xs r →
+      PiecesStaged w k j left right overs xs
+  stage-gives xs r f =
+      let g : PiecesBehind (piecesHere w k j left right overs) 0 (replicate (2 * maxSlips) 0) xs r = rw (kept-part w) at f in
+      let e : r ≡ length (piecesHere w k j left right overs) = omega (arith, g .count-is) in
+      record { size = g .same ∙ length-replicate {A = ℕ} (2 * maxSlips) 0; are = rw (← e) (g .pieces-are) }
+
+-- the part `&mut work[PLACES..PLACES + 400]`, lent and come back
+abbrev size : ℕ
+size = 2 * maxSlips
+
+abbrev mine : List ℕ → List ℕ
+mine w = take (PLACES + size - PLACES) (drop PLACES w)
+
+abbrev back : List ℕ → List ℕ → List ℕ
+back w ys = putMid PLACES (PLACES + size - PLACES) w ys
+
+mine-is : (w : List ℕ) → mine w ≡ table w PLACES size
+mine-is w = part-table w PLACES size (PLACES + size) refl
+
+back-is : (w ys : List ℕ) → workNeed ≤ length w → length ys ≡ size → Filled PLACES size ys w (back w ys)
+back-is w ys room l = part-filled w PLACES size (PLACES + size) ys refl (omega arith) l
+
+module _ (s es w t xs : List ℕ) (k : ℕ) (a : PlacingAsks s es w t xs k) (w₁ : List ℕ) (f : Filled PLACES size (replicate size 0) w w₁) where
+  abbrev ss : List (List ℕ)
+  ss = slipsOf s es
+
+  few : 2 * length es ≤ size
+  few = omega (arith, accepted-tells s es (a .tray) .few)
+
+  long : length w₁ ≡ length w
+  long = f .only .same
+
+  blank : mine w₁ ≡ replicate size 0
+  blank = mine-is w₁ ∙ f .cells
+
+  blank-length : length (mine w₁) ≡ size
+  blank-length = rw blank (length-replicate {A = ℕ} size 0)
+
+  pub places-asks : PlacesAsk s es xs k (mine w₁)
+  places-asks =
+      record {
+        tray = a .tray;
+        pairs = omega (arith, a .pieces .size, a .pieces .count-is, kept-few s es (a .tray));
+        places = omega (arith, few, blank-length);
+        fits = rw (a .pieces .are) (pieces-places s es (a .tray));
+      }
+
+  module _ (p₁ : List ℕ) (e₁ : p₁ ≡ placedBy ss (mine w₁) 1 (piecesIn xs 0 k)) where
+    first-length : length p₁ ≡ size
+    first-length = rw e₁ (placed-length ss (piecesIn xs 0 k) (mine w₁) 1 ∙ blank-length)
+
+    first : Filled PLACES size p₁ w₁ (back w₁ p₁)
+    first = back-is w₁ p₁ (omega (arith, a .room, long)) first-length
+
+    again : mine (back w₁ p₁) ≡ p₁
+    again = mine-is (back w₁ p₁) ∙ first .cells
+
+    pub aside-asks : (trayFault s es .number ≡ 0) × (length t < 65535) × (2 * length es ≤ length (mine (back w₁ p₁)))
+    aside-asks = (
+      a .tray,
+      omega (arith, ap length (a .legend-is), legend-small s es (a .tray)),
+      omega (arith, few, ap length again, first-length),
+    )
+
+    module _ (p₂ : List ℕ) (e₂ : p₂ ≡ asideBy ss t (mine (back w₁ p₁)) (length es)) where
+      second-is : p₂ ≡ asideBy ss (legendOf (whole ss)) (placedBy ss (replicate size 0) 1 (piecesFor counted ss (numbers ss))) (length ss)
+      second-is = e₂ ∙ rw (again, e₁, blank, a .pieces .are, a .legend-is, slips-count s es)
+
+      second-length : length p₂ ≡ size
+      second-length = rw (e₂, again) (aside-length ss t p₁ (length es) ∙ first-length)
+
+      second : Filled PLACES size p₂ (back w₁ p₁) (back (back w₁ p₁) p₂)
+      second = back-is (back w₁ p₁) p₂ (omega (arith, a .room, long, first .only .same)) second-length
+
+      pub places-same : length (back (back w₁ p₁) p₂) ≡ length w
+      places-same = second .only .same ∙ first .only .same ∙ long
+
+      all-flat : take (2 * length ss) p₂ ≡ flatPlaces (whole ss)
+      all-flat =
+          rw second-is
+          (places-flat ss (replicate size 0) room zeros (pieces-once s es (a .tray)) (pieces-which s es (a .tray))
+          (placed-length ss (piecesFor counted ss (numbers ss)) (replicate size 0) 1)
+          (rw (← second-is) (omega (arith, second-length, few, slips-count s es))))
+        where
+          room : 2 * length ss ≤ length {A = ℕ} (replicate size 0)
+          room = rw (length-replicate {A = ℕ} size 0) (omega (arith, few, slips-count s es))
+
+          zeros : (i : ℕ) → i < length ss → getD {A = ℕ} (replicate size 0) (2 * i + 1) 0 ≡ 0
+          zeros i h = getD-replicate size (2 * i + 1) 0 0 (omega (arith, few, slips-count s es))
+
+      pub places-given : PlacesWritten s es w (back (back w₁ p₁) p₂)
+      places-given =
+          record {
+            below =
+                record {
+                  same = places-same;
+                  cells = λ p h.
+                      second .only .kept p (λ q. absurd (omega (arith, q .from)))
+                      ∙ first .only .kept p (λ q. absurd (omega (arith, q .from)))
+                      ∙ f .only .kept p (λ q. absurd (omega (arith, q .from)));
+                };
+            places-are =
+                sym (table-take (back (back w₁ p₁) p₂) PLACES (2 * length es) size few)
+                ∙ rw (second .cells, ← (slips-count s es)) all-flat;
+          }

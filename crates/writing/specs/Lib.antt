@@ -1,0 +1,2 @@
+-- writing
+pub mod steps
