@@ -24,8 +24,9 @@ use Rattle.sheets.specs.Sheets.{detailWidth, refusedLine, refusedSize, composeS
 use Rattle.sheet_lines.specs.steps.Lines.{Printed}
 use Rattle.sheets.specs.Programs.{lettersIn, endsIn, traySheet, composeSheetFault, composeSheet, textOf, textFault, textSheet, findSheetFault, findSheet}
 use Rattle.sheet_sizes.proofs.RefusalsFit.{read-refusal-fits}
-use Rattle.printing.specs.steps.Lent.{FileRoom, ComposeRoom, TextRoom, FindRoom, Trimmed}
-use Rattle.printing.proofs.TraySteps.{printed-is}
+use Rattle.sheet_sizes.proofs.Printing.{printed-is}
+use Rattle.text_sheets.specs.steps.Lent.{TextRoom, Trimmed}
+use Rattle.printing.specs.steps.Lent.{FileRoom, ComposeRoom, FindRoom}
 
 -- what turns the file itself back, whatever is lent
 abbrev own : List ℕ → Refusal

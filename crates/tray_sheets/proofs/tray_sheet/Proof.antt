@@ -1,8 +1,8 @@
-use Rattle.printing.proofs.TraySteps.{refused-can, tray-refused, counts, legend-count, lines-can, tray-printed}
+use Rattle.tray_sheets.proofs.TraySteps.{refused-can, tray-refused, counts, legend-count, lines-can, tray-printed}
 use native.Mathlib.Omega.{arith}
 use borrow.Author.Needs.{needs}
-use Rattle.printing.proofs.tray_sheet.Statement.{statement}
-use Rattle.printing.proofs.tray_sheet.Tie as tie
+use Rattle.tray_sheets.proofs.tray_sheet.Statement.{statement}
+use Rattle.tray_sheets.proofs.tray_sheet.Tie as tie
 
 -- where the function starts, from behind its first call
 abbrev start : tie.After-compose-staged → tie.Start

@@ -1,7 +1,7 @@
-use Rattle.printing.proofs.Trims.{trim-empty, trim-ended, trim-open}
+use Rattle.text_sheets.proofs.Trims.{trim-empty, trim-ended, trim-open}
 use borrow.Author.Needs.{needs}
-use Rattle.printing.proofs.text_length.Statement.{statement}
-use Rattle.printing.proofs.text_length.Tie as tie
+use Rattle.text_sheets.proofs.text_length.Statement.{statement}
+use Rattle.text_sheets.proofs.text_length.Tie as tie
 
 returns : tie.Need-returns
 returns c = trim-empty _ (c .if1 .taken)

@@ -1,7 +1,7 @@
-use Rattle.printing.proofs.TextSteps.{refused-can, text-refused, found-within, found-count, lines-can, text-printed}
+use Rattle.text_sheets.proofs.TextSteps.{refused-can, text-refused, found-within, found-count, lines-can, text-printed}
 use borrow.Author.Needs.{needs}
-use Rattle.printing.proofs.text_sheet.Statement.{statement}
-use Rattle.printing.proofs.text_sheet.Tie as tie
+use Rattle.text_sheets.proofs.text_sheet.Statement.{statement}
+use Rattle.text_sheets.proofs.text_sheet.Tie as tie
 
 -- where the function starts, from behind its first call
 abbrev start : tie.After-find-flat → tie.Start

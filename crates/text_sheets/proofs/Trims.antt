@@ -12,7 +12,7 @@ use lib.Seq.{take-length, length-take-le}
 use Rattle.words.specs.Lists.{lastOr}
 use Rattle.checking.proofs.CheckLoops.{last-some}
 use Rattle.files.specs.Lines.{lf}
-use Rattle.printing.specs.steps.Lent.{Trimmed}
+use Rattle.text_sheets.specs.steps.Lent.{Trimmed}
 
 pub trim-empty : (x : List ℕ) → length x ≡ 0 → Trimmed x 0
 trim-empty [] z = record { within = omega arith; is = refl }

@@ -27,10 +27,9 @@ use Rattle.sheets.specs.Sheets.{detailWidth, refusedLine, refusedSize, findLine
 use Rattle.sheet_lines.specs.steps.Lines.{Printed, FindAsks}
 use Rattle.sheets.specs.Programs.{textFault, textSheet}
 use Rattle.sheet_sizes.proofs.Flat.{two-length}
-use Rattle.sheet_sizes.proofs.Printing.{find-ready, find-printed}
+use Rattle.sheet_sizes.proofs.Printing.{printed-is, find-ready, find-printed}
 use Rattle.sheet_sizes.proofs.TextRows.{TextAccepted, text-tells, text-refusal-fits}
-use Rattle.printing.specs.steps.Lent.{TextRoom}
-use Rattle.printing.proofs.TraySteps.{printed-is}
+use Rattle.text_sheets.specs.steps.Lent.{TextRoom}
 
 -- a silent row among others
 drop-silent : (xs ys : List Refusal) → firstRow ((xs ++ (accepted ∷ [])) ++ ys) ≡ firstRow (xs ++ ys)

@@ -34,10 +34,8 @@ use Rattle.sheet_sizes.proofs.Fitting.{compose-fits}
 use Rattle.sheet_sizes.proofs.RefusalsFit.{tray-refusal-fits}
 use Rattle.sheet_sizes.proofs.Sizes.{compose-asks}
 use Rattle.sheet_sizes.proofs.Flat.{compose-lines-are}
-use Rattle.printing.specs.steps.Lent.{TrayRoom}
-
-pub printed-is : (xs ys o o′ : List ℕ) (n : ℕ) → xs ≡ ys → Printed xs o o′ n → Printed ys o o′ n
-printed-is xs ys o o′ n e p = record { is = p .is ∙ rw e; count = p .count ∙ ap length e }
+use Rattle.sheet_sizes.proofs.Printing.{printed-is}
+use Rattle.tray_sheets.specs.steps.Lent.{TrayRoom}
 
 -- the two cases of a tray's sheet
 pub sheet-silent : (s es : List ℕ) → trayFault s es .number ≡ 0 → traySheet s es ≡ composeSheetOf (slipsOf s es)

@@ -1,0 +1,3 @@
+-- Laws behind the sheet of a text.
+pub mod TextSteps
+pub mod Trims

@@ -1,0 +1,2 @@
+-- text_sheets
+pub mod steps

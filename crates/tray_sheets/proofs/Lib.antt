@@ -1,0 +1,2 @@
+-- Laws behind the sheet of a tray.
+pub mod TraySteps

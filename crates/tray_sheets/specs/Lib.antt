@@ -1,0 +1,2 @@
+-- tray_sheets
+pub mod steps

@@ -1,0 +1,37 @@
+// From the letters and ends of a tray to its sheet.
+ghost use Rattle.sheet_lines.specs.steps.Lines.{Printed};
+ghost use Rattle.sheets.specs.Programs.{traySheet};
+ghost use Rattle.tray_sheets.specs.steps.Lent.{TrayRoom};
+use layout::JOINS;
+use layout::PLACES;
+
+// So many joins and places are taken: no accepted tray has more.
+const ROWS: usize = 200;
+
+// The sheet of a tray, or the line of its refusal. Answers how many bytes it has.
+pub fn tray_sheet(
+    letters: &[u8],
+    ends: &[u16],
+    work: &mut [u16],
+    legend: &mut [u8],
+    out: &mut [u8],
+) -> usize
+    requires { ⌜ TrayRoom (now work) (now legend) (now out) ⌝ }
+    ensures { λ r. ⌜ Printed (traySheet (now (letters .entry)) (now (ends .entry))) (now (out .entry)) (now (out .exit)) r ⌝ }
+{
+    let c = composing::compose_staged(letters, ends, work, legend, ROWS, ROWS);
+    if c.number != 0 {
+        return sheet_lines::refused_line(c.number, c.detail, out);
+    }
+    let joins = 3 * c.joins as usize;
+    let places = 2 * c.slips as usize;
+    let text = c.legend as usize;
+    sheet_lines::compose_lines(
+        c,
+        ends,
+        &work[JOINS..JOINS + joins],
+        &work[PLACES..PLACES + places],
+        &legend[..text],
+        out,
+    )
+}
