@@ -1,3 +1,5 @@
 -- Laws of the work area.
+pub mod AllSpecimens
 pub mod Frames
+pub mod RowLaws
 pub mod Heads

@@ -3,3 +3,4 @@ pub mod Layout
 pub mod Tables
 pub mod Numbered
 pub mod Staging
+pub mod Rows

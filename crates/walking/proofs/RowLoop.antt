@@ -21,10 +21,11 @@ use Rattle.layout.specs.Layout.{LEVEL, JOINS}
 use Rattle.layout.specs.Tables.{cell}
 use Rattle.layout.specs.Numbered.{patternsIn}
 use Rattle.layout.specs.Staging.{keptIn, joinsIn}
-use Rattle.walking.specs.steps.Runs.{startersAt, endersAt}
-use Rattle.walking.specs.steps.Marks.{Marks}
-use Rattle.walking.specs.steps.Walking.{JoinsMade, Visits, Walkable, RowAsks, rowWalked}
-use Rattle.walking.proofs.RowLaws.{row-num}
+use Rattle.offers.specs.steps.Runs.{startersAt, endersAt}
+use Rattle.offers.specs.steps.Marks.{Marks}
+use Rattle.offers.specs.steps.Offers.{JoinsMade}
+use Rattle.walking.specs.steps.Walking.{Visits, Walkable, RowAsks, rowWalked}
+use Rattle.layout.proofs.RowLaws.{row-num}
 use Rattle.walking.proofs.WalkableLaws.{kept-rises, here-sized, node-starts, node-ends, patterns-same, kept-same, walkable-kept}
 
 pub record RowWalking (s es : List ℕ) (n k count : ℕ) (w₀ : List ℕ) (d made₀ : ℕ) (w : List ℕ) (made v end : ℕ)

@@ -12,12 +12,13 @@ use Rattle.greedy.specs.Joins.{Join}
 use Rattle.greedy.proofs.Scans as S
 use Rattle.layout.specs.Layout.{STARTS, ENDS, JOINS}
 use Rattle.layout.specs.Staging.{joinsIn}
-use Rattle.walking.specs.steps.Runs.{nextStarter, nextEnder, startersFrom, startersAt, endersFrom, endersAt, Real, ListedFrom}
-use Rattle.walking.specs.steps.Marks.{Marks}
-use Rattle.walking.specs.steps.Walking.{Sized, Searches, FoundPartner, JoinsMade, Offers, Visits}
-use Rattle.walking.proofs.RunLaws.{listed-first, listed-next, listed-real, sized-kept, ender-kept, starter-kept}
-use Rattle.walking.proofs.ScanLaws.{MarksOf, waiting-twice, scan-waiting}
-use Rattle.walking.proofs.MarkLaws.{right-mark}
+use Rattle.offers.specs.steps.Runs.{nextStarter, nextEnder, startersFrom, startersAt, endersFrom, endersAt, Real, ListedFrom}
+use Rattle.offers.specs.steps.Marks.{Marks}
+use Rattle.offers.specs.steps.Offers.{Sized, Searches, FoundPartner, JoinsMade, Offers}
+use Rattle.walking.specs.steps.Walking.{Visits}
+use Rattle.offers.proofs.RunLaws.{listed-first, listed-next, listed-real, sized-kept, ender-kept, starter-kept}
+use Rattle.offers.proofs.ScanLaws.{MarksOf, waiting-twice, scan-waiting}
+use Rattle.offers.proofs.MarkLaws.{right-mark}
 
 pub record Visiting (es : List ℕ) (d v : ℕ) (w₀ : List ℕ) (count : ℕ) (w : List ℕ) (made l r : ℕ) (left right overs first last : List ℕ) : Type 0 where
   pub sized : Sized es w₀ d

@@ -26,11 +26,13 @@ use Rattle.layout.specs.Layout.{LEVEL, JOINS}
 use Rattle.layout.specs.Tables.{cell, members}
 use Rattle.layout.specs.Numbered.{patternsIn}
 use Rattle.layout.specs.Staging.{keptIn, joinsIn}
-use Rattle.walking.specs.steps.Marks.{Marks}
-use Rattle.walking.specs.steps.Walking.{JoinsMade, Walkable, RowAsks, nodesAt, rows, rowWalked, Fresh, Walked}
-use Rattle.walking.proofs.MarkLaws.{marks-none}
-use Rattle.walking.proofs.JoinCells.{joins-length}
-use Rattle.walking.proofs.RowLaws.{rows-nodes}
+use Rattle.offers.specs.steps.Marks.{Marks}
+use Rattle.layout.specs.Rows.{nodesAt, rows}
+use Rattle.offers.specs.steps.Offers.{JoinsMade}
+use Rattle.walking.specs.steps.Walking.{Walkable, RowAsks, rowWalked, Fresh, Walked}
+use Rattle.offers.proofs.MarkLaws.{marks-none}
+use Rattle.offers.proofs.JoinCells.{joins-length}
+use Rattle.layout.proofs.RowLaws.{rows-nodes}
 use Rattle.walking.proofs.WalkableLaws.{kept-rises, kept-member, kept-count, patterns-same, kept-same, walkable-kept}
 
 few-joins : (counts : List ℕ → Bool) (ss : List (List ℕ)) (K : List ℕ) → Asc _<_ K → ((x : ℕ) → In x K → 1 ≤ x) → length (plainFor counts ss K) ≤ length K

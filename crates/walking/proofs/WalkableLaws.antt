@@ -31,10 +31,11 @@ use Rattle.layout.specs.Numbered.{patternsIn, Numbered, SameBelow}
 use Rattle.layout.specs.Staging.{keptIn}
 use Rattle.layout.proofs.Heads.{threaded-kept}
 use Rattle.layout.proofs.Frames.{only-kept, members-kept, patterns-kept, numbered-kept}
-use Rattle.walking.specs.steps.Runs.{along, nextStarter, nextEnder, startersAt, endersAt, Real, ListedFrom}
-use Rattle.walking.specs.steps.Walking.{Sized, Walkable}
-use Rattle.walking.proofs.NextSlips.{start-short}
-use Rattle.walking.proofs.RunLaws.{threaded-along, listed-is}
+use Rattle.offers.specs.steps.Runs.{along, nextStarter, nextEnder, startersAt, endersAt, Real, ListedFrom}
+use Rattle.offers.specs.steps.Offers.{Sized}
+use Rattle.walking.specs.steps.Walking.{Walkable}
+use Rattle.offers.proofs.NextSlips.{start-short}
+use Rattle.offers.proofs.RunLaws.{threaded-along, listed-is}
 
 those-few : {A : Type 0} (t : A → Bool) (xs : List A) → length (those t xs) ≤ length xs
 those-few t [] = omega arith

@@ -1,173 +1,9 @@
-// The walk of the rules over the tables of the automaton in the lent work area: it makes the joins. Neighbours, overlaps and the two ends
-// of each chain stand in lists of 200 marks: the mark of slip i is the one at i - 1, and 0 means none.
-ghost use mathlib.Core.Path.{_≡_};
-ghost use mathlib.Core.List.{_∷_, _++_, []};
-ghost use Prim.Native.Nat.{_-_, _≤_, _<_};
-ghost use lib.ListN.{length, set};
-ghost use Rattle.words.specs.Lists.{upFrom};
-ghost use Rattle.trays.specs.Limits.{maxSlips};
-ghost use Rattle.greedy.specs.Joins.{join};
+// The walk of the rules over the tables of the automaton in the lent work area: it makes the joins.
 ghost use Rattle.greedy.specs.steps.Scans as S;
 ghost use Rattle.layout.specs.Staging.{joinsIn};
-ghost use Rattle.walking.specs.steps.Runs as R;
+ghost use Rattle.offers.specs.steps.Runs as R;
+ghost use Rattle.offers.specs.steps.Offers as O;
 ghost use Rattle.walking.specs.steps.Walking as W;
-
-// The mark of slip `i`.
-fn mark_of(marks: &[u16], i: usize) -> usize
-    requires { ⌜ (1 ≤ i) × (i ≤ length (now marks)) ⌝ }
-    ensures { λ r. ⌜ (r ≡ R.mark (now (marks .entry)) i) × (r < 65536) ⌝ }
-{
-    tables::wide(marks[i - 1])
-}
-
-// Makes `x` the mark of slip `i`.
-fn set_mark(marks: &mut [u16], i: usize, x: usize)
-    requires { ⌜ (1 ≤ i) × (i ≤ length (now marks)) × (x < 65536) ⌝ }
-    ensures { λ _. ⌜ now (marks .exit) ≡ set (now (marks .entry)) (i - 1) x ⌝ }
-{
-    marks[i - 1] = tables::narrow(x);
-}
-
-// Makes each slip its own mark: the end of a chain of one.
-fn own_marks(marks: &mut [u16])
-    requires { ⌜ length (now marks) ≡ maxSlips ⌝ }
-    ensures { λ _. ⌜ now (marks .exit) ≡ upFrom 1 maxSlips ⌝ }
-{
-    let mut i: usize = 0;
-    while i < marks.len() {
-        set_mark(marks, i + 1, i + 1);
-        i += 1;
-    }
-}
-
-// The slip behind `r` among those that begin with a node of `d` letters, 0 for none.
-fn next_starter(work: &[u16], ends: &[u16], d: usize, r: usize) -> usize
-    requires { ⌜ W.Sized (now ends) (now work) d ⌝ }
-    requires { ⌜ R.Real (now ends) d r ⌝ }
-    ensures { λ next. ⌜ next ≡ R.nextStarter (now (work .entry)) (now (ends .entry)) d r ⌝ }
-{
-    let span = spans::slip_span(ends, r);
-    let start = span.start;
-    tables::at(work, layout::STARTS_NEXT, start + d - 1)
-}
-
-// The slip behind `l` among those that properly end with a node of `d` letters, 0 for none.
-fn next_ender(work: &[u16], ends: &[u16], d: usize, l: usize) -> usize
-    requires { ⌜ W.Sized (now ends) (now work) d ⌝ }
-    requires { ⌜ R.Real (now ends) d l ⌝ }
-    ensures { λ next. ⌜ next ≡ R.nextEnder (now (work .entry)) (now (ends .entry)) d l ⌝ }
-{
-    let span = spans::slip_span(ends, l);
-    let end = span.end;
-    tables::at(work, layout::ENDS_NEXT, end - d)
-}
-
-// The first slip without a right neighbour from `from` on among those that properly end with a node of `d` letters, 0 for none.
-fn next_free(work: &[u16], ends: &[u16], right: &[u16], d: usize, from: usize) -> usize
-    requires { ⌜ W.Searches (now ends) (now work) d (now right) from ⌝ }
-    ensures { λ r. ⌜ W.FoundPartner (now (ends .entry)) (now (work .entry)) d (now (right .entry)) from r ⌝ }
-{
-    let mut l = from;
-    while l != 0 {
-        let taken = mark_of(right, l);
-        if taken == 0 {
-            return l;
-        }
-        l = next_ender(work, ends, d, l);
-    }
-    0
-}
-
-// The lowest waiting slip, `l`; if that one is `m`, the second lowest. 0 for none.
-fn partner(work: &[u16], ends: &[u16], right: &[u16], d: usize, l: usize, m: usize) -> usize
-    requires { ⌜ W.Chooses (now ends) (now work) d (now right) l m ⌝ }
-    ensures { λ r. ⌜ r ≡ W.partnerIn (now (right .entry)) (R.endersFrom (now (work .entry)) (now (ends .entry)) d l) m ⌝ }
-{
-    if l != m {
-        return l;
-    }
-    let next = next_ender(work, ends, d, l);
-    next_free(work, ends, right, d, next)
-}
-
-// Writes the join of `l` and `r` behind the first `count`. Answers how many there are then.
-fn put_join(work: &mut [u16], count: usize, l: usize, r: usize, d: usize) -> usize
-    requires { ⌜ W.CanJoin (now work) count l r d ⌝ }
-    ensures { λ made. ⌜ W.JoinPut (now (work .entry)) count l r d (now (work .exit)) made ⌝ }
-{
-    tables::put(work, layout::JOINS, 3 * count, l);
-    tables::put(work, layout::JOINS, 3 * count + 1, r);
-    tables::put(work, layout::JOINS, 3 * count + 2, d);
-    count + 1
-}
-
-// The chain that ends in `l` and the chain that `r` begins become one: its ends are marked at each other.
-fn join_ends(first: &mut [u16], last: &mut [u16], l: usize, r: usize)
-    requires { ⌜ W.EndsFit (now first) (now last) l r ⌝ }
-    ensures { λ _. ⌜ W.EndsJoined (now (first .entry)) (now (last .entry)) l r (now (first .exit)) (now (last .exit)) ⌝ }
-{
-    let begin = mark_of(first, l);
-    let end = mark_of(last, r);
-    set_mark(last, begin, end);
-    set_mark(first, end, begin);
-}
-
-// Joins `r` behind `l` by `d` letters. Answers how many joins there are then.
-fn make_join(
-    work: &mut [u16],
-    count: usize,
-    l: usize,
-    r: usize,
-    d: usize,
-    left: &mut [u16],
-    right: &mut [u16],
-    overs: &mut [u16],
-    first: &mut [u16],
-    last: &mut [u16],
-) -> usize
-    requires { ⌜ W.Joinable (now work) count l r d (now left) (now right) (now overs) (now first) (now last) ⌝ }
-    ensures { λ made. ⌜ W.JoinsMade (now (work .entry)) (joinsIn (now (work .entry)) count ++ (join l r d ∷ []))
-        (now (work .exit)) (now (left .exit)) (now (right .exit)) (now (overs .exit)) (now (first .exit)) (now (last .exit)) made ⌝ }
-{
-    let made = put_join(work, count, l, r, d);
-    set_mark(left, r, l);
-    set_mark(right, l, r);
-    set_mark(overs, l, d);
-    join_ends(first, last, l, r);
-    made
-}
-
-// One slip of a visit: `r`, if it has no left neighbour, is joined behind the lowest waiting slip, which is `l`; if that one is the last of the
-// chain that `r` begins, behind the second lowest; if there is none, not joined. Answers how many joins there are then.
-fn offer(
-    work: &mut [u16],
-    ends: &[u16],
-    d: usize,
-    r: usize,
-    l: usize,
-    count: usize,
-    left: &mut [u16],
-    right: &mut [u16],
-    overs: &mut [u16],
-    first: &mut [u16],
-    last: &mut [u16],
-) -> usize
-    requires { ⌜ W.Offers (now ends) (now work) d r l count (now left) (now right) (now overs) (now first) (now last) ⌝ }
-    ensures { λ made. ⌜ W.JoinsMade (now (work .entry))
-        (S.offer (R.endersFrom (now (work .entry)) (now (ends .entry)) d l) d r (joinsIn (now (work .entry)) count))
-        (now (work .exit)) (now (left .exit)) (now (right .exit)) (now (overs .exit)) (now (first .exit)) (now (last .exit)) made ⌝ }
-{
-    let taken = mark_of(left, r);
-    if taken != 0 {
-        return count;
-    }
-    let chain_end = mark_of(last, r);
-    let best = partner(work, ends, right, d, l, chain_end);
-    if best == 0 {
-        return count;
-    }
-    make_join(work, count, best, r, d, left, right, overs, first, last)
-}
 
 // Visits node `v`, of `d` letters: each slip that begins with it is offered to those that properly end with it. These are passed for good once
 // they have a right neighbour.
@@ -184,7 +20,7 @@ fn visit(
     last: &mut [u16],
 ) -> usize
     requires { ⌜ W.Visits (now ends) (now work) d v count (now left) (now right) (now overs) (now first) (now last) ⌝ }
-    ensures { λ made. ⌜ W.JoinsMade (now (work .entry))
+    ensures { λ made. ⌜ O.JoinsMade (now (work .entry))
         (S.scan (R.endersAt (now (work .entry)) (now (ends .entry)) d v) d (R.startersAt (now (work .entry)) (now (ends .entry)) d v)
         (joinsIn (now (work .entry)) count))
         (now (work .exit)) (now (left .exit)) (now (right .exit)) (now (overs .exit)) (now (first .exit)) (now (last .exit)) made ⌝ }
@@ -193,9 +29,9 @@ fn visit(
     let mut l = tables::at(work, layout::ENDS, v);
     let mut r = tables::at(work, layout::STARTS, v);
     while r != 0 {
-        l = next_free(work, ends, right, d, l);
-        made = offer(work, ends, d, r, l, made, left, right, overs, first, last);
-        r = next_starter(work, ends, d, r);
+        l = offers::next_free(work, ends, right, d, l);
+        made = offers::offer(work, ends, d, r, l, made, left, right, overs, first, last);
+        r = offers::next_starter(work, ends, d, r);
     }
     made
 }
@@ -217,7 +53,8 @@ fn walk_row(
     last: &mut [u16],
 ) -> usize
     requires { ⌜ W.RowAsks (now letters) (now ends) n k nodes (now work) d count (now left) (now right) (now overs) (now first) (now last) ⌝ }
-    ensures { λ made. ⌜ W.JoinsMade (now (work .entry)) (W.rowWalked (now (letters .entry)) (now (ends .entry)) n k (now (work .entry)) d count) (now (work .exit)) (now (left .exit)) (now (right .exit)) (now (overs .exit)) (now (first .exit)) (now (last .exit)) made ⌝ }
+    ensures { λ made. ⌜ O.JoinsMade (now (work .entry)) (W.rowWalked (now (letters .entry)) (now (ends .entry)) n k (now (work .entry)) d count)
+        (now (work .exit)) (now (left .exit)) (now (right .exit)) (now (overs .exit)) (now (first .exit)) (now (last .exit)) made ⌝ }
 {
     let mut made = count;
     let mut v = tables::at(work, layout::LEVEL, d);
@@ -248,8 +85,8 @@ pub fn walk(
     ensures { λ made. ⌜ W.Walked (now (letters .entry)) (now (ends .entry)) k
         (now (work .entry)) (now (work .exit)) (now (left .exit)) (now (right .exit)) (now (overs .exit)) made ⌝ }
 {
-    own_marks(first);
-    own_marks(last);
+    offers::own_marks(first);
+    offers::own_marks(last);
     let mut made: usize = 0;
     let mut d = trays::MAX_SLIP;
     while 0 < d {

@@ -1,7 +1,7 @@
 -- Invariant: to offer the slips from r on to those from l on makes of the joins made so far all joins of the visit; the marks are those of the joins
 -- made, and no cell outside JOINS has changed.
 use lib.ListN.{length}
-use Rattle.walking.specs.steps.Runs.{startersFrom}
+use Rattle.offers.specs.steps.Runs.{startersFrom}
 use Rattle.walking.proofs.VisitLoop.{Visiting, visit-start, visit-searches, visit-end, visit-real, visit-offers, visit-next, visit-less, visit-turn}
 use borrow.Author.Needs.{needs}
 use Rattle.walking.proofs.visit.Statement.{statement}

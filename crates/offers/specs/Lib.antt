@@ -1,0 +1,2 @@
+-- offers
+pub mod steps

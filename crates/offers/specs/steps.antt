@@ -1,0 +1,4 @@
+-- What only loops and their proofs need.
+pub mod Runs
+pub mod Marks
+pub mod Offers
