@@ -22,11 +22,11 @@ use Rattle.record_loops.specs.Firsts.{firsts}
 use Rattle.answers.specs.declared.Join.{Join}
 use Rattle.answers.specs.declared.Place.{Place}
 use Rattle.legends.specs.declared.ToStore.{ToStore}
-use Rattle.legends.specs.steps.Made.{joinAt, placeAt}
+use Rattle.records.specs.steps.Made.{joinAt, placeAt}
 use Rattle.answers.specs.Records.{faultOf, ComposeSays}
 use Rattle.answers.specs.Records.{joinRecord, placeRecord}
-use Rattle.legends.specs.steps.Made.{StagedCounts}
-use Rattle.legends.proofs.Records.{joins-made, places-made}
+use Rattle.legends.specs.steps.Counted.{StagedCounts}
+use Rattle.records.proofs.Records.{joins-made, places-made}
 
 module _ (s es w w′ l l′ : List ℕ) (js : List Join) (ps : List Place) (r : ToStore) (c : StagedCounts s es w w′ l l′ (length js) (length ps) r) where
   abbrev ss : List (List ℕ)

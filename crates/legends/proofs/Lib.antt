@@ -1,3 +1,2 @@
--- From the staged numbers to the records.
-pub mod Records
+-- Laws of composing into lists of structs.
 pub mod Composing

@@ -4,17 +4,17 @@ use native.Mathlib.Omega.{arith}
 use lib.ListN.{length}
 use Rattle.record_loops.proofs.Loop.{stored-by}
 use Rattle.layout.specs.Layout.{JOINS}
-use Rattle.legends.specs.steps.Made.{joinAt}
+use Rattle.records.specs.steps.Made.{joinAt}
 use Rattle.answers.proofs.Join as T
 use Rattle.answers.proofs.Join.Laws as T′
-use Rattle.legends.proofs.join_at.Symbol as join-at
-use Rattle.legends.proofs.join_at.Met as join-at-thm
-use Rattle.legends.proofs.store_joins.Key.{name}
-use Rattle.legends.proofs.store_joins.Code as code
-use Rattle.legends.proofs.store_joins.Statement.{statement}
+use Rattle.records.proofs.join_at.Symbol as join-at
+use Rattle.records.proofs.join_at.Met as join-at-thm
+use Rattle.records.proofs.store_joins.Key.{name}
+use Rattle.records.proofs.store_joins.Code as code
+use Rattle.records.proofs.store_joins.Statement.{statement}
 
 pub store-joins-spec : {M : Type 1} → statement M
 unfolding code.routine
 store-joins-spec 𝓤 H 𝓜 𝓖 𝓡 =
     stored-by T.the-type T′.the-laws join-at.name (λ w i. 3 * (i + 1) ≤ length w - JOINS) (λ w n. 3 * n ≤ length w - JOINS) joinAt (λ w i n l e. omega arith)
-    𝓤 H 𝓜 𝓖 𝓡 code.env join-at.routine code.calls-legends·join-at (join-at-thm.met 𝓤 H 𝓜 𝓖 𝓡) name (code.unfolded 𝓤 H 𝓜 𝓡)
+    𝓤 H 𝓜 𝓖 𝓡 code.env join-at.routine code.calls-records·join-at (join-at-thm.met 𝓤 H 𝓜 𝓖 𝓡) name (code.unfolded 𝓤 H 𝓜 𝓡)

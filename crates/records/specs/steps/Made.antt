@@ -1,26 +1,16 @@
 -- Joins and places as records, from where composing stages them in the work area w (layout's tables JOINS and PLACES).
 --   joinAt w i  == join i: left slip, right slip, overlap are three numbers from 3 * i on
 --   placeAt w i == the place of slip i + 1: its place, and 1 if it was kept, are two numbers from 2 * i on
---   StagedCounts == what the core leaves, with its counts as numbers of elements
-use mathlib.Core.Path.{_≡_}
 use mathlib.Core.List.{List}
 use Prim.Native.Nat.{ℕ, _+_, _*_}
 use lib.Dec.{eqb}
 use Rattle.layout.specs.Layout.{JOINS, PLACES}
 use Rattle.layout.specs.Tables.{cell}
-use Rattle.composing.specs.steps.Composing.{Staged}
 use Rattle.answers.specs.declared.Join.{Join}
 use Rattle.answers.specs.declared.Place.{Place}
-use Rattle.legends.specs.declared.ToStore.{ToStore}
 
 abbrev pub joinAt : List ℕ → ℕ → Join
 joinAt w i = record { left = cell w JOINS (3 * i); right = cell w JOINS (3 * i + 1); overlap = cell w JOINS (3 * i + 2) }
 
 abbrev pub placeAt : List ℕ → ℕ → Place
 placeAt w i = record { slip = i + 1; place = cell w PLACES (2 * i); kept = eqb (cell w PLACES (2 * i + 1)) 1 }
-
--- the counts of the answer, as numbers of elements
-pub record StagedCounts (s es w w′ l l′ : List ℕ) (j p : ℕ) (r : ToStore) : Type 0 where
-  pub stages : Staged s es w w′ l l′ j p (r .answer)
-  pub joins-is : r .joins ≡ r .answer .joins
-  pub places-is : r .places ≡ r .answer .slips

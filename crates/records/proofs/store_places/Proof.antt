@@ -4,18 +4,18 @@ use native.Mathlib.Omega.{arith}
 use lib.ListN.{length}
 use Rattle.record_loops.proofs.Loop.{stored-by}
 use Rattle.layout.specs.Layout.{PLACES}
-use Rattle.legends.specs.steps.Made.{placeAt}
+use Rattle.records.specs.steps.Made.{placeAt}
 use Rattle.answers.proofs.Place as T
 use Rattle.answers.proofs.Place.Laws as T′
-use Rattle.legends.proofs.place_at.Symbol as place-at
-use Rattle.legends.proofs.place_at.Met as place-at-thm
-use Rattle.legends.proofs.store_places.Key.{name}
-use Rattle.legends.proofs.store_places.Code as code
-use Rattle.legends.proofs.store_places.Statement.{statement}
+use Rattle.records.proofs.place_at.Symbol as place-at
+use Rattle.records.proofs.place_at.Met as place-at-thm
+use Rattle.records.proofs.store_places.Key.{name}
+use Rattle.records.proofs.store_places.Code as code
+use Rattle.records.proofs.store_places.Statement.{statement}
 
 pub store-places-spec : {M : Type 1} → statement M
 unfolding code.routine
 store-places-spec 𝓤 H 𝓜 𝓖 𝓡 =
     stored-by T.the-type T′.the-laws place-at.name (λ w i. (2 * (i + 1) ≤ length w - PLACES) × (i + 1 < 65536))
     (λ w n. (2 * n ≤ length w - PLACES) × (n < 65536)) placeAt (λ w i n l e. omega arith)
-    𝓤 H 𝓜 𝓖 𝓡 code.env place-at.routine code.calls-legends·place-at (place-at-thm.met 𝓤 H 𝓜 𝓖 𝓡) name (code.unfolded 𝓤 H 𝓜 𝓡)
+    𝓤 H 𝓜 𝓖 𝓡 code.env place-at.routine code.calls-records·place-at (place-at-thm.met 𝓤 H 𝓜 𝓖 𝓡) name (code.unfolded 𝓤 H 𝓜 𝓡)

@@ -1,0 +1,2 @@
+-- The records made of the staged numbers.
+pub mod Records
