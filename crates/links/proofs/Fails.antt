@@ -19,8 +19,9 @@ use Rattle.layout.specs.Layout.{NEAR, FAIL}
 use Rattle.layout.specs.Tables.{cell, FailUpTo}
 use Rattle.layout.specs.Numbered.{patternsIn, SameBelow}
 use Rattle.layout.proofs.Frames.{only-kept, kept-lower, patterns-kept, branched-kept, near-kept}
-use Rattle.links.specs.Links.{parentOf, letterOf, StepIs, LinkIs, Near, CanStep, CanLink, KidsFilled, NearFilled, FailsFilled, LinksFilled}
-use Rattle.links.proofs.Parents.{parents-tree, parent-below}
+use Rattle.children.specs.Children.{parentOf, letterOf, Near, KidsFilled, NearFilled}
+use Rattle.links.specs.Links.{StepIs, LinkIs, CanStep, CanLink, FailsFilled, LinksFilled}
+use Rattle.children.proofs.Parents.{parents-tree, parent-below}
 
 module _ {s es : List ℕ} {n count : ℕ} {w : List ℕ} {v p : ℕ} (C : CanLink s es n count w v) (e : p ≡ parentOf w v) where
   abbrev ps : List (List ℕ)

@@ -1,7 +1,3 @@
--- Laws of children, steps and failure links, and the proofs of the functions on them.
-pub mod Parents
-pub mod Kids
-pub mod Children
-pub mod Near
+-- Laws of steps and failure links.
 pub mod Steps
 pub mod Fails

@@ -20,7 +20,8 @@ use Rattle.matching.proofs.NodeLaws.{node-root, is-root, node-some, node-fails}
 use Rattle.layout.specs.Layout.{FAIL}
 use Rattle.layout.specs.Tables.{Child}
 use Rattle.layout.specs.Numbered.{patternsIn, Numbered, Automaton}
-use Rattle.links.specs.Links.{StepIs, CanLook, CanStep}
+use Rattle.children.specs.Children.{CanLook}
+use Rattle.links.specs.Links.{StepIs, CanStep}
 
 -- one drop of a state with a letter
 step-fall : (ps : List (List ℕ)) (x : List ℕ) (c d : ℕ) → 1 ≤ length x → beginsSome (x ++ (c ∷ [])) ps ≡ false

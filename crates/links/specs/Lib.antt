@@ -1,2 +1,2 @@
--- Children, steps and failure links by node numbers.
+-- Steps and failure links by node numbers.
 pub mod Links

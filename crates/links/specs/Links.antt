@@ -1,46 +1,19 @@
--- Children, steps and failure links by node numbers, in the work area w of a tray with letters s and ends es.
---   parentOf w u          == the node of the string of node u without its last letter
---   letterOf s w u        == its last letter
---   ParentCells w u            == the cells that tell the parent of u are there
---   Lettered s w u        == those that tell its letter
+-- Steps and failure links by node numbers, in the work area w of a tray with letters s and ends es.
 --   StepIs ps v c u d     == one letter c read in the state of node v leads to the state of node u by d drops
 --   LinkIs ps v r         == r is the failure link of node v
---   Near ..               == the children are known, and the table NEAR of those of the first nodes
---   CanFill .. v          == the children are known, and v has a row in NEAR
---   CanLook .. v          == v is a node of a work area with NEAR
---   CanStep .. v          == and the failure links of the nodes up to v are known
---   CanLink .. v          == and those of the nodes below v
---   RowFilled .. v w w′   == only the row of v in NEAR was written, and it is right
---   KidsFilled, NearFilled, FailsFilled, LinksFilled == only the table KID, or NEAR, or FAIL, or these three were written, and they are right
+--   CanStep .. v          == v is a node of a work area with NEAR, and the failure links of the nodes up to v are known
+--   CanLink .. v          == the same, of the nodes below v
+--   FailsFilled, LinksFilled == only the table FAIL, or KID, NEAR and FAIL were written, and they are right
 use mathlib.Core.Path.{_≡_}
-use mathlib.Core.Bool.{cond}
 use mathlib.Core.List.{List}
-use Prim.Native.Nat.{ℕ, _+_, _-_, _*_, _≤_, _<_}
-use lib.Dec.{ltb}
-use lib.ListN.{length, getD}
+use Prim.Native.Nat.{ℕ, _≤_, _<_}
 use Rattle.words.specs.Lists.{tailOf}
 use Rattle.tables.specs.Tables.{Cells, Only}
 use Rattle.matching.specs.Moves.{longestEnding, step}
 use Rattle.matching.specs.Nodes.{string, IsNode}
-use Rattle.layout.specs.Layout.{AT, OWN, LEVEL, KID, NEAR, FAIL, nearNodes, nearLetters, firstSign, lastSign}
-use Rattle.layout.specs.Tables.{cell, Child, NearIs, FailUpTo}
+use Rattle.layout.specs.Layout.{KID, NEAR, FAIL}
+use Rattle.layout.specs.Tables.{cell, NearIs, FailUpTo}
 use Rattle.layout.specs.Numbered.{patternsIn, Branched, Automaton}
-
--- a string of one letter has the empty string before it; the last letter of any other stands behind its parent's
-abbrev pub parentOf : List ℕ → ℕ → ℕ
-parentOf w u = cond (ltb u (cell w LEVEL 2)) 0 (cell w AT (cell w OWN u - 1))
-
-abbrev pub letterOf : List ℕ → List ℕ → ℕ → ℕ
-letterOf s w u = getD s (cell w OWN u) 0
-
-pub record ParentCells (w : List ℕ) (u : ℕ) : Type 0 where
-  pub levels : LEVEL + 2 < length w
-  pub own : OWN + u < length w
-  pub before : cell w LEVEL 2 ≤ u → (1 ≤ cell w OWN u) × (AT + cell w OWN u ≤ length w)
-
-pub record Lettered (s w : List ℕ) (u : ℕ) : Type 0 where
-  pub own : OWN + u < length w
-  pub within : cell w OWN u < length s
 
 pub record StepIs (ps : List (List ℕ)) (v c u d : ℕ) : Type 0 where
   pub state : IsNode ps u (step ps (string ps v) c .state)
@@ -48,20 +21,6 @@ pub record StepIs (ps : List (List ℕ)) (v c u d : ℕ) : Type 0 where
 
 abbrev pub LinkIs : List (List ℕ) → ℕ → ℕ → Type 0
 LinkIs ps v r = IsNode ps r (longestEnding (tailOf (string ps v)) ps)
-
-pub record Near (s es : List ℕ) (n count : ℕ) (w : List ℕ) : Type 0 where
-  pub branched : Branched s es n count w
-  pub near : NearIs (patternsIn s es n w) (cell w NEAR)
-
-pub record CanFill (s es : List ℕ) (n count : ℕ) (w : List ℕ) (v : ℕ) : Type 0 where
-  pub branched : Branched s es n count w
-  pub node : v ≤ count
-  pub close : v < nearNodes
-
-pub record CanLook (s es : List ℕ) (n count : ℕ) (w : List ℕ) (v : ℕ) : Type 0 where
-  pub branched : Branched s es n count w
-  pub near : NearIs (patternsIn s es n w) (cell w NEAR)
-  pub node : v ≤ count
 
 pub record CanStep (s es : List ℕ) (n count : ℕ) (w : List ℕ) (v : ℕ) : Type 0 where
   pub branched : Branched s es n count w
@@ -75,18 +34,6 @@ pub record CanLink (s es : List ℕ) (n count : ℕ) (w : List ℕ) (v : ℕ) : 
   pub some : 1 ≤ v
   pub node : v ≤ count
   pub links : (k : ℕ) → k < v → FailUpTo (patternsIn s es n w) k (cell w FAIL)
-
-pub record KidsFilled (s es : List ℕ) (n count : ℕ) (w w′ : List ℕ) : Type 0 where
-  pub branched : Branched s es n count w′
-  pub only : Only (Cells KID 2002) w w′
-
-pub record RowFilled (s es : List ℕ) (n count v : ℕ) (w w′ : List ℕ) : Type 0 where
-  pub row : (c : ℕ) → firstSign ≤ c → c ≤ lastSign → Child (patternsIn s es n w) v c (cell w′ NEAR (nearLetters * v + (c - firstSign)))
-  pub only : Only (Cells (NEAR + nearLetters * v) nearLetters) w w′
-
-pub record NearFilled (s es : List ℕ) (n count : ℕ) (w w′ : List ℕ) : Type 0 where
-  pub known : Near s es n count w′
-  pub only : Only (Cells NEAR 1260) w w′
 
 pub record FailsFilled (s es : List ℕ) (n count : ℕ) (w w′ : List ℕ) : Type 0 where
   pub automaton : Automaton s es n count w′

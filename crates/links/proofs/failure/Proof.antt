@@ -1,4 +1,4 @@
-use Rattle.links.proofs.Parents.{placed, lettered}
+use Rattle.children.proofs.Parents.{placed, lettered}
 use Rattle.links.proofs.Fails.{link-root, link-room, link-can, link-step}
 use Rattle.links.proofs.failure.Statement.{statement}
 use Rattle.links.proofs.failure.Tie as tie

@@ -1,7 +1,7 @@
-use Rattle.links.proofs.Near.{near-got}
+use Rattle.children.proofs.Near.{near-got}
 use borrow.Author.Needs.{needs}
-use Rattle.links.proofs.child.Statement.{statement}
-use Rattle.links.proofs.child.Tie as tie
+use Rattle.children.proofs.child.Statement.{statement}
+use Rattle.children.proofs.child.Tie as tie
 
 returns : tie.Need-returns
 returns c = search near-got

@@ -1,6 +1,6 @@
-use Rattle.links.proofs.Parents.{hangs-past, hangs-here}
-use Rattle.links.proofs.hangs_below.Statement.{statement}
-use Rattle.links.proofs.hangs_below.Tie as tie
+use Rattle.children.proofs.Parents.{hangs-past, hangs-here}
+use Rattle.children.proofs.hangs_below.Statement.{statement}
+use Rattle.children.proofs.hangs_below.Tie as tie
 
 returns : tie.Need-returns
 returns c = search hangs-past

@@ -26,7 +26,7 @@ use Rattle.layout.specs.Layout.{AT, OWN, LEVEL, KID}
 use Rattle.layout.specs.Tables.{cell, members, Owned}
 use Rattle.layout.specs.Numbered.{patternsIn, Numbered, SameBelow}
 use Rattle.layout.proofs.Frames.{letter-within, letter-place, letter-is}
-use Rattle.links.specs.Links.{parentOf, letterOf, ParentCells, Lettered}
+use Rattle.children.specs.Children.{parentOf, letterOf, ParentCells, Lettered}
 
 -- the two ways of `parent`
 parent-one : (w : List ℕ) (u : ℕ) → u < cell w LEVEL 2 → parentOf w u ≡ 0

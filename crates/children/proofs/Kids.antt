@@ -21,8 +21,8 @@ use Rattle.layout.specs.Layout.{KID}
 use Rattle.layout.specs.Tables.{cell, KidIs}
 use Rattle.layout.specs.Numbered.{patternsIn, Numbered, SameBelow}
 use Rattle.layout.proofs.Frames.{only-kept, patterns-kept, numbered-kept}
-use Rattle.links.specs.Links.{parentOf, letterOf, ParentCells, KidsFilled}
-use Rattle.links.proofs.Parents.{parents-tree, parents-ascend, child-parent, parent-kept, placed}
+use Rattle.children.specs.Children.{parentOf, letterOf, ParentCells, KidsFilled}
+use Rattle.children.proofs.Parents.{parents-tree, parents-ascend, child-parent, parent-kept, placed}
 
 pub record First (ps : List (List ℕ)) (par : ℕ → ℕ) (v k : ℕ) : Type 0 where
   pub some : 1 ≤ k

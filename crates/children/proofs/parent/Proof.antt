@@ -1,8 +1,8 @@
-use Rattle.links.proofs.Parents.{parent-short, parent-got, place-before}
+use Rattle.children.proofs.Parents.{parent-short, parent-got, place-before}
 use native.Mathlib.Omega.{arith}
 use borrow.Author.Needs.{needs}
-use Rattle.links.proofs.parent.Statement.{statement}
-use Rattle.links.proofs.parent.Tie as tie
+use Rattle.children.proofs.parent.Statement.{statement}
+use Rattle.children.proofs.parent.Tie as tie
 
 returns : tie.Need-returns
 returns c = search parent-short

@@ -1,10 +1,10 @@
 -- Invariant: for each node before v, KID holds the first node whose parent is not below it; every node before u has a parent before v, and no cell
 -- outside KID has changed.
 use Prim.Native.Nat.{_+_, _-_}
-use Rattle.links.proofs.Kids.{FillingKids, kids-start, kids-placed, kids-pass, kids-put, kids-room, kids-all}
+use Rattle.children.proofs.Kids.{FillingKids, kids-start, kids-placed, kids-pass, kids-put, kids-room, kids-all}
 use borrow.Author.Needs.{needs}
-use Rattle.links.proofs.fill_kids.Statement.{statement}
-use Rattle.links.proofs.fill_kids.Tie as tie
+use Rattle.children.proofs.fill_kids.Statement.{statement}
+use Rattle.children.proofs.fill_kids.Tie as tie
 
 abbrev Inv-loop : tie.InvT-loop
 Inv-loop letters ends work₀ n count v₀ u₀ work v u = FillingKids letters ends n count work₀ work v u

@@ -1,10 +1,10 @@
 -- Invariant: no child of node v before u has the letter c, so the child by c, if there is one, is u or a later node; v's children are the nodes from
 -- KID v up to `end`.
 use Prim.Native.Nat.{_-_}
-use Rattle.links.proofs.Children.{Scanning, scan-start, scan-lettered, scan-hit, scan-past, scan-more, scan-none}
+use Rattle.children.proofs.Children.{Scanning, scan-start, scan-lettered, scan-hit, scan-past, scan-more, scan-none}
 use borrow.Author.Needs.{needs}
-use Rattle.links.proofs.scan_child.Statement.{statement}
-use Rattle.links.proofs.scan_child.Tie as tie
+use Rattle.children.proofs.scan_child.Statement.{statement}
+use Rattle.children.proofs.scan_child.Tie as tie
 
 abbrev Inv-loop : tie.InvT-loop
 Inv-loop letters ends work n count v c end u₀ u = Scanning letters ends n count work v c end u

@@ -1,7 +1,7 @@
-use Rattle.links.proofs.Parents.{letter-got}
+use Rattle.children.proofs.Parents.{letter-got}
 use borrow.Author.Needs.{needs}
-use Rattle.links.proofs.letter.Statement.{statement}
-use Rattle.links.proofs.letter.Tie as tie
+use Rattle.children.proofs.letter.Statement.{statement}
+use Rattle.children.proofs.letter.Tie as tie
 
 returns : tie.Need-returns
 returns c = search letter-got

@@ -16,7 +16,7 @@ use Rattle.layout.specs.Layout.{NEAR, nearNodes, nearLetters, firstSign, lastSi
 use Rattle.layout.specs.Tables.{cell, Child}
 use Rattle.layout.specs.Numbered.{patternsIn, Branched, SameBelow}
 use Rattle.layout.proofs.Frames.{only-kept, patterns-kept, branched-kept}
-use Rattle.links.specs.Links.{CanFill, CanLook, RowFilled, NearFilled}
+use Rattle.children.specs.Children.{CanFill, CanLook, RowFilled, NearFilled}
 
 module _ {s es : List ℕ} {n count : ℕ} {w : List ℕ} {v c k : ℕ} (C : CanLook s es n count w v) (close : v < nearNodes) (from : firstSign ≤ c)
     (upto : c ≤ lastSign)

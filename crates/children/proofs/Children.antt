@@ -17,8 +17,8 @@ use Rattle.matching.proofs.NodeLaws.{node-of}
 use Rattle.layout.specs.Layout.{KID}
 use Rattle.layout.specs.Tables.{cell, Child}
 use Rattle.layout.specs.Numbered.{patternsIn, Branched}
-use Rattle.links.specs.Links.{parentOf, letterOf, Lettered}
-use Rattle.links.proofs.Parents.{parents-ascend, child-parent, lettered}
+use Rattle.children.specs.Children.{parentOf, letterOf, Lettered}
+use Rattle.children.proofs.Parents.{parents-ascend, child-parent, lettered}
 
 -- no node has the string of v with the letter c
 child-none : (ps : List (List ℕ)) (v c : ℕ) → ((x : ℕ) → Num ps x → string ps x ≡ string ps v ++ (c ∷ []) → ⊥) → Child ps v c 0

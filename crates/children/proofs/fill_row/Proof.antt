@@ -1,10 +1,10 @@
 -- Invariant: in the row of NEAR of node v the cells of the letters before c hold its children by them, and no cell outside that row has changed.
 use Prim.Native.Nat.{suc, _-_}
 use Rattle.layout.specs.Layout.{lastSign}
-use Rattle.links.proofs.Near.{FillingRow, row-start, row-branched, row-node, row-close, row-from, row-room, row-put, row-all}
+use Rattle.children.proofs.Near.{FillingRow, row-start, row-branched, row-node, row-close, row-from, row-room, row-put, row-all}
 use borrow.Author.Needs.{needs}
-use Rattle.links.proofs.fill_row.Statement.{statement}
-use Rattle.links.proofs.fill_row.Tie as tie
+use Rattle.children.proofs.fill_row.Statement.{statement}
+use Rattle.children.proofs.fill_row.Tie as tie
 
 abbrev Inv-loop : tie.InvT-loop
 Inv-loop letters ends work₀ n count v c₀ work c = FillingRow letters ends n count work₀ work v c

@@ -1,10 +1,10 @@
 -- Invariant: the rows of NEAR of the nodes before v hold their children by each letter, and no cell outside NEAR has changed.
 use Prim.Native.Nat.{_-_}
 use Rattle.layout.specs.Layout.{nearNodes}
-use Rattle.links.proofs.Near.{FillingNear, near-start, near-can, near-more, near-few, near-all}
+use Rattle.children.proofs.Near.{FillingNear, near-start, near-can, near-more, near-few, near-all}
 use borrow.Author.Needs.{needs}
-use Rattle.links.proofs.fill_near.Statement.{statement}
-use Rattle.links.proofs.fill_near.Tie as tie
+use Rattle.children.proofs.fill_near.Statement.{statement}
+use Rattle.children.proofs.fill_near.Tie as tie
 
 abbrev Inv-loop : tie.InvT-loop
 Inv-loop letters ends work₀ n count v₀ work v = FillingNear letters ends n count work₀ work v

@@ -1,0 +1,2 @@
+-- Parents and children by node numbers.
+pub mod Children
