@@ -1,3 +1,2 @@
--- What the reader promises; and steps, which only proofs need.
-pub mod Readers
+-- reading
 pub mod steps

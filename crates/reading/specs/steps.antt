@@ -1,3 +1,2 @@
--- Steps of the passes over a file.
-pub mod Checking
+-- Steps of the pass that copies a file.
 pub mod Copying

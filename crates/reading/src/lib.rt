@@ -1,88 +1,18 @@
-// A tray file is read: a reader goes line after line, and the file is checked before it is copied.
+// A tray file is read: it is checked before it is copied.
 ghost use mathlib.Core.Path.{_≡_};
 ghost use mathlib.Core.List.{map};
 ghost use Prim.Native.Nat.{_≤_};
 ghost use lib.ListN.{length};
 ghost use Rattle.words.specs.Lists.{over};
-ghost use Rattle.trays.specs.Limits.{maxFile};
 ghost use Rattle.files.specs.Lines as L;
 ghost use Rattle.files.specs.Faults as F;
 ghost use Rattle.files.specs.Answers.{Reading};
-ghost use Rattle.reading.specs.Readers.{Handed};
-ghost use Rattle.reading.specs.steps.Checking.{begunAt, judged};
 ghost use Rattle.reading.specs.steps.Copying.{Lent, Copied};
 use files::ENDS_NEED;
-use files::Line;
 use files::MAX_FILE;
 use files::Read;
-use files::Reader;
 use trays::Refusal;
 use trays::refuse;
-
-// How far the check has come: what turns the file back so far, the number of the line that comes next, and whether to read it.
-struct Checked {
-    found: Refusal,
-    line: usize,
-    more: bool,
-}
-
-// Before the first line of a file of so many bytes.
-fn begun(size: usize) -> Checked
-    ensures { λ r. ⌜ r ≡ begunAt size ⌝ }
-{
-    let found = refuse(0, 0);
-    Checked {
-        found,
-        line: 1,
-        more: 0 < size,
-    }
-}
-
-// Behind one line more of it: the first line with a fault is the last one read.
-fn judge(state: Checked, line: Line, size: usize) -> Checked
-    requires { ⌜ state .line ≤ maxFile ⌝ }
-    ensures { λ r. ⌜ r ≡ judged state line size ⌝ }
-{
-    if line.fault != 0 {
-        let found = refuse(line.fault, state.line as u32);
-        return Checked {
-            found,
-            line: state.line,
-            more: false,
-        };
-    }
-    let found = refuse(0, 0);
-    Checked {
-        found,
-        line: state.line + 1,
-        more: line.next < size,
-    }
-}
-
-// The line at which a reader stands, as line k. The reader moves behind it, behind a bad line too.
-fn next<'s, 'a>(r: &'s mut Reader<'a>, k: usize) -> Line
-    ensures { λ l. ⌜ Handed (now (r .entry)) (now (r .exit)) k l ⌝ }
-{
-    let line = lines::line_at(r.file, r.at, k);
-    r.at = line.next;
-    line
-}
-
-// Refusals 17, 18, 19 of the first bad line: one reader goes through the file.
-fn check_lines(file: &[u8]) -> Refusal
-    requires { ⌜ length (now file) ≤ maxFile ⌝ }
-    ensures { λ r. ⌜ r ≡ F.linesFault 1 (L.linesOf (now (file .entry))) ⌝ }
-{
-    let size = file.len();
-    let mut reader = Reader { file, at: 0 };
-    let mut state = begun(size);
-    while state.more {
-        let line = next(&mut reader, state.line);
-        let judged = judge(state, line, size);
-        state = judged;
-    }
-    state.found
-}
 
 // Place A: refusals 15 to 19 of a file, where so many letters and ends are lent.
 fn check_file(file: &[u8], letters: usize, ends: usize) -> Refusal
@@ -97,7 +27,7 @@ fn check_file(file: &[u8], letters: usize, ends: usize) -> Refusal
     if MAX_FILE < file.len() {
         return refuse(16, 0);
     }
-    check_lines(file)
+    readers::check_lines(file)
 }
 
 // A letter as it is filed.

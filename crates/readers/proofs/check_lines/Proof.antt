@@ -66,27 +66,27 @@ use Rattle.files.proofs.Line.Laws as S′
 use Rattle.record_loops.proofs.Walking.{begun, calls-to, ends-with, meets-by}
 use Rattle.record_loops.proofs.Locals.{bare, full, frees-behind}
 use Rattle.record_loops.proofs.Lending.{twice}
-use Rattle.reading.specs.declared.Checked.{Checked}
-use Rattle.reading.specs.Readers.{Handed}
-use Rattle.reading.specs.steps.Checking.{begunAt, judged}
-use Rattle.reading.proofs.CheckTurns.{Going, Through, begins, keeps, nearer}
-use Rattle.reading.proofs.Lending.{lends-local, takes-local}
-use Rattle.reading.proofs.Checked as C
-use Rattle.reading.proofs.Checked.Laws as C′
-use Rattle.reading.proofs.begun as begin
-use Rattle.reading.proofs.begun.Symbol as begin-def
-use Rattle.reading.proofs.begun.Met as begin-thm
-use Rattle.reading.proofs.judge as judge
-use Rattle.reading.proofs.judge.Symbol as judge-def
-use Rattle.reading.proofs.judge.Met as judge-thm
-use Rattle.reading.proofs.next as next
-use Rattle.reading.proofs.next.Symbol as next-def
-use Rattle.reading.proofs.next.Met as next-thm
-use Rattle.reading.proofs.check_lines as check
-use Rattle.reading.proofs.check_lines.Key.{name}
-use Rattle.reading.proofs.check_lines.Code as code
-use Rattle.reading.proofs.check_lines.Code.Mir as pieces
-use Rattle.reading.proofs.check_lines.Statement.{statement}
+use Rattle.readers.specs.declared.Checked.{Checked}
+use Rattle.readers.specs.Readers.{Handed}
+use Rattle.readers.specs.steps.Checking.{begunAt, judged}
+use Rattle.readers.proofs.CheckTurns.{Going, Through, begins, keeps, nearer}
+use Rattle.readers.proofs.Lending.{lends-local, takes-local}
+use Rattle.readers.proofs.Checked as C
+use Rattle.readers.proofs.Checked.Laws as C′
+use Rattle.readers.proofs.begun as begin
+use Rattle.readers.proofs.begun.Symbol as begin-def
+use Rattle.readers.proofs.begun.Met as begin-thm
+use Rattle.readers.proofs.judge as judge
+use Rattle.readers.proofs.judge.Symbol as judge-def
+use Rattle.readers.proofs.judge.Met as judge-thm
+use Rattle.readers.proofs.next as next
+use Rattle.readers.proofs.next.Symbol as next-def
+use Rattle.readers.proofs.next.Met as next-thm
+use Rattle.readers.proofs.check_lines as check
+use Rattle.readers.proofs.check_lines.Key.{name}
+use Rattle.readers.proofs.check_lines.Code as code
+use Rattle.readers.proofs.check_lines.Code.Mir as pieces
+use Rattle.readers.proofs.check_lines.Statement.{statement}
 
 -- at exit the file is owned as it was passed
 abbrev stayed : Stays (check.ended .signature .params) (check.ended .kept)
@@ -336,9 +336,9 @@ check-lines-spec 𝓤 H 𝓜 𝓖 𝓡 =
     entered 𝓤 H (tripleOf 𝓤 H (𝓖 .A) check.signature (check.spec 𝓤 H (𝓖 .A) (𝓜 .mem) (𝓡 .run)))
     (tables 𝓤 H 𝓜 𝓡 code.env .C) (tables 𝓤 H 𝓜 𝓡 code.env .Λ) name code.function (code.unfolded 𝓤 H 𝓜 𝓡)
     (meets 𝓤 H (𝓖 .A) (givenOf 𝓤 H 𝓜 𝓖) (𝓜 .mem) (𝓡 .run) (tablesOf 𝓤 H 𝓜 (tables 𝓤 H 𝓜 𝓡 code.env))
-    (cited 𝓤 H (Begin 𝓤 H (𝓖 .A) (givenOf 𝓤 H 𝓜 𝓖) (𝓜 .mem) (𝓡 .run)) 𝓜 𝓡 code.env begin-def.name begin-def.routine code.calls-reading·begun
+    (cited 𝓤 H (Begin 𝓤 H (𝓖 .A) (givenOf 𝓤 H 𝓜 𝓖) (𝓜 .mem) (𝓡 .run)) 𝓜 𝓡 code.env begin-def.name begin-def.routine code.calls-readers·begun
     (begin-thm.met 𝓤 H 𝓜 𝓖 𝓡))
-    (cited 𝓤 H (Next 𝓤 H (𝓖 .A) (givenOf 𝓤 H 𝓜 𝓖) (𝓜 .mem) (𝓡 .run)) 𝓜 𝓡 code.env next-def.name next-def.routine code.calls-reading·next
+    (cited 𝓤 H (Next 𝓤 H (𝓖 .A) (givenOf 𝓤 H 𝓜 𝓖) (𝓜 .mem) (𝓡 .run)) 𝓜 𝓡 code.env next-def.name next-def.routine code.calls-readers·next
     (next-thm.met 𝓤 H 𝓜 𝓖 𝓡))
-    (cited 𝓤 H (Judge 𝓤 H (𝓖 .A) (givenOf 𝓤 H 𝓜 𝓖) (𝓜 .mem) (𝓡 .run)) 𝓜 𝓡 code.env judge-def.name judge-def.routine code.calls-reading·judge
+    (cited 𝓤 H (Judge 𝓤 H (𝓖 .A) (givenOf 𝓤 H 𝓜 𝓖) (𝓜 .mem) (𝓡 .run)) 𝓜 𝓡 code.env judge-def.name judge-def.routine code.calls-readers·judge
     (judge-thm.met 𝓤 H 𝓜 𝓖 𝓡)))

@@ -1,7 +1,7 @@
 use borrow.Author.Needs.{needs}
-use Rattle.reading.proofs.CheckTurns.{begins-so}
-use Rattle.reading.proofs.begun.Statement.{statement}
-use Rattle.reading.proofs.begun.Tie as tie
+use Rattle.readers.proofs.CheckTurns.{begins-so}
+use Rattle.readers.proofs.begun.Statement.{statement}
+use Rattle.readers.proofs.begun.Tie as tie
 
 returns : tie.Need-returns
 returns c = search begins-so

@@ -6,7 +6,7 @@ use Prim.Native.Nat.{ℕ, zero, suc, _+_}
 use lib.Dec.{ltb}
 use Rattle.trays.specs.Faults.{refusal, accepted}
 use Rattle.files.specs.declared.Line.{Line}
-use Rattle.reading.specs.declared.Checked.{Checked}
+use Rattle.readers.specs.declared.Checked.{Checked}
 
 abbrev pub begunAt : ℕ → Checked
 begunAt n = record { found = accepted; line = 1; more = ltb 0 n }

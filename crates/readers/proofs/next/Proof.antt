@@ -58,10 +58,10 @@ use Rattle.lines.proofs.line_at.Symbol as parser-def
 use Rattle.lines.proofs.line_at.Met as parser-thm
 use Rattle.record_loops.proofs.Walking.{begun, calls-to, ends-with, meets-by}
 use Rattle.record_loops.proofs.Locals.{full, frees-behind}
-use Rattle.reading.proofs.next as next
-use Rattle.reading.proofs.next.Key.{name}
-use Rattle.reading.proofs.next.Code as code
-use Rattle.reading.proofs.next.Statement.{statement}
+use Rattle.readers.proofs.next as next
+use Rattle.readers.proofs.next.Key.{name}
+use Rattle.readers.proofs.next.Code as code
+use Rattle.readers.proofs.next.Statement.{statement}
 
 -- `Reader<'a>`, as the referent's place in the signature
 abbrev behind : Slot 2

@@ -23,8 +23,8 @@ use Rattle.files.specs.Faults.{lineFault, linesFault}
 use Rattle.files.proofs.FirstLines.{lines-at, first-length, first-some}
 use Rattle.files.proofs.LineFaults.{fault-detail}
 use Rattle.lines.specs.steps.Parsed.{lineAt}
-use Rattle.reading.specs.declared.Checked.{Checked}
-use Rattle.reading.specs.steps.Checking.{begunAt, judged}
+use Rattle.readers.specs.declared.Checked.{Checked}
+use Rattle.readers.specs.steps.Checking.{begunAt, judged}
 
 pub record Going (s : List ℕ) (at : ℕ) (c : Checked) : Type 0 where
   pub left : at < length s

@@ -1,7 +1,7 @@
-use Rattle.reading.proofs.CheckTurns.{judge-bad, judge-good}
+use Rattle.readers.proofs.CheckTurns.{judge-bad, judge-good}
 use borrow.Author.Needs.{needs}
-use Rattle.reading.proofs.judge.Statement.{statement}
-use Rattle.reading.proofs.judge.Tie as tie
+use Rattle.readers.proofs.judge.Statement.{statement}
+use Rattle.readers.proofs.judge.Tie as tie
 
 returns : tie.Need-returns
 returns c = search judge-bad

@@ -1,0 +1,3 @@
+-- The loop that checks a tray file, turn by turn.
+pub mod Lending
+pub mod CheckTurns

@@ -1,0 +1,2 @@
+-- Steps of the pass that checks a file.
+pub mod Checking
