@@ -29,8 +29,8 @@ use denote.Index.{row, whole-out, whole-in}
 module _ {M : Type 1} {𝓤 : URA M} {H : Heap 𝓤} {A : Atoms 𝓤} {K : Type 0} {W : Given 𝓤 H A} {Γ : List (Item 𝓤)} {G : Goal 𝓤 H} where
   pub lends-array : K → Soaks G → (R : RattleType) → Single (R .mir) → (n : ℕ) → Room R n → (xs : List (R .Denot)) (v : Val) (l : ℕ)
       → (length xs ≡ n → (ν : ℕ) (δ : GName)
-          → Seq K W (‵ (MutSlice erased (ν ∷ []) R .own (record { ptr = (l, 0); name = δ; now = xs }) (sliceVal (l, 0) n ∷ []))
-          ∷ ‵ (flent (ν ∷ []) (Held R n l 0 δ)) ∷ ‵ (flft (ν ∷ []) fullShare) ∷ Γ) G)
+      → Seq K W (‵ (MutSlice erased (ν ∷ []) R .own (record { ptr = (l, 0); name = δ; now = xs }) (sliceVal (l, 0) n ∷ []))
+      ∷ ‵ (flent (ν ∷ []) (Held R n l 0 δ)) ∷ ‵ (flft (ν ∷ []) fullShare) ∷ Γ) G)
       → Seq K W (‵ (Array R n .own xs (v ∷ [])) ∷ ‵ (fat fullShare (tyArray (lone (R .mir)) n) l 0 v) ∷ Γ) G
   unfolding partOf
   lends-array t z R s n g xs v l k =
@@ -39,7 +39,7 @@ module _ {M : Type 1} {𝓤 : URA M} {H : Heap 𝓤} {A : Atoms 𝓤} {K : Type 
       use1 W (‵ (arr-parts (shares R) n .part fullShare xs l 0)) (array-apart 𝓤 H A W R fullShare s n xs l 0) $ fsplit t $ feqL t (λ e.
       use1 W (‵ (cells (mem R) xs l 0)) (whole-in 𝓤 H A W R xs l 0) $ lft-new t z (λ ν. move t (1 ∷ []) $
       use1 W (later (some (λ (δ : GName). ‵ (MutSlice erased (ν ∷ []) R .own (record { ptr = (l, 0); name = δ; now = xs }) (sliceVal (l, 0) (length xs) ∷ []))
-          ⊛ ‵ (flent (ν ∷ []) (Held R (length xs) l 0 δ)))))
+      ⊛ ‵ (flent (ν ∷ []) (Held R (length xs) l 0 δ)))))
       (lends-slice 𝓤 H A W R erased (ν ∷ []) xs l 0 (subst (Room R) (sym e) g)) $ await t z $ pick t (λ δ. split t $
       rewrite t 0 (λ (m : ℕ). ‵ (MutSlice erased (ν ∷ []) R .own (record { ptr = (l, 0); name = δ; now = xs }) (sliceVal (l, 0) m ∷ []))) e refl $
       rewrite t 1 (λ (m : ℕ). ‵ (flent (ν ∷ []) (Held R m l 0 δ))) e refl $ k e ν δ)))
