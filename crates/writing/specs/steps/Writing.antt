@@ -1,9 +1,9 @@
 -- What composing writes: what each step asks and gives.
---   piecesHere    == the pieces by the lists of neighbours
---   StageAsks, PiecesStaged == what staging them asks and gives
---   Pieces        == the pieces of the tray, piecesIn
---   WritingAsks, Written == the legend and the places
---   PlacingAsks, PlacesWritten == the places
+--   piecesHere                  == the pieces by the lists of neighbours
+--   StageAsks, PiecesStaged     == what staging them asks and gives
+--   Pieces                      == the pieces of the tray, as numbers
+--   WritingAsks, Written        == the same for the legend and the places
+--   PlacingAsks, PlacesWritten  == and for the places alone
 use mathlib.Core.Path.{_≡_}
 use mathlib.Core.List.{List}
 use Prim.Native.Nat.{ℕ, _+_, _*_, _≤_}
