@@ -19,7 +19,7 @@ use Rattle.layout.specs.Tables.{members}
 use Rattle.layout.specs.Numbered.{SameBelow}
 use Rattle.layout.specs.Staging.{keptIn}
 use Rattle.layout.proofs.Frames.{kept-lower, members-kept, automaton-kept}
-use Rattle.kept_lists.specs.steps.KeptLists.{KeptFound}
+use Rattle.kept_slips.specs.steps.Kept.{KeptFound}
 use Rattle.heads.proofs.Threading.{in-drop, drop-here, drop-later}
 use Rattle.heads.proofs.MemberNodes.{Member, in-member, spans-apart}
 

@@ -1,7 +1,4 @@
--- The loops that read the tables off the automaton, and the proofs of the functions.
-pub mod MarkLoop
-pub mod AsideTest
-pub mod KeptLoop
+-- The loops that fill the lists of the kept members.
 pub mod KeptMembers
 pub mod SideLoop
 pub mod StartLoop

@@ -29,7 +29,8 @@ use Rattle.layout.specs.Numbered.{patternsIn, Numbered, SameBelow}
 use Rattle.layout.specs.Staging.{keptIn}
 use Rattle.layout.proofs.Frames.{kept-lower, members-kept}
 use Rattle.layout.proofs.Heads.{num-most}
-use Rattle.kept_lists.specs.steps.KeptLists.{Side, beginnings, endings, has, place, heads, nexts, atSide, KeptFound, Listing, ListedTo, SideFilled}
+use Rattle.kept_slips.specs.steps.Kept.{KeptFound}
+use Rattle.kept_lists.specs.steps.KeptLists.{Side, beginnings, endings, has, place, heads, nexts, atSide, Listing, ListedTo, SideFilled}
 use Rattle.heads.specs.steps.Heads.{CanPush, Pushed, Lists}
 use Rattle.heads.proofs.Threading.{front, those-front, in-front, push-lists}
 use Rattle.heads.proofs.Keeping.{kept-refl, kept-trans, kept-filled, kept-pushed, cleared}

@@ -15,7 +15,8 @@ use Rattle.layout.specs.Layout.{HEAD, STARTS, STARTS-NEXT, ENDS}
 use Rattle.layout.specs.Numbered.{patternsIn, SameBelow}
 use Rattle.layout.specs.Staging.{keptIn}
 use Rattle.layout.proofs.Frames.{kept-lower, members-kept}
-use Rattle.kept_lists.specs.steps.KeptLists.{beginnings, endings, atSide, SideIs, KeptFound, MarksFilled, KeptFilled, SideFilled, ListsFilled}
+use Rattle.kept_slips.specs.steps.Kept.{KeptFound, MarksFilled, KeptFilled}
+use Rattle.kept_lists.specs.steps.KeptLists.{beginnings, endings, atSide, SideIs, SideFilled, ListsFilled}
 use Rattle.heads.specs.steps.Heads.{HeadsFilled}
 use Rattle.layout.proofs.Heads.{threaded-kept, num-most}
 use Rattle.heads.proofs.Keeping.{kept-trans}

@@ -1,4 +1,3 @@
--- Laws.
-pub mod Puts
+-- Laws of lines and sheets written part by part.
 pub mod Lines
 pub mod LineLoops

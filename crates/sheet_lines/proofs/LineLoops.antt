@@ -1,42 +1,22 @@
--- The loops that write blanks and lines, one more turn and the end of each; and the cases of put_number.
+-- The loops that write lines, one more turn and the end of each.
 --   lines-more   == one line more
---   blanks-turn, lines-turn, blanks-end, lines-end  == the loops
---   number-small, number-more  == a number of one digit, and one from 10 on
+--   lines-turn, lines-end  == the loops
 --   slip-turn, join-turn, found-turn  == one more turn of the three loops that write lines
 use mathlib.Core.Path.{_≡_, _∙_, ap}
 use mathlib.Core.List.{List, [], _∷_, _++_, append-nil}
-use Prim.Native.Nat.{ℕ, zero, suc, _+_, _-_, _*_, _/_, _%_, _^_, _≤_, _<_}
+use Prim.Native.Nat.{ℕ, zero, suc, _+_, _-_, _*_, _^_, _≤_, _<_}
 use native.Mathlib.Nat.{add-zero, mul-suc}
 use native.Mathlib.Numerals.{add-one}
 use native.Mathlib.Omega.{arith}
-use borrow.Author.Tests.{eq-eqb, ne-eqb}
-use lib.ListN.{length, getD, replicate, replicate-append-replicate}
+use lib.ListN.{length, getD}
 use Rattle.words.specs.Lists.{each, upFrom}
 use Rattle.words.proofs.Members.{each-append}
 use Rattle.trays.specs.Slips.{endOf}
-use Rattle.files.specs.Lines.{blank}
-use Rattle.sheets.specs.Sheets.{digit, column, keptSign, asideSign, threeLine, slipLine, signOf, foundLine, lines}
+use Rattle.sheets.specs.Sheets.{threeLine, slipLine, signOf, foundLine, lines}
 use Rattle.sheets.specs.Sheets.{slipLineAt, joinLineAt, foundLineAt, placeWidth, slipSize, joinSize, foundSize}
-use Rattle.sheet_lines.specs.steps.Lines.{Wrote, SlipsFit, JoinsFit, FoundFit}
-use Rattle.sheets.proofs.Columns.{column-small, column-more}
-use Rattle.sheet_lines.proofs.Puts.{put-none, put-more}
-
-pub sign-aside : (k : ℕ) → k ≡ 0 → asideSign ≡ signOf k
-sign-aside k e = rw (eq-eqb k 0 e)
-
-pub sign-kept : (k : ℕ) → (k ≡ 0 → ⊥) → keptSign ≡ signOf k
-sign-kept k e = rw (ne-eqb k 0 e)
-
--- blanks
-pub blanks-start : (at : ℕ) (a : List ℕ) (n : ℕ) → at + n ≤ length a → Wrote at 0 (replicate 0 blank) a a at
-blanks-start at a n h = put-none at a (omega arith)
-
-pub blanks-turn : (at i next r : ℕ) (a b c : List ℕ) → Wrote at i (replicate i blank) a b next → Wrote next 1 (blank ∷ []) b c r →
-    Wrote at (i + 1) (replicate (i + 1) blank) a c r
-blanks-turn at i next r a b c p q = rw (← replicate-append-replicate i 1 blank) (put-more p q)
-
-pub blanks-end : (at i n r : ℕ) (a b : List ℕ) → i ≤ n → n ≤ i → Wrote at i (replicate i blank) a b r → Wrote at n (replicate n blank) a b r
-blanks-end at i n r a b h g p = let e : n ≡ i = omega arith in rw e p
+use Rattle.columns.specs.steps.Wrote.{Wrote}
+use Rattle.sheet_lines.specs.steps.Lines.{SlipsFit, JoinsFit, FoundFit}
+use Rattle.columns.proofs.Puts.{put-more}
 
 -- lines
 upFrom-more : (i n : ℕ) → upFrom i (suc n) ≡ upFrom i n ++ ((i + n) ∷ [])
@@ -56,18 +36,6 @@ lines-turn f w at i next r a b c p q =
 
 lines-end : (f : ℕ → List ℕ) (w at i n r : ℕ) (a b : List ℕ) → i ≤ n → n ≤ i → Wrote at (w * i) (lines f i) a b r → Wrote at (w * n) (lines f n) a b r
 lines-end f w at i n r a b h g p = let e : n ≡ i = omega arith in rw e p
-
--- numbers
-module _ (at w n last r d : ℕ) (a b c : List ℕ) (p : 1 ≤ w) where
-  width-is : w - 1 + 1 ≡ w
-  width-is = omega arith
-
-  pub number-small : n < 10 → Wrote at (w - 1) (replicate (w - 1) blank) a b last → d ≡ digit n → Wrote last 1 (d ∷ []) b c r → Wrote at w (column w n) a c r
-  number-small h x e y = rw (column-small w n h) (rw (width-is, e) at (put-more x y))
-
-  pub number-more : 10 ≤ n → Wrote at (w - 1) (column (w - 1) (n / 10)) a b last → d ≡ digit (n % 10) → Wrote last 1 (d ∷ []) b c r →
-      Wrote at w (column w n) a c r
-  number-more h x e y = rw (column-more w n h) (rw (width-is, e) at (put-more x y))
 
 -- slips: `end` is the end of slip i + 1, `here` the one before it
 module _ (es ps : List ℕ) (i here end : ℕ) (h : i < length es) (b : here ≡ endOf es i) (e : end ≡ getD es i 0) where

@@ -12,8 +12,9 @@ use Rattle.files.specs.Lines.{blank, lf}
 use Rattle.sheets.specs.Sheets.{column, threeLine, trayLine, slipLine, signOf, findLine, foundLine, refusedLine, lines}
 use Rattle.sheets.specs.Sheets.{slipLineAt, joinLineAt, foundLineAt, composeLines, findLines, placeWidth, countWidth}
 use Rattle.sheets.specs.Sheets.{detailWidth, traySize, slipSize, joinSize, findSize, foundSize, refusedSize}
-use Rattle.sheet_lines.specs.steps.Lines.{Wrote, Printed, JoinsFit, ComposeAsks}
-use Rattle.sheet_lines.proofs.Puts.{put-more}
+use Rattle.columns.specs.steps.Wrote.{Wrote}
+use Rattle.sheet_lines.specs.steps.Lines.{Printed, JoinsFit, ComposeAsks}
+use Rattle.columns.proofs.Puts.{put-more}
 
 pub printed : (n r : ℕ) (ys old new : List ℕ) → Wrote 0 n ys old new r → Printed ys old new r
 printed n r ys old new p = record { is = p .is; count = omega arith }

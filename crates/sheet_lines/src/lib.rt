@@ -1,19 +1,17 @@
-// Numbers in columns, lines, and whole sheets, written into a lent buffer.
+// Lines and whole sheets, written into a lent buffer.
 // Each function writes behind the first `at` bytes and answers where the next byte goes.
 ghost use mathlib.Core.Path.{_≡_};
-ghost use mathlib.Core.List.{[], _∷_};
 ghost use Prim.Native.Nat.{_+_, _*_, _^_, _≤_, _<_};
-ghost use lib.ListN.{length, getD, replicate};
+ghost use lib.ListN.{length, getD};
 ghost use Rattle.trays.specs.Faults.{refusal};
-ghost use Rattle.files.specs.Lines.{blank};
 ghost use Rattle.sheets.specs.Sheets as S;
+ghost use Rattle.columns.specs.steps.Wrote as W;
 ghost use Rattle.sheet_lines.specs.steps.Lines as P;
 use answers::Composed;
+use files::BLANK;
 use files::LF;
 use tables::whole;
 use tables::wide;
-
-const BLANK: u8 = b' ';
 
 // Columns of the letters, moves and end places of `find`.
 const PLACE_WIDTH: usize = 4;
@@ -38,83 +36,25 @@ fn large(xs: &[u32], i: usize) -> usize
     whole(xs[i])
 }
 
-fn digit(d: usize) -> u8
-    requires { ⌜ d < 10 ⌝ }
-    ensures { λ r. ⌜ r ≡ S.digit d ⌝ }
-{
-    b'0' + d as u8
-}
-
-// K for a slip that is kept, S for one set aside.
-fn sign(mark: usize) -> u8
-    ensures { λ r. ⌜ r ≡ S.signOf mark ⌝ }
-{
-    if mark == 0 {
-        return b'S';
-    }
-    b'K'
-}
-
-fn put_byte(out: &mut [u8], at: usize, byte: u8) -> usize
-    requires { ⌜ at + 1 ≤ length (now out) ⌝ }
-    ensures { λ r. ⌜ P.Wrote at 1 (byte ∷ []) (now (out .entry)) (now (out .exit)) r ⌝ }
-{
-    out[at] = byte;
-    at + 1
-}
-
-fn put_text(out: &mut [u8], at: usize, text: &[u8]) -> usize
-    requires { ⌜ at + length (now text) ≤ length (now out) ⌝ }
-    ensures { λ r. ⌜ P.Wrote at (length (now (text .entry))) (now (text .entry)) (now (out .entry)) (now (out .exit)) r ⌝ }
-{
-    at + bytes::copy(text, &mut out[at..])
-}
-
-fn put_blanks(out: &mut [u8], at: usize, n: usize) -> usize
-    requires { ⌜ at + n ≤ length (now out) ⌝ }
-    ensures { λ r. ⌜ P.Wrote at n (replicate n blank) (now (out .entry)) (now (out .exit)) r ⌝ }
-{
-    let mut next = at;
-    let mut i: usize = 0;
-    while i < n {
-        next = put_byte(out, next, BLANK);
-        i += 1;
-    }
-    next
-}
-
-// Writes `n` right-justified in `width` columns: a number of one digit behind blanks, another one behind its tenth.
-fn put_number(out: &mut [u8], at: usize, width: usize, n: usize) -> usize
-    requires { ⌜ (1 ≤ width) × (n < 10 ^ width) × (at + width ≤ length (now out)) ⌝ }
-    ensures { λ r. ⌜ P.Wrote at width (S.column width n) (now (out .entry)) (now (out .exit)) r ⌝ }
-{
-    if n < 10 {
-        let last = put_blanks(out, at, width - 1);
-        return put_byte(out, last, digit(n));
-    }
-    let last = put_number(out, at, width - 1, n / 10);
-    put_byte(out, last, digit(n % 10))
-}
-
 // Three numbers, each in `width` columns, and LF.
 fn three_line(out: &mut [u8], at: usize, width: usize, a: usize, b: usize, c: usize) -> usize
     requires { ⌜ (1 ≤ width) × (a < 10 ^ width) × (b < 10 ^ width) × (c < 10 ^ width) × (at + (width + (width + (width + 1))) ≤ length (now out)) ⌝ }
-    ensures { λ r. ⌜ P.Wrote at (width + (width + (width + 1))) (S.threeLine width a b c) (now (out .entry)) (now (out .exit)) r ⌝ }
+    ensures { λ r. ⌜ W.Wrote at (width + (width + (width + 1))) (S.threeLine width a b c) (now (out .entry)) (now (out .exit)) r ⌝ }
 {
-    let second = put_number(out, at, width, a);
-    let third = put_number(out, second, width, b);
-    let last = put_number(out, third, width, c);
-    put_byte(out, last, LF)
+    let second = columns::put_number(out, at, width, a);
+    let third = columns::put_number(out, second, width, b);
+    let last = columns::put_number(out, third, width, c);
+    columns::put_byte(out, last, LF)
 }
 
 // The header of a `compose` sheet.
 fn tray_line(out: &mut [u8], at: usize, c: Composed) -> usize
     requires { ⌜ P.HeaderFits c × (at + S.traySize ≤ length (now out)) ⌝ }
-    ensures { λ r. ⌜ P.Wrote at S.traySize (S.trayLine (c .slips) (c .kept) (c .letters) (c .saved) (c .legend)) (now (out .entry)) (now (out .exit)) r ⌝ }
+    ensures { λ r. ⌜ W.Wrote at S.traySize (S.trayLine (c .slips) (c .kept) (c .letters) (c .saved) (c .legend)) (now (out .entry)) (now (out .exit)) r ⌝ }
 {
-    let slips = put_text(out, at, b"TRAY");
-    let kept = put_number(out, slips, 4, whole(c.slips));
-    let sums = put_number(out, kept, 4, whole(c.kept));
+    let slips = columns::put_text(out, at, b"TRAY");
+    let kept = columns::put_number(out, slips, 4, whole(c.slips));
+    let sums = columns::put_number(out, kept, 4, whole(c.kept));
     let letters = whole(c.letters);
     let saved = whole(c.saved);
     let legend = whole(c.legend);
@@ -130,20 +70,20 @@ fn slip_line(
     mark: usize,
 ) -> usize
     requires { ⌜ (slip < 10 ^ 4) × (letters < 10 ^ 4) × (place < 10 ^ 5) × (at + S.slipSize ≤ length (now out)) ⌝ }
-    ensures { λ r. ⌜ P.Wrote at S.slipSize (S.slipLine slip letters place (S.signOf mark)) (now (out .entry)) (now (out .exit)) r ⌝ }
+    ensures { λ r. ⌜ W.Wrote at S.slipSize (S.slipLine slip letters place (S.signOf mark)) (now (out .entry)) (now (out .exit)) r ⌝ }
 {
-    let a = put_number(out, at, 4, slip);
-    let b = put_number(out, a, 4, letters);
-    let c = put_number(out, b, 5, place);
-    let d = put_byte(out, c, BLANK);
-    let e = put_byte(out, d, sign(mark));
-    put_byte(out, e, LF)
+    let a = columns::put_number(out, at, 4, slip);
+    let b = columns::put_number(out, a, 4, letters);
+    let c = columns::put_number(out, b, 5, place);
+    let d = columns::put_byte(out, c, BLANK);
+    let e = columns::put_byte(out, d, columns::sign(mark));
+    columns::put_byte(out, e, LF)
 }
 
 // A line for each slip, from the ends and two numbers a slip: its place, and whether it is kept.
 fn slip_lines(out: &mut [u8], at: usize, ends: &[u16], places: &[u16]) -> usize
     requires { ⌜ P.SlipsFit (now ends) (now places) × (at + S.slipSize * length (now ends) ≤ length (now out)) ⌝ }
-    ensures { λ r. ⌜ P.Wrote at (S.slipSize * length (now (ends .entry)))
+    ensures { λ r. ⌜ W.Wrote at (S.slipSize * length (now (ends .entry)))
         (S.lines (S.slipLineAt (now (ends .entry)) (now (places .entry))) (length (now (ends .entry))))
         (now (out .entry)) (now (out .exit)) r ⌝ }
 {
@@ -165,7 +105,7 @@ fn slip_lines(out: &mut [u8], at: usize, ends: &[u16], places: &[u16]) -> usize
 // A line for each of `n` joins, from three numbers a join: left slip, right slip, overlap.
 fn join_lines(out: &mut [u8], at: usize, joins: &[u16], n: usize) -> usize
     requires { ⌜ P.JoinsFit (now joins) n × (at + S.joinSize * n ≤ length (now out)) ⌝ }
-    ensures { λ r. ⌜ P.Wrote at (S.joinSize * n) (S.lines (S.joinLineAt (now (joins .entry))) n) (now (out .entry)) (now (out .exit)) r ⌝ }
+    ensures { λ r. ⌜ W.Wrote at (S.joinSize * n) (S.lines (S.joinLineAt (now (joins .entry))) n) (now (out .entry)) (now (out .exit)) r ⌝ }
 {
     let mut next = at;
     let mut i: usize = 0;
@@ -196,35 +136,35 @@ pub fn compose_lines(
     let slips = tray_line(out, 0, c);
     let pairs = slip_lines(out, slips, ends, places);
     let text = join_lines(out, pairs, joins, whole(c.joins));
-    let last = put_text(out, text, legend);
-    put_byte(out, last, LF)
+    let last = columns::put_text(out, text, legend);
+    columns::put_byte(out, last, LF)
 }
 
 // The header of a `find` sheet.
 fn find_line(out: &mut [u8], at: usize, letters: usize, moves: usize, count: usize) -> usize
     requires { ⌜ (letters < 10 ^ S.placeWidth) × (moves < 10 ^ S.placeWidth) × (count < 10 ^ S.countWidth) × (at + S.findSize ≤ length (now out)) ⌝ }
-    ensures { λ r. ⌜ P.Wrote at S.findSize (S.findLine letters moves count) (now (out .entry)) (now (out .exit)) r ⌝ }
+    ensures { λ r. ⌜ W.Wrote at S.findSize (S.findLine letters moves count) (now (out .entry)) (now (out .exit)) r ⌝ }
 {
-    let a = put_text(out, at, b"FIND");
-    let b = put_number(out, a, PLACE_WIDTH, letters);
-    let c = put_number(out, b, PLACE_WIDTH, moves);
-    let d = put_number(out, c, COUNT_WIDTH, count);
-    put_byte(out, d, LF)
+    let a = columns::put_text(out, at, b"FIND");
+    let b = columns::put_number(out, a, PLACE_WIDTH, letters);
+    let c = columns::put_number(out, b, PLACE_WIDTH, moves);
+    let d = columns::put_number(out, c, COUNT_WIDTH, count);
+    columns::put_byte(out, d, LF)
 }
 
 fn found_line(out: &mut [u8], at: usize, end: usize, slip: usize) -> usize
     requires { ⌜ (end < 10 ^ S.placeWidth) × (slip < 10 ^ 4) × (at + S.foundSize ≤ length (now out)) ⌝ }
-    ensures { λ r. ⌜ P.Wrote at S.foundSize (S.foundLine end slip) (now (out .entry)) (now (out .exit)) r ⌝ }
+    ensures { λ r. ⌜ W.Wrote at S.foundSize (S.foundLine end slip) (now (out .entry)) (now (out .exit)) r ⌝ }
 {
-    let a = put_number(out, at, PLACE_WIDTH, end);
-    let b = put_number(out, a, 4, slip);
-    put_byte(out, b, LF)
+    let a = columns::put_number(out, at, PLACE_WIDTH, end);
+    let b = columns::put_number(out, a, 4, slip);
+    columns::put_byte(out, b, LF)
 }
 
 // A line for each of `count` occurrences, from two numbers an occurrence: end place, slip.
 fn found_lines(out: &mut [u8], at: usize, found: &[u32], count: usize) -> usize
     requires { ⌜ P.FoundFit (now found) count × (at + S.foundSize * count ≤ length (now out)) ⌝ }
-    ensures { λ r. ⌜ P.Wrote at (S.foundSize * count) (S.lines (S.foundLineAt (now (found .entry))) count) (now (out .entry)) (now (out .exit)) r ⌝ }
+    ensures { λ r. ⌜ W.Wrote at (S.foundSize * count) (S.lines (S.foundLineAt (now (found .entry))) count) (now (out .entry)) (now (out .exit)) r ⌝ }
 {
     let mut next = at;
     let mut i: usize = 0;
@@ -258,8 +198,8 @@ pub fn refused_line(number: u8, detail: u32, out: &mut [u8]) -> usize
     requires { ⌜ (detail < 10 ^ S.detailWidth) × (S.refusedSize ≤ length (now out)) ⌝ }
     ensures { λ r. ⌜ P.Printed (S.refusedLine (refusal number detail)) (now (out .entry)) (now (out .exit)) r ⌝ }
 {
-    let a = put_text(out, 0, b"REFUSED");
-    let b = put_number(out, a, 4, number as usize);
-    let c = put_number(out, b, DETAIL_WIDTH, whole(detail));
-    put_byte(out, c, LF)
+    let a = columns::put_text(out, 0, b"REFUSED");
+    let b = columns::put_number(out, a, 4, number as usize);
+    let c = columns::put_number(out, b, DETAIL_WIDTH, whole(detail));
+    columns::put_byte(out, c, LF)
 }

@@ -3,10 +3,6 @@
 --   has a x y                  == x stands at side a of slip y: it begins y, or properly ends it
 --   place a es d r             == where slip r has its cell in the lists of the nodes of d letters: at the node's last letter, or at its first
 --   heads a, nexts a           == the tables of the lists' heads, and of these cells
---   MarkIs ps fail mark        == mark is 1 exactly at the nodes that are the failure link of a node
---   Marked                     == HEAD, TWIN and MARK are filled
---   Judged .. i                == these are filled, and i is one of the members
---   KeptFound .. k ..          == the k kept members stand in KEPT
 --   atSide a ss x K            == those of the slips K that have x at side a
 --   SideIs a .. w K            == the lists of side a in w hold the slips K
 --   Listing a .. j             == the kept members from the j-th on are in the lists of side a; ListedTo: the j-th is too now
@@ -15,20 +11,19 @@
 use mathlib.Core.Path.{_≡_}
 use mathlib.Core.Bool.{Bool}
 use mathlib.Core.List.{List}
-use Prim.Native.Nat.{ℕ, _+_, _-_, _≤_, _<_}
+use Prim.Native.Nat.{ℕ, _+_, _-_, _≤_}
 use lib.ListN.{length, drop}
 use Rattle.words.specs.Lists.{those}
 use Rattle.words.specs.Words.{begins, endsProperly}
-use Rattle.words.specs.Members.{In}
-use Rattle.trays.specs.Limits.{maxSlips}
 use Rattle.trays.specs.Slips.{slipsOf, slip, startOf, endOf}
 use Rattle.trays.specs.Aside.{kept}
-use Rattle.matching.specs.Nodes.{nodes, string, Num}
-use Rattle.layout.specs.Layout.{FAIL, HEAD, MARK, KEPT, STARTS, STARTS-NEXT, ENDS, ENDS-NEXT}
+use Rattle.matching.specs.Nodes.{string, Num}
+use Rattle.layout.specs.Layout.{HEAD, STARTS, STARTS-NEXT, ENDS, ENDS-NEXT}
 use Rattle.layout.specs.Tables.{cell, members, StartsIs, EndsIs}
-use Rattle.layout.specs.Numbered.{patternsIn, Automaton, SameBelow, Headed}
+use Rattle.layout.specs.Numbered.{patternsIn, SameBelow}
 use Rattle.layout.specs.Staging.{keptIn}
 use Rattle.heads.specs.steps.Heads.{Lists}
+use Rattle.kept_slips.specs.steps.Kept.{KeptFound}
 
 -- the sides of a slip, and the tables of their lists
 pub data Side : Type 0 where
@@ -50,35 +45,6 @@ heads endings = ENDS
 abbrev pub nexts : Side → ℕ
 nexts beginnings = STARTS-NEXT
 nexts endings = ENDS-NEXT
-
--- MARK
-pub record MarkIs (ps : List (List ℕ)) (fail mark : ℕ → ℕ) : Type 0 where
-  pub into : (v : ℕ) → Num ps v → mark (fail v) ≡ 1
-  pub back : (u : ℕ) → u < length (nodes ps) → mark u ≡ 1 → (v : ℕ) × Num ps v × (fail v ≡ u)
-
-pub record Marked (s es : List ℕ) (n count : ℕ) (w : List ℕ) : Type 0 where
-  pub headed : Headed s es n count w
-  pub marks : MarkIs (patternsIn s es n w) (cell w FAIL) (cell w MARK)
-
-pub record MarksFilled (s es : List ℕ) (n count : ℕ) (w w′ : List ℕ) : Type 0 where
-  pub marked : Marked s es n count w′
-  pub below : SameBelow MARK w w′
-
--- KEPT
-pub record Judged (s es : List ℕ) (n count : ℕ) (w : List ℕ) (i : ℕ) : Type 0 where
-  pub marked : Marked s es n count w
-  pub member : In i (members w n)
-  pub few : i ≤ maxSlips
-
-pub record KeptFound (s es : List ℕ) (n k count : ℕ) (w : List ℕ) : Type 0 where
-  pub automaton : Automaton s es n count w
-  pub few-kept : k ≤ maxSlips
-  pub kept-are : keptIn w k ≡ kept (slipsOf s es) (members w n)
-
-pub record KeptFilled (s es : List ℕ) (n count : ℕ) (w : List ℕ) (k : ℕ) (w′ : List ℕ) : Type 0 where
-  pub staged : KeptFound s es n k count w′
-  pub all : k ≡ length (kept (slipsOf s es) (members w n))
-  pub below : SameBelow KEPT w w′
 
 -- STARTS and STARTS-NEXT, or ENDS and ENDS-NEXT
 abbrev pub atSide : Side → List (List ℕ) → List ℕ → List ℕ → List ℕ

@@ -14,7 +14,7 @@ use Rattle.layout.specs.Layout.{FAIL, MARK}
 use Rattle.layout.specs.Tables.{cell}
 use Rattle.layout.specs.Numbered.{patternsIn, Numbered, SameBelow, Headed}
 use Rattle.layout.proofs.Frames.{patterns-kept}
-use Rattle.kept_lists.specs.steps.KeptLists.{MarksFilled}
+use Rattle.kept_slips.specs.steps.Kept.{MarksFilled}
 use Rattle.heads.proofs.Keeping.{kept-trans, kept-filled, kept-put, cleared}
 use Rattle.layout.proofs.Heads.{num-most}
 use Rattle.heads.proofs.MemberNodes.{node-most}

@@ -1,7 +1,7 @@
-use Rattle.sheet_lines.proofs.Puts.{put-byte}
+use Rattle.columns.proofs.Puts.{put-byte}
 use borrow.Author.Needs.{needs}
-use Rattle.sheet_lines.proofs.put_byte.Statement.{statement}
-use Rattle.sheet_lines.proofs.put_byte.Tie as tie
+use Rattle.columns.proofs.put_byte.Statement.{statement}
+use Rattle.columns.proofs.put_byte.Tie as tie
 
 returns : tie.Need-returns
 returns c = search put-byte

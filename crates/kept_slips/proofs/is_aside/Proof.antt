@@ -1,7 +1,7 @@
-use Rattle.kept_lists.proofs.AsideTest.{aside-kid, aside-mark, aside-none, aside-owner}
+use Rattle.kept_slips.proofs.AsideTest.{aside-kid, aside-mark, aside-none, aside-owner}
 use borrow.Author.Needs.{needs}
-use Rattle.kept_lists.proofs.is_aside.Statement.{statement}
-use Rattle.kept_lists.proofs.is_aside.Tie as tie
+use Rattle.kept_slips.proofs.is_aside.Statement.{statement}
+use Rattle.kept_slips.proofs.is_aside.Tie as tie
 
 returns : tie.Need-returns
 returns c = search aside-kid

@@ -21,7 +21,7 @@ use Rattle.layout.specs.Layout.{MEMBERS, FAIL, MARK, KEPT}
 use Rattle.layout.specs.Tables.{cell, members}
 use Rattle.layout.specs.Numbered.{patternsIn, SameBelow}
 use Rattle.layout.proofs.Frames.{kept-lower, members-kept, patterns-kept}
-use Rattle.kept_lists.specs.steps.KeptLists.{Marked, Judged, KeptFilled}
+use Rattle.kept_slips.specs.steps.Kept.{Marked, Judged, KeptFilled}
 use Rattle.heads.proofs.Keeping.{kept-put}
 use Rattle.layout.proofs.Heads.{members-length, num-most}
 use Rattle.heads.proofs.MemberNodes.{got-member, node-most}

@@ -4,10 +4,10 @@ use Prim.Native.Nat.{_-_}
 use Rattle.layout.specs.Layout.{KEPT}
 use Rattle.layout.specs.Numbered.{SameBelow}
 use Rattle.heads.proofs.Keeping.{kept-refl, kept-trans, kept-put}
-use Rattle.kept_lists.proofs.KeptLoop.{Sifting, sifting-start, sifting-judged, sifting-aside, sifting-can, sifting-kept, sifting-all}
+use Rattle.kept_slips.proofs.KeptLoop.{Sifting, sifting-start, sifting-judged, sifting-aside, sifting-can, sifting-kept, sifting-all}
 use borrow.Author.Needs.{needs}
-use Rattle.kept_lists.proofs.fill_kept.Statement.{statement}
-use Rattle.kept_lists.proofs.fill_kept.Tie as tie
+use Rattle.kept_slips.proofs.fill_kept.Statement.{statement}
+use Rattle.kept_slips.proofs.fill_kept.Tie as tie
 
 abbrev Inv-loop : tie.InvT-loop
 Inv-loop letters ends work₀ n count k₀ j₀ work k j = Sifting letters ends n count work j k × SameBelow KEPT work₀ work

@@ -1,6 +1,6 @@
-use Rattle.sheet_lines.proofs.LineLoops.{sign-aside, sign-kept}
-use Rattle.sheet_lines.proofs.sign.Statement.{statement}
-use Rattle.sheet_lines.proofs.sign.Tie as tie
+use Rattle.columns.proofs.ColumnLoops.{sign-aside, sign-kept}
+use Rattle.columns.proofs.sign.Statement.{statement}
+use Rattle.columns.proofs.sign.Tie as tie
 
 returns : tie.Need-returns
 returns c = search sign-aside

@@ -1,7 +1,7 @@
-use Rattle.sheet_lines.proofs.Puts.{put-part}
+use Rattle.columns.proofs.Puts.{put-part}
 use borrow.Author.Needs.{needs}
-use Rattle.sheet_lines.proofs.put_text.Statement.{statement}
-use Rattle.sheet_lines.proofs.put_text.Tie as tie
+use Rattle.columns.proofs.put_text.Statement.{statement}
+use Rattle.columns.proofs.put_text.Tie as tie
 
 returns : tie.Need-returns
 returns c = search put-part

@@ -3,10 +3,10 @@ use Prim.Native.Nat.{_+_, _-_}
 use Rattle.layout.specs.Layout.{MARK}
 use Rattle.layout.specs.Numbered.{SameBelow}
 use Rattle.heads.proofs.Keeping.{kept-refl, kept-trans, kept-put}
-use Rattle.kept_lists.proofs.MarkLoop.{Marking, marking-room, marking-start, marking-place, marking-can, marking-more, marking-all}
+use Rattle.kept_slips.proofs.MarkLoop.{Marking, marking-room, marking-start, marking-place, marking-can, marking-more, marking-all}
 use borrow.Author.Needs.{needs}
-use Rattle.kept_lists.proofs.fill_marks.Statement.{statement}
-use Rattle.kept_lists.proofs.fill_marks.Tie as tie
+use Rattle.kept_slips.proofs.fill_marks.Statement.{statement}
+use Rattle.kept_slips.proofs.fill_marks.Tie as tie
 
 abbrev Inv-loop : tie.InvT-loop
 Inv-loop letters ends work₀ n count v₀ work v = Marking letters ends n count work v × SameBelow MARK work₀ work

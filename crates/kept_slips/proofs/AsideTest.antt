@@ -26,7 +26,7 @@ use Rattle.matching.proofs.NodeLaws.{node-some, node-of, node-one}
 use Rattle.layout.specs.Layout.{KID, MARK, HEAD, FAIL}
 use Rattle.layout.specs.Tables.{cell, members, owners}
 use Rattle.layout.specs.Numbered.{patternsIn, Numbered}
-use Rattle.kept_lists.specs.steps.KeptLists.{Judged}
+use Rattle.kept_slips.specs.steps.Kept.{Judged}
 use Rattle.layout.proofs.Heads.{threaded-head}
 use Rattle.heads.proofs.MemberNodes.{in-member, node-num}
 

@@ -1,19 +1,19 @@
 -- Measure: the number n that is left to be written: its tenth is lower.
 use Rattle.sheets.proofs.Columns.{tenth-some, tenth-small}
-use Rattle.sheet_lines.proofs.LineLoops.{number-small, number-more}
+use Rattle.columns.proofs.ColumnLoops.{number-small, number-more}
 use native.Mathlib.Omega.{arith}
 use borrow.Author.Needs.{needs}
 use Prim.Native.Nat.{ℕ, _<_}
 use borrow.Fn.Kinds.{In}
 use borrow.Fn.PlainCycle.{Measures, is, falls, and}
-use Rattle.sheet_lines.proofs.put_number.Reads as put-number
-use Rattle.sheet_lines.proofs.put_number.Kinds as put-number-kinds
-use Rattle.sheet_lines.proofs.+put_number.Lts-put_number as put-number-lts
-use Rattle.sheet_lines.proofs.digit.Reads as digit-reads
-use Rattle.sheet_lines.proofs.put_blanks.Reads as put-blanks-reads
-use Rattle.sheet_lines.proofs.put_byte.Reads as put-byte-reads
-use Rattle.sheet_lines.proofs.+put_number.{statement}
-use Rattle.sheet_lines.proofs.+put_number.Tie.{close}
+use Rattle.columns.proofs.put_number.Reads as put-number
+use Rattle.columns.proofs.put_number.Kinds as put-number-kinds
+use Rattle.columns.proofs.+put_number.Lts-put_number as put-number-lts
+use Rattle.columns.proofs.digit.Reads as digit-reads
+use Rattle.columns.proofs.put_blanks.Reads as put-blanks-reads
+use Rattle.columns.proofs.put_byte.Reads as put-byte-reads
+use Rattle.columns.proofs.+put_number.{statement}
+use Rattle.columns.proofs.+put_number.Tie.{close}
 
 abbrev μ-put-number : Measures 1 put-number-kinds.ps ℕ
 μ-put-number κs a = a .1 .1 .1 .0

@@ -2,11 +2,11 @@
 use Prim.Native.Nat.{_-_, _≤_}
 use lib.ListN.{replicate}
 use Rattle.files.specs.Lines.{blank}
-use Rattle.sheet_lines.specs.steps.Lines.{Wrote}
-use Rattle.sheet_lines.proofs.LineLoops.{blanks-start, blanks-turn, blanks-end}
+use Rattle.columns.specs.steps.Wrote.{Wrote}
+use Rattle.columns.proofs.ColumnLoops.{blanks-start, blanks-turn, blanks-end}
 use borrow.Author.Needs.{needs}
-use Rattle.sheet_lines.proofs.put_blanks.Statement.{statement}
-use Rattle.sheet_lines.proofs.put_blanks.Tie as tie
+use Rattle.columns.proofs.put_blanks.Statement.{statement}
+use Rattle.columns.proofs.put_blanks.Tie as tie
 
 abbrev Inv-loop : tie.InvT-loop
 Inv-loop out₀ at n next₀ i₀ out next i = (i ≤ n) × Wrote at i (replicate i blank) out₀ out next

@@ -10,7 +10,7 @@ use native.Mathlib.Omega.{arith}
 use borrow.Rule.Slice.PartMut.{putMid}
 use lib.ListN.{length, take, drop, set, length-append, length-drop, take-append-drop, drop-of-length-le}
 use lib.Seq.{length-take-le, take-length, take-all, take-at, drop-at, drop-drop, drop-cons, set-split}
-use Rattle.sheet_lines.specs.steps.Lines.{writtenBehind, Wrote}
+use Rattle.columns.specs.steps.Wrote.{writtenBehind, Wrote}
 
 behind-length : (at : ℕ) (ys old : List ℕ) → at + length ys ≤ length old → length (writtenBehind at ys old) ≡ length old
 behind-length at ys old h =

@@ -1,0 +1,2 @@
+-- columns
+pub mod steps

@@ -1,0 +1,2 @@
+-- kept_slips
+pub mod steps
