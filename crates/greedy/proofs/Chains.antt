@@ -14,7 +14,7 @@ use native.Mathlib.Omega.{arith}
 use lib.ListN.{length}
 use Rattle.words.specs.Lists.{lastOr}
 use Rattle.words.proofs.Members.{In, by-in}
-use Rattle.words.proofs.Sums.{sum, All, held, held-in}
+use Rattle.words.proofs.Sums.{sum, All, held, held-in, length-sum}
 use Rattle.greedy.specs.Joins.{Join, rightOf, leftOf, lastFrom, lastOf, saved as savedBy}
 use Rattle.greedy.proofs.Takes.{last-stop, last-go}
 
@@ -49,6 +49,11 @@ pub record Rep (w : ℕ → ℕ → ℕ) (K : List ℕ) (js : List Join) (Cs : L
   pub arcs : All (Arc w K) js
   pub count : sum (λ C. length (C .rest)) Cs ≡ length js
   pub saved : sum (λ C. along w (C .first) (C .rest)) Cs ≡ savedBy js
+
+-- each chain has a join less than slips
+pub chains-fewer : (Cs : List Chain) → length Cs + sum (λ C. length (C .rest)) Cs ≡ sum (λ C. sum (λ i. 1) (wholeChain C)) Cs
+chains-fewer [] = refl
+chains-fewer (C ∷ Cs) = omega (arith, chains-fewer Cs, length-sum (C .rest))
 
 -- the end of a chain
 pub last-append : (p : ℕ) (xs : List ℕ) (q : ℕ) (ys : List ℕ) → lastOr p (xs ++ (q ∷ ys)) ≡ lastOr q ys

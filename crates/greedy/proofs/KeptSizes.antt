@@ -9,7 +9,7 @@ use Rattle.words.specs.Lists.{those, upFrom}
 use Rattle.words.proofs.Runs.{length-upFrom}
 use Rattle.words.proofs.Tests.{by-test}
 use Rattle.words.proofs.Members.{In, in-upFrom, those-yes, those-no}
-use Rattle.words.proofs.Sums.{sum}
+use Rattle.words.proofs.Sums.{sum, length-sum}
 use Rattle.trays.specs.Limits.{maxSlips, maxLetters}
 use Rattle.trays.specs.Slips.{slipsFrom, slipsOf, slip, numbers, total}
 use Rattle.trays.specs.Aside.{isAside, kept, counted}
@@ -45,10 +45,6 @@ total-those ss t (i ∷ M) =
     (λ e. rw (those-yes t i M e) (omega (arith, total-those ss t M)))
     (λ e. rw (those-no t i M e) (omega (arith, total-those ss t M)))
 
-pub length-sum : {A : Type 0} (xs : List A) → sum (λ x. 1) xs ≡ length xs
-length-sum [] = refl
-length-sum (x ∷ xs) = omega (arith, length-sum xs)
-
 length-those : (t : ℕ → Bool) (M : List ℕ) → length (those t M) ≤ length M
 length-those t [] = omega arith
 length-those t (i ∷ M) =
@@ -63,8 +59,8 @@ module _ (s es : List ℕ) (acc : trayFault s es .number ≡ 0) where
   abbrev K : List ℕ
   K = kept ss (numbers ss)
 
-  pub rep : (Ds : List Chain) × Rep (weight counted ss) K (plainFor counted ss K) Ds
-  rep = kept-rep ss (numbers ss) (numbers-rise ss) (numbers-positive ss) counted
+  pub joins-rep : (Ds : List Chain) × Rep (weight counted ss) K (plainFor counted ss K) Ds
+  joins-rep = kept-rep ss (numbers ss) (numbers-rise ss) (numbers-positive ss) counted
 
   pub kept-real : (i : ℕ) → In i K → (1 ≤ i) × (i ≤ length es)
   kept-real i h =
@@ -72,7 +68,7 @@ module _ (s es : List ℕ) (acc : trayFault s es .number ≡ 0) where
       (r .0, omega (arith, r .1, slips-count s es))
 
   pub pieces-count : length (piecesFor counted ss (numbers ss)) ≡ length K
-  pieces-count = sym (length-sum (piecesFor counted ss (numbers ss))) ∙ pieces-numbers (rep .1) (λ i. 1) ∙ length-sum K
+  pieces-count = sym (length-sum (piecesFor counted ss (numbers ss))) ∙ pieces-numbers (joins-rep .1) (λ i. 1) ∙ length-sum K
 
   pub kept-few : length K ≤ maxSlips
   kept-few = omega (
@@ -93,4 +89,4 @@ module _ (s es : List ℕ) (acc : trayFault s es .number ≡ 0) where
   )
 
   pub legend-small : length (legendOf (whole ss)) ≤ maxLetters
-  legend-small = omega (arith, kept-small, saving-of counted ss (rep .1))
+  legend-small = omega (arith, kept-small, saving-of counted ss (joins-rep .1))

@@ -4,7 +4,7 @@
 --   NAME-few                 == NAME gives at most so many
 -- The joins make chains of the kept slips, so they are fewer; their slips are kept slips, and an overlap is within its right slip. At one
 -- place of a text each slip ends at most once.
-use mathlib.Core.Path.{_≡_, refl}
+use mathlib.Core.Path.{_≡_}
 use mathlib.Core.List.{List, [], _∷_, map}
 use Prim.Native.Nat.{ℕ, suc, _+_, _-_, _*_, _≤_}
 use native.Mathlib.Nat.{mul-suc}
@@ -14,7 +14,7 @@ use Rattle.words.specs.Lists.{each, upFrom}
 use Rattle.words.proofs.Runs.{length-upFrom}
 use Rattle.words.proofs.Members.{in-upFrom}
 use Rattle.words.proofs.Maps.{all-each}
-use Rattle.words.proofs.Sums.{sum, All, all-in, all-at, held-in}
+use Rattle.words.proofs.Sums.{sum, All, all-in, all-at, held-in, length-sum}
 use Rattle.words.proofs.Overlaps.{overlapFor-fits}
 use Rattle.trays.specs.Limits.{maxSlips, maxText}
 use Rattle.trays.specs.Slips.{slipsOf, slip, numbers}
@@ -24,21 +24,16 @@ use Rattle.trays.proofs.Accepted.{accepted-tells, slips-count}
 use Rattle.numbering.proofs.Spans.{accepted-spanned}
 use Rattle.greedy.specs.Joins.{Join}
 use Rattle.greedy.specs.Composing.{whole, joinsOf}
-use Rattle.greedy.proofs.Chains.{Chain, wholeChain, Arc}
+use Rattle.greedy.proofs.Chains.{Chain, Arc, chains-fewer}
 use Rattle.greedy.proofs.Letters.{weight}
 use Rattle.greedy.proofs.Demand3.{composed}
 use Rattle.matching.specs.Occurrences.{Occurrence, occurrence, endingAt, occurrences}
 use Rattle.matching.proofs.States.{few-moves}
 use Rattle.matching.proofs.Finds.{in-ending}
 use Rattle.outputs.proofs.Outs.{ending-most}
-use Rattle.greedy.proofs.KeptSizes.{kept-real, kept-few, kept-small, legend-small, length-sum}
+use Rattle.greedy.proofs.KeptSizes.{joins-rep, kept-real, kept-few, kept-small, legend-small}
 use Rattle.sheet_sizes.specs.Fits.{JoinFits, ComposeFits, OccurrenceFits, FindFits}
-use Rattle.sheet_sizes.proofs.Placed.{joins-rep, place-most}
-
--- each chain has a join less than slips
-chains-fewer : (Cs : List Chain) → length Cs + sum (λ C. length (C .rest)) Cs ≡ sum (λ C. sum (λ i. 1) (wholeChain C)) Cs
-chains-fewer [] = refl
-chains-fewer (C ∷ Cs) = omega (arith, chains-fewer Cs, length-sum (C .rest))
+use Rattle.sheet_sizes.proofs.Placed.{place-most}
 
 fewer : (Cs : List Chain) (n : ℕ) → length Cs + sum (λ C. length (C .rest)) Cs ≤ suc n → sum (λ C. length (C .rest)) Cs ≤ n
 fewer [] n h = omega arith

@@ -26,13 +26,10 @@ use Rattle.trays.specs.Faults.{trayFault}
 use Rattle.trays.proofs.Accepted.{accepted-tells, slips-count, span-rises}
 use Rattle.trays.proofs.Kept.{kept-in}
 use Rattle.numbering.proofs.Spans.{accepted-spanned}
-use Rattle.greedy.specs.Joins.{plainFor}
 use Rattle.greedy.specs.Legends.{piecesFor, lowest, placeIn, placeFor}
 use Rattle.greedy.specs.Composing.{whole, legendOf, placeOf}
-use Rattle.greedy.proofs.Chains.{Chain, Rep}
-use Rattle.greedy.proofs.Letters.{weight, laid-at}
-use Rattle.greedy.proofs.Bound.{kept-rep}
-use Rattle.greedy.proofs.Demand3.{numbers-rise, numbers-positive}
+use Rattle.greedy.proofs.Letters.{laid-at}
+use Rattle.greedy.proofs.KeptSizes.{joins-rep}
 
 lowest-most : (p : ℕ) (x t : List ℕ) → standsIn x t ≡ true → 1 ≤ length x → lowest p x t < p + length t
 lowest-most p x [] h n = absurd (omega (arith, begins-length x [] h))
@@ -47,9 +44,6 @@ module _ (s es : List ℕ) (acc : trayFault s es .number ≡ 0) where
 
   abbrev K : List ℕ
   K = kept ss (numbers ss)
-
-  pub joins-rep : (Cs : List Chain) × Rep (weight counted ss) K (plainFor counted ss K) Cs
-  joins-rep = kept-rep ss (numbers ss) (numbers-rise ss) (numbers-positive ss) counted
 
   some : (i : ℕ) → 1 ≤ i → i ≤ length es → 1 ≤ length (slip ss i)
   some i p l = omega (arith, accepted-spanned s es acc .long i p l, span-rises s es acc i p l)
@@ -105,7 +99,7 @@ module _ (s es : List ℕ) (acc : trayFault s es .number ≡ 0) where
   laid : (i : ℕ) → In i K →
       (1 ≤ placeIn ss i 1 (piecesFor counted ss (numbers ss))) ×
       (begins (slip ss i) (drop (placeIn ss i 1 (piecesFor counted ss (numbers ss)) - 1) (legendOf (whole ss))) ≡ true)
-  laid i m = laid-at counted ss (joins-rep .1) i (in-held i K m)
+  laid i m = laid-at counted ss (joins-rep s es acc .1) i (in-held i K m)
 
   pub legend-every : (i : ℕ) → 1 ≤ i → i ≤ length es → standsIn (slip ss i) (legendOf (whole ss)) ≡ true
   legend-every i p l =

@@ -1,16 +1,16 @@
 -- The walk, row by row, and what it has made in the end.
 --   Walking .. w made d ..  == the rows of d letters and fewer, walked from the joins in w on, make the joins of the walk
 --   few-joins               == the plain rule makes no more joins than there are slips
-use mathlib.Core.Path.{_≡_, refl, sym, ap, _∙_}
+use mathlib.Core.Path.{_≡_, sym, ap, _∙_}
 use mathlib.Core.Bool.{Bool}
-use mathlib.Core.List.{List, [], _∷_, _++_}
+use mathlib.Core.List.{List, _++_}
 use Prim.Native.Nat.{ℕ, suc, _+_, _-_, _≤_, _<_}
 use native.Mathlib.Omega.{arith}
 use lib.ListN.{length, replicate, length-replicate}
 use Rattle.words.specs.Lists.{those, upFrom}
 use Rattle.words.proofs.Members.{In, Asc, those-append}
 use Rattle.words.proofs.Overlaps.{nonEmpty-counts}
-use Rattle.words.proofs.Sums.{sum, all-in, asc-once}
+use Rattle.words.proofs.Sums.{all-in, asc-once, length-sum}
 use Rattle.trays.specs.Limits.{maxSlips, maxSlip}
 use Rattle.trays.specs.Slips.{slipsOf}
 use Rattle.trays.specs.Aside.{kept, counted}
@@ -18,7 +18,7 @@ use Rattle.tables.specs.Tables.{Cells, Only}
 use Rattle.tables.proofs.Tables.{only-refl, only-trans}
 use Rattle.greedy.specs.Joins.{plainFor}
 use Rattle.greedy.specs.Walk.{walkFrom, walkFor}
-use Rattle.greedy.proofs.Chains.{Chain, wholeChain}
+use Rattle.greedy.proofs.Chains.{chains-fewer}
 use Rattle.greedy.proofs.Represent.{plain-rep}
 use Rattle.greedy.proofs.Nodes.{walk-append, walk-nodes}
 use Rattle.greedy.proofs.OneList.{Ready, one-list, kept-ready}
@@ -38,15 +38,7 @@ use Rattle.walking.proofs.WalkableLaws.{kept-rises, kept-member, kept-c
 few-joins : (counts : List ℕ → Bool) (ss : List (List ℕ)) (K : List ℕ) → Asc _<_ K → ((x : ℕ) → In x K → 1 ≤ x) → length (plainFor counts ss K) ≤ length K
 few-joins counts ss K a p =
     let (Cs, rep) = plain-rep counts ss K (asc-once K a) (all-in (λ x. 1 ≤ x) K p) in
-    omega (arith, rep .count, rep .all (λ x. 1), ones K, more Cs)
-  where
-    ones : {A : Type 0} (xs : List A) → sum (λ x. 1) xs ≡ length xs
-    ones [] = refl
-    ones (x ∷ xs) = omega (arith, ones xs)
-
-    more : (Cs : List Chain) → sum (λ C. length (C .rest)) Cs ≤ sum (λ C. sum (λ x. 1) (wholeChain C)) Cs
-    more [] = omega arith
-    more (C ∷ Cs) = omega (arith, more Cs, ones (C .rest))
+    omega (arith, rep .count, rep .all (λ x. 1), length-sum K, chains-fewer Cs)
 
 pub fresh-length : (xs ys : List ℕ) → length xs ≡ maxSlips → ys ≡ replicate maxSlips 0 → length xs ≡ length ys
 fresh-length xs ys h e = h ∙ sym (ap length e ∙ length-replicate {A = ℕ} maxSlips 0)

@@ -11,6 +11,7 @@ use mathlib.Core.Logic.{inl, inr}
 use Prim.Native.Nat.{ℕ, _+_, _≤_, _<_}
 use native.Mathlib.Omega.{arith}
 use lib.Dec.{eqb}
+use lib.ListN.{length}
 use borrow.Author.Tests.{eqb-true, eqb-false, eq-eqb, ne-eqb}
 use Rattle.words.specs.Lists.{lastOr}
 pub use Rattle.words.specs.Lists.{All}
@@ -30,6 +31,10 @@ held x ys = sum (is x) ys
 pub sum-append : {A : Type 0} (f : A → ℕ) (X Y : List A) → sum f (X ++ Y) ≡ sum f X + sum f Y
 sum-append f [] Y = omega arith
 sum-append f (x ∷ X) Y = omega (arith, sum-append f X Y)
+
+pub length-sum : {A : Type 0} (xs : List A) → sum (λ x. 1) xs ≡ length xs
+length-sum [] = refl
+length-sum (x ∷ xs) = omega (arith, length-sum xs)
 
 -- a positive sum has a positive summand
 pub sum-cut : {A : Type 0} (f : A → ℕ) (X : List A) → 1 ≤ sum f X

@@ -17,7 +17,7 @@ use Rattle.trays.specs.Faults.{trayFault}
 use Rattle.trays.proofs.Kept.{kept-asc, in-kept, kept-in}
 use Rattle.greedy.specs.Legends.{Piece, added, spelled, piecesFor}
 use Rattle.greedy.proofs.Demand3.{numbers-rise}
-use Rattle.greedy.proofs.KeptSizes.{rep, kept-real, legend-small}
+use Rattle.greedy.proofs.KeptSizes.{joins-rep, kept-real, legend-small}
 use Rattle.greedy.proofs.Letters.{Order, over-most, legend-order, pieces-numbers}
 use Rattle.laying.specs.Laying.{PieceFits}
 use Rattle.placing.specs.Places.{Placeable}
@@ -97,7 +97,7 @@ module _ (s es : List ℕ) (acc : trayFault s es .number ≡ 0) where
   ps = piecesFor counted ss (numbers ss)
 
   times-held : (i : ℕ) → times i ps ≡ held i K
-  times-held i = pieces-numbers (rep s es acc .1) (is i)
+  times-held i = pieces-numbers (joins-rep s es acc .1) (is i)
 
   real : (i : ℕ) → 1 ≤ times i ps → (1 ≤ i) × (i ≤ length es)
   real i h = kept-real s es acc i (held-in i K (omega (arith, times-held i)))
@@ -126,7 +126,7 @@ module _ (s es : List ℕ) (acc : trayFault s es .number ≡ 0) where
   in-tray = all-times (λ i. (1 ≤ i) × (i ≤ length es)) ps real
 
   pub pieces-fit : All (PieceFits s es) ps
-  pieces-fit = order-fits s es ps [] (legend-order counted ss (rep s es acc .1)) in-tray
+  pieces-fit = order-fits s es ps [] (legend-order counted ss (joins-rep s es acc .1)) in-tray
 
   pub pieces-places : Placeable s es 1 ps
-  pieces-places = order-places s es ps [] 1 (omega arith) (omega (arith, legend-small s es acc)) (legend-order counted ss (rep s es acc .1)) in-tray
+  pieces-places = order-places s es ps [] 1 (omega arith) (omega (arith, legend-small s es acc)) (legend-order counted ss (joins-rep s es acc .1)) in-tray
