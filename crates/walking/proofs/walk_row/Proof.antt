@@ -1,3 +1,4 @@
+-- Invariant: to visit the nodes of the row from node v on makes of the joins made so far what the whole row makes; the marks are those of the joins made.
 use Prim.Native.Nat.{_-_}
 use Rattle.walking.proofs.RowLoop.{RowWalking, row-start, row-visits, row-turn, row-end}
 use borrow.Author.Needs.{needs}
