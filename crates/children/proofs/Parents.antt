@@ -17,15 +17,16 @@ use lib.ListN.{length, getD, take}
 use lib.Seq.{take-suc, length-take-le}
 use borrow.Author.Tests.{lt-ltb, le-ltb, le-leb, lt-leb}
 use Rattle.trays.specs.Limits.{maxLetters}
-use Rattle.trays.specs.Slips.{slipsOf, slip, startOf}
+use Rattle.trays.specs.Slips.{slip, startOf}
 use Rattle.tables.specs.Tables.{Got}
 use Rattle.matching.specs.Nodes.{nodes, string, IsNode, Num}
 use Rattle.matching.proofs.NodeLaws.{nodes-numbered, is-root}
 use Rattle.matching.proofs.Numbered as T
 use Rattle.layout.specs.Layout.{AT, OWN, LEVEL, KID}
 use Rattle.layout.specs.Tables.{cell, members, Owned}
-use Rattle.layout.specs.Numbered.{patternsIn, Numbered, SameBelow}
+use Rattle.layout.specs.Numbered.{Numbered, SameBelow}
 use Rattle.layout.proofs.Frames.{letter-within, letter-place, letter-is}
+use Rattle.layout.proofs.AreaSlips.{AreaSlips, areaSlips}
 use Rattle.children.specs.Children.{parentOf, letterOf, ParentCells, Lettered}
 
 -- the two ways of `parent`
@@ -58,11 +59,7 @@ pub hangs-here : (w : List ℕ) (count u v r : ℕ) → u ≤ count → r ≡ pa
 hangs-here w count u v r h e = rw (le-leb u count h, e)
 
 module _ {s es : List ℕ} {n count : ℕ} {w : List ℕ} (N : Numbered s es n count w) where
-  abbrev ss : List (List ℕ)
-  ss = slipsOf s es
-
-  abbrev ps : List (List ℕ)
-  ps = patternsIn s es n w
+  open AreaSlips (areaSlips s es n w) using (ss, ps)
 
   -- a node where it stands: its string, its letter, its place
   module _ (v : ℕ) (m : Num ps v) where

@@ -15,8 +15,8 @@ use Rattle.tables.specs.Tables.{table}
 use Rattle.tables.proofs.Tables.{table-length, table-take, table-same}
 use Rattle.trays.specs.declared.Refusal.{Refusal}
 use Rattle.trays.specs.Limits.{maxSlips}
-use Rattle.trays.specs.Slips.{slipsOf, numbers}
-use Rattle.trays.specs.Aside.{kept, counted}
+use Rattle.trays.specs.Slips.{numbers}
+use Rattle.trays.specs.Aside.{counted}
 use Rattle.trays.specs.Faults.{refusal, written}
 use Rattle.trays.proofs.Accepted.{accepted-tells, slips-count}
 use Rattle.greedy.specs.Joins.{Join, rightOf}
@@ -24,7 +24,7 @@ use Rattle.greedy.specs.Composing.{whole, joinsOf, legendOf}
 use Rattle.greedy.specs.Legends.{pieces, piecesFor}
 use Rattle.greedy.proofs.Relabel.{plain-in}
 use Rattle.greedy.proofs.Demand3.{composed}
-use Rattle.greedy.proofs.KeptSizes.{kept-real, kept-few, kept-small, legend-small, pieces-count}
+use Rattle.greedy.proofs.KeptSizes.{TraySlips, traySlips, kept-real, kept-few, kept-small, legend-small, pieces-count}
 use Rattle.chains.specs.Pieces.{piecesIn}
 use Rattle.chains.proofs.NeighbourPieces.{pieces-by}
 use Rattle.layout.specs.Layout.{KEPT, JOINS}
@@ -47,11 +47,7 @@ all-map f [] a = tt
 all-map f (x ∷ xs) a = (f x (a .0), all-map f xs (a .1))
 
 module _ (s es w : List ℕ) (k j : ℕ) (left right overs : List ℕ) (a : Joined s es w k j left right overs) where
-  abbrev ss : List (List ℕ)
-  ss = slipsOf s es
-
-  abbrev K : List ℕ
-  K = kept ss (numbers ss)
+  open TraySlips (traySlips s es) using (ss, K)
 
   walked : AfterWalk s es w k j
   walked = a .walked

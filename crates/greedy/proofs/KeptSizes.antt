@@ -1,4 +1,6 @@
 -- How many slips of an accepted tray are kept, with how many letters, in how many pieces, and how long the legend is.
+--   traySlips s es  == the slips of a tray, and the kept ones
+--   joins-rep       == the chains of its joins
 use mathlib.Core.Path.{_≡_, refl, sym, _∙_, ap}
 use mathlib.Core.Bool.{Bool, not}
 use mathlib.Core.List.{List, [], _∷_}
@@ -52,12 +54,16 @@ length-those t (i ∷ M) =
     (λ e. rw (those-yes t i M e) (omega (arith, length-those t M)))
     (λ e. rw (those-no t i M e) (omega (arith, length-those t M)))
 
-module _ (s es : List ℕ) (acc : trayFault s es .number ≡ 0) where
-  abbrev ss : List (List ℕ)
-  ss = slipsOf s es
+-- the slips of a tray, and the kept ones: opened at the head of a section
+pub record TraySlips : Type 0 where
+  pub ss : List (List ℕ)
+  pub K : List ℕ
 
-  abbrev K : List ℕ
-  K = kept ss (numbers ss)
+abbrev pub traySlips : List ℕ → List ℕ → TraySlips
+traySlips s es = let ss = slipsOf s es in record { ss = ss; K = kept ss (numbers ss) }
+
+module _ (s es : List ℕ) (acc : trayFault s es .number ≡ 0) where
+  open TraySlips (traySlips s es) using (ss, K)
 
   pub joins-rep : (Ds : List Chain) × Rep (weight counted ss) K (plainFor counted ss K) Ds
   joins-rep = kept-rep ss (numbers ss) (numbers-rise ss) (numbers-positive ss) counted

@@ -23,6 +23,7 @@ use Rattle.layout.specs.Tables.{cell, members, owners}
 use Rattle.layout.specs.Numbered.{patternsIn, Automaton, SameBelow}
 use Rattle.layout.proofs.Frames.{members-kept, automaton-kept}
 use Rattle.layout.proofs.Heads.{members-length, num-most}
+use Rattle.layout.proofs.AreaSlips.{AreaSlips, areaSlips}
 use Rattle.heads.specs.steps.Heads.{Among, CanPush, Pushed, Lists, HeadsFilled}
 use Rattle.heads.proofs.Threading.{drop-here, drop-later, push-lists}
 use Rattle.heads.proofs.Keeping.{kept-trans, kept-filled, kept-pushed, cleared}
@@ -69,11 +70,7 @@ module _ {s es : List ℕ} {n count : ℕ} {w : List ℕ} where
     heading-among = record { automaton = H .automaton; member = heading-member .among }
 
     module _ {v : ℕ} (m : IsNode (patternsIn s es n w) v (slip (slipsOf s es) i)) where
-      abbrev ss : List (List ℕ)
-      ss = slipsOf s es
-
-      abbrev ps : List (List ℕ)
-      ps = patternsIn s es n w
+      open AreaSlips (areaSlips s es n w) using (ss, ps)
 
       pub heading-can : CanPush w HEAD v TWIN i i
       heading-can =

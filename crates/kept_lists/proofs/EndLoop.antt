@@ -31,6 +31,7 @@ use Rattle.layout.specs.Layout.{AT, FAIL, LEVEL, KEPT, ENDS, ENDS-NEXT}
 use Rattle.layout.specs.Tables.{cell}
 use Rattle.layout.specs.Numbered.{patternsIn, Numbered}
 use Rattle.layout.proofs.Heads.{num-most}
+use Rattle.layout.proofs.AreaSlips.{AreaSlips, areaSlips}
 use Rattle.kept_lists.specs.steps.KeptLists.{endings, Listing, ListedTo}
 use Rattle.heads.specs.steps.Heads.{CanPush, Pushed}
 use Rattle.heads.proofs.MemberNodes.{Member, member-node, node-num, node-most}
@@ -64,11 +65,7 @@ pub record Falling (s es : List ℕ) (n k count : ℕ) (w₀ : List ℕ) (j i en
   pub adding : Adding endings s es n k w₀ j i w (ltb d)
 
 module _ {s es : List ℕ} {n k count : ℕ} {w₀ : List ℕ} {j i : ℕ} (E : Listing endings s es n k count w₀ (j + 1)) (g : Got w₀ KEPT j i) where
-  abbrev ss : List (List ℕ)
-  ss = slipsOf s es
-
-  abbrev ps : List (List ℕ)
-  ps = patternsIn s es n w₀
+  open AreaSlips (areaSlips s es n w₀) using (ss, ps)
 
   abbrev N : Numbered s es n count w₀
   N = E .staged .automaton .branched .numbered

@@ -29,6 +29,7 @@ use Rattle.layout.specs.Numbered.{patternsIn, Numbered, SameBelow}
 use Rattle.layout.specs.Staging.{keptIn}
 use Rattle.layout.proofs.Frames.{kept-lower, members-kept}
 use Rattle.layout.proofs.Heads.{num-most}
+use Rattle.layout.proofs.AreaSlips.{AreaSlips, areaSlips}
 use Rattle.kept_slips.specs.steps.Kept.{KeptFound}
 use Rattle.kept_lists.specs.steps.KeptLists.{Side, beginnings, endings, has, place, heads, nexts, atSide, Listing, ListedTo, SideFilled}
 use Rattle.heads.specs.steps.Heads.{CanPush, Pushed, Lists}
@@ -76,11 +77,7 @@ pub record Adding (a : Side) (s es : List ℕ) (n k : ℕ) (w₀ : List ℕ) (j 
 -- length by length
 module _
     {a : Side} {s es : List ℕ} {n k count : ℕ} {w₀ : List ℕ} {j i : ℕ} (S : Listing a s es n k count w₀ (j + 1)) (g : Got w₀ KEPT j i) where
-  abbrev ss : List (List ℕ)
-  ss = slipsOf s es
-
-  abbrev ps : List (List ℕ)
-  ps = patternsIn s es n w₀
+  open AreaSlips (areaSlips s es n w₀) using (ss, ps)
 
   abbrev x : List ℕ
   x = slip ss i

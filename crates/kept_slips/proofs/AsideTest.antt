@@ -16,7 +16,7 @@ use Rattle.words.specs.Words.{same}
 use Rattle.words.proofs.Tests.{tell}
 use Rattle.words.proofs.Orders.{same-is, same-at}
 use Rattle.words.proofs.Members.{In, by-in, Asc, those-in, in-those, asc-those}
-use Rattle.trays.specs.Slips.{slipsOf, slip}
+use Rattle.trays.specs.Slips.{slip}
 use Rattle.trays.specs.Aside.{isAside}
 use Rattle.tables.specs.Tables.{Got}
 use Rattle.matching.specs.Moves.{beginsSome, longestEnding}
@@ -24,10 +24,11 @@ use Rattle.matching.specs.Nodes.{string, IsNode, Num}
 use Rattle.matching.proofs.AsideNodes.{Inner, Earlier, aside-inner, inner-aside}
 use Rattle.matching.proofs.NodeLaws.{node-some, node-of, node-one}
 use Rattle.layout.specs.Layout.{KID, MARK, HEAD, FAIL}
-use Rattle.layout.specs.Tables.{cell, members, owners}
-use Rattle.layout.specs.Numbered.{patternsIn, Numbered}
+use Rattle.layout.specs.Tables.{cell, owners}
+use Rattle.layout.specs.Numbered.{Numbered}
 use Rattle.kept_slips.specs.steps.Kept.{Judged}
 use Rattle.layout.proofs.Heads.{threaded-head}
+use Rattle.layout.proofs.AreaSlips.{AreaSlips, areaSlips}
 use Rattle.heads.proofs.MemberNodes.{in-member, node-num}
 
 -- the first of an ascending list
@@ -47,14 +48,7 @@ module _ {s es : List ℕ} {n count : ℕ} {w : List ℕ} {i : ℕ} (J : Judged 
   abbrev N : Numbered s es n count w
   N = J .marked .headed .automaton .branched .numbered
 
-  abbrev ss : List (List ℕ)
-  ss = slipsOf s es
-
-  abbrev M : List ℕ
-  M = members w n
-
-  abbrev ps : List (List ℕ)
-  ps = patternsIn s es n w
+  open AreaSlips (areaSlips s es n w) using (ss, M, ps)
 
   module _ {f : ℕ} (m : IsNode ps f (slip ss i)) where
     num : Num ps f

@@ -3,3 +3,4 @@ pub mod AllSpecimens
 pub mod Frames
 pub mod RowLaws
 pub mod Heads
+pub mod AreaSlips

@@ -25,17 +25,11 @@ use Rattle.layout.proofs.Frames.{only-kept, kept-lower, members-kept}
 use Rattle.outputs.specs.steps.Outputs.{OutOf, TallyOf, Telling, Tallied, OutputsFilled}
 use Rattle.outputs.proofs.Outs.{by-list, ending-most, ending-link, ending-root, out-root, out-here, out-next}
 use Rattle.layout.proofs.Heads.{threaded-head, member-some, member-letters, members-length, num-most, headed-kept}
+use Rattle.layout.proofs.AreaSlips.{AreaSlips, areaSlips}
 
 -- one node
 module _ {s es : List ℕ} {n count : ℕ} {w : List ℕ} {v : ℕ} (T : Telling s es n count w v) where
-  abbrev ss : List (List ℕ)
-  ss = slipsOf s es
-
-  abbrev M : List ℕ
-  M = members w n
-
-  abbrev ps : List (List ℕ)
-  ps = patternsIn s es n w
+  open AreaSlips (areaSlips s es n w) using (ss, M, ps)
 
   node : Num ps v
   node = T .owning .node

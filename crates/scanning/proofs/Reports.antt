@@ -12,17 +12,18 @@ use lib.ListN.{length}
 use Rattle.words.specs.Lists.{tailOf}
 use Rattle.words.specs.Words.{same}
 use Rattle.words.proofs.Members.{In, in-those}
-use Rattle.trays.specs.Slips.{slipsOf, slip}
+use Rattle.trays.specs.Slips.{slip}
 use Rattle.tables.specs.Tables.{Got}
 use Rattle.matching.specs.Nodes.{string, Num}
 use Rattle.matching.proofs.Finds.{endingOf}
 use Rattle.matching.proofs.NodeLaws.{node-some}
 use Rattle.layout.specs.Layout.{HEAD, TWIN, OUT}
-use Rattle.layout.specs.Tables.{cell, members, owners, Threaded}
-use Rattle.layout.specs.Numbered.{patternsIn, Numbered}
+use Rattle.layout.specs.Tables.{cell, owners, Threaded}
+use Rattle.layout.specs.Numbered.{Numbered}
 use Rattle.outputs.specs.steps.Outputs.{longestOwned, OutOf, Told}
 use Rattle.outputs.proofs.Outs.{by-list, owned-here, owned-past, ending-out, ending-root}
 use Rattle.layout.proofs.Heads.{member-few, member-some, member-letters, num-most}
+use Rattle.layout.proofs.AreaSlips.{AreaSlips, areaSlips}
 use Rattle.scanning.specs.steps.Scanning.{Reporting, Pending, AtNode}
 
 owned-owned : (ss : List (List ℕ)) (M t : List ℕ) → 1 ≤ length (longestOwned ss M t) → (i : ℕ) × (is : List ℕ) × (owners ss M (longestOwned ss M t) ≡ i ∷ is)
@@ -33,14 +34,7 @@ owned-owned ss M (a ∷ t) h =
     (λ i is e. rw (owned-here ss M (a ∷ t) i is e) (i, is, e))
 
 module _ {s es : List ℕ} {n count : ℕ} {w : List ℕ} (T : Told s es n count w) where
-  abbrev ss : List (List ℕ)
-  ss = slipsOf s es
-
-  abbrev M : List ℕ
-  M = members w n
-
-  abbrev ps : List (List ℕ)
-  ps = patternsIn s es n w
+  open AreaSlips (areaSlips s es n w) using (ss, M, ps)
 
   numbered : Numbered s es n count w
   numbered = T .headed .automaton .branched .numbered

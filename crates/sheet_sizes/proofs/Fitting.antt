@@ -18,7 +18,7 @@ use Rattle.words.proofs.Sums.{sum, All, all-in, all-at, held-in, length-sum}
 use Rattle.words.proofs.Overlaps.{overlapFor-fits}
 use Rattle.trays.specs.Limits.{maxSlips, maxText}
 use Rattle.trays.specs.Slips.{slipsOf, slip, numbers}
-use Rattle.trays.specs.Aside.{kept, counted}
+use Rattle.trays.specs.Aside.{counted}
 use Rattle.trays.specs.Faults.{trayFault}
 use Rattle.trays.proofs.Accepted.{accepted-tells, slips-count}
 use Rattle.numbering.proofs.Spans.{accepted-spanned}
@@ -31,7 +31,7 @@ use Rattle.matching.specs.Occurrences.{Occurrence, occurrence, endingAt, occurr
 use Rattle.matching.proofs.States.{few-moves}
 use Rattle.matching.proofs.Finds.{in-ending}
 use Rattle.outputs.proofs.Outs.{ending-most}
-use Rattle.greedy.proofs.KeptSizes.{joins-rep, kept-real, kept-few, kept-small, legend-small}
+use Rattle.greedy.proofs.KeptSizes.{TraySlips, traySlips, joins-rep, kept-real, kept-few, kept-small, legend-small}
 use Rattle.sheet_sizes.specs.Fits.{JoinFits, ComposeFits, OccurrenceFits, FindFits}
 use Rattle.sheet_sizes.proofs.Placed.{place-most}
 
@@ -40,11 +40,7 @@ fewer [] n h = omega arith
 fewer (C ∷ Cs) n h = omega arith
 
 module _ (s es : List ℕ) (acc : trayFault s es .number ≡ 0) where
-  abbrev ss : List (List ℕ)
-  ss = slipsOf s es
-
-  abbrev K : List ℕ
-  K = kept ss (numbers ss)
+  open TraySlips (traySlips s es) using (ss, K)
 
   few : length es ≤ maxSlips
   few = accepted-tells s es acc .few

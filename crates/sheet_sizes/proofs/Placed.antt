@@ -20,8 +20,8 @@ use Rattle.words.proofs.Sums.{in-held}
 use Rattle.words.proofs.Orders.{same-is}
 use Rattle.words.proofs.Strings.{begins-refl, begins-length, begins-stands, stands-drop, stands-trans}
 use Rattle.trays.specs.Limits.{maxSlips, maxSlip}
-use Rattle.trays.specs.Slips.{slipsOf, slip, numbers}
-use Rattle.trays.specs.Aside.{asideFor, isAside, kept, counted}
+use Rattle.trays.specs.Slips.{slip, numbers}
+use Rattle.trays.specs.Aside.{asideFor, isAside, counted}
 use Rattle.trays.specs.Faults.{trayFault}
 use Rattle.trays.proofs.Accepted.{accepted-tells, slips-count, span-rises}
 use Rattle.trays.proofs.Kept.{kept-in}
@@ -29,7 +29,7 @@ use Rattle.numbering.proofs.Spans.{accepted-spanned}
 use Rattle.greedy.specs.Legends.{piecesFor, lowest, placeIn, placeFor}
 use Rattle.greedy.specs.Composing.{whole, legendOf, placeOf}
 use Rattle.greedy.proofs.Letters.{laid-at}
-use Rattle.greedy.proofs.KeptSizes.{joins-rep}
+use Rattle.greedy.proofs.KeptSizes.{TraySlips, traySlips, joins-rep}
 
 lowest-most : (p : ℕ) (x t : List ℕ) → standsIn x t ≡ true → 1 ≤ length x → lowest p x t < p + length t
 lowest-most p x [] h n = absurd (omega (arith, begins-length x [] h))
@@ -39,11 +39,7 @@ lowest-most p x (y ∷ ys) h n =
     (λ e. rw (e, lowest) (omega (arith, lowest-most (suc p) x ys (rw e at h) n)))
 
 module _ (s es : List ℕ) (acc : trayFault s es .number ≡ 0) where
-  abbrev ss : List (List ℕ)
-  ss = slipsOf s es
-
-  abbrev K : List ℕ
-  K = kept ss (numbers ss)
+  open TraySlips (traySlips s es) using (ss, K)
 
   some : (i : ℕ) → 1 ≤ i → i ≤ length es → 1 ≤ length (slip ss i)
   some i p l = omega (arith, accepted-spanned s es acc .long i p l, span-rises s es acc i p l)

@@ -26,6 +26,7 @@ use Rattle.offers.specs.steps.Marks.{Marks}
 use Rattle.offers.specs.steps.Offers.{JoinsMade}
 use Rattle.walking.specs.steps.Walking.{Visits, Walkable, RowAsks, rowWalked}
 use Rattle.layout.proofs.RowLaws.{row-num}
+use Rattle.layout.proofs.AreaSlips.{AreaSlips, areaSlips}
 use Rattle.walking.proofs.WalkableLaws.{kept-rises, here-sized, node-starts, node-ends, patterns-same, kept-same, walkable-kept}
 
 pub record RowWalking (s es : List ℕ) (n k count : ℕ) (w₀ : List ℕ) (d made₀ : ℕ) (w : List ℕ) (made v end : ℕ)
@@ -62,14 +63,10 @@ counted-some (a ∷ x) h = refl
 
 module _ {s es : List ℕ} {n k count : ℕ} {w₀ : List ℕ} {d made₀ : ℕ} {w : List ℕ} {made v end : ℕ} {left right overs first last : List ℕ}
     (T : RowWalking s es n k count w₀ d made₀ w made v end left right overs first last) where
-  abbrev ss : List (List ℕ)
-  ss = slipsOf s es
+  open AreaSlips (areaSlips s es n w₀) using (ss, ps)
 
   abbrev K : List ℕ
   K = keptIn w₀ k
-
-  abbrev ps : List (List ℕ)
-  ps = patternsIn s es n w₀
 
   pub row-end : end ≤ v → JoinsMade w₀ (rowWalked s es n k w₀ d made₀) w left right overs first last made
   row-end h =

@@ -33,6 +33,7 @@ use Rattle.walking.specs.steps.Walking.{Walkable, RowAsks, rowWalked, Fr
 use Rattle.offers.proofs.MarkLaws.{marks-none}
 use Rattle.offers.proofs.JoinCells.{joins-length}
 use Rattle.layout.proofs.RowLaws.{rows-nodes}
+use Rattle.layout.proofs.AreaSlips.{AreaSlips, areaSlips}
 use Rattle.walking.proofs.WalkableLaws.{kept-rises, kept-member, kept-count, patterns-same, kept-same, walkable-kept}
 
 few-joins : (counts : List ℕ → Bool) (ss : List (List ℕ)) (K : List ℕ) → Asc _<_ K → ((x : ℕ) → In x K → 1 ≤ x) → length (plainFor counts ss K) ≤ length K
@@ -67,14 +68,10 @@ walk-start {s} {es} {n} {k} {count} {w} W F f l =
 
 module _ {s es : List ℕ} {n k count : ℕ} {w₀ w : List ℕ} {made d : ℕ} {left right overs first last : List ℕ}
     (T : Walking s es n k count w₀ w made d left right overs first last) where
-  abbrev ss : List (List ℕ)
-  ss = slipsOf s es
+  open AreaSlips (areaSlips s es n w₀) using (ss, ps)
 
   abbrev K : List ℕ
   K = keptIn w₀ k
-
-  abbrev ps : List (List ℕ)
-  ps = patternsIn s es n w₀
 
   module _ (h : 0 < d) where
     pub walk-asks : RowAsks s es n k count w d made left right overs first last

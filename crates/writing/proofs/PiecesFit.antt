@@ -12,12 +12,12 @@ use Rattle.words.proofs.Tests.{by-test, not-both}
 use Rattle.words.proofs.Members.{In, upFrom-in}
 use Rattle.words.proofs.Sums.{sum, All, is, held, in-held, held-in, asc-once}
 use Rattle.trays.specs.Slips.{slipsOf, slip, numbers}
-use Rattle.trays.specs.Aside.{isAside, kept, counted}
+use Rattle.trays.specs.Aside.{isAside, counted}
 use Rattle.trays.specs.Faults.{trayFault}
 use Rattle.trays.proofs.Kept.{kept-asc, in-kept, kept-in}
 use Rattle.greedy.specs.Legends.{Piece, added, spelled, piecesFor}
 use Rattle.greedy.proofs.Demand3.{numbers-rise}
-use Rattle.greedy.proofs.KeptSizes.{joins-rep, kept-real, legend-small}
+use Rattle.greedy.proofs.KeptSizes.{TraySlips, traySlips, joins-rep, kept-real, legend-small}
 use Rattle.greedy.proofs.Letters.{Order, over-most, legend-order, pieces-numbers}
 use Rattle.laying.specs.Laying.{PieceFits}
 use Rattle.placing.specs.Places.{Placeable}
@@ -87,11 +87,7 @@ order-places s es (p ∷ ps) x here h b o a =
     )
 
 module _ (s es : List ℕ) (acc : trayFault s es .number ≡ 0) where
-  abbrev ss : List (List ℕ)
-  ss = slipsOf s es
-
-  abbrev K : List ℕ
-  K = kept ss (numbers ss)
+  open TraySlips (traySlips s es) using (ss, K)
 
   abbrev ps : List Piece
   ps = piecesFor counted ss (numbers ss)
