@@ -35,7 +35,6 @@ use types.Part.{agg, whole, sub, look-in}
 use types.Run.{look, init, store, forget, stop, fld, from, load, lit, addr, of-opd, and-then, no-more, assigns, assigns-last, land, returns, exec}
 use types.Run.{first, stays, leaves-loop, blocks, enter, alloc1, alloc0, params1, pass1, pass0, Below, again, loops}
 use denote.Exit.{yes}
-use denote.RattleType.{RattleType}
 use denote.Laws.{Is, shows}
 use denote.Memory.{cellAt, pointee}
 use denote.Plain.{uint-makes}
@@ -43,7 +42,6 @@ use denote.Builtin.{u8, usize}
 use denote.Ref.{RefT, NamedLft, now}
 use denote.Slice.{sliceTy, sliceVal, slice-vals, ShrSlice, Room, shr-slice-tells}
 use denote.Steps.{only, owned, facts, nothing}
-use denote.Struct.Declared.{Declared}
 use denote.Struct.Laws as LL
 use denote.Struct.Rest.{own-shut}
 use denote.Struct.Steps.{spelt}
@@ -82,6 +80,7 @@ use Rattle.readers.proofs.judge.Met as judge-thm
 use Rattle.readers.proofs.next as next
 use Rattle.readers.proofs.next.Symbol as next-def
 use Rattle.readers.proofs.next.Met as next-thm
+use Rattle.readers.proofs.ReaderType.{ReaderType, readerType}
 use Rattle.readers.proofs.check_lines as check
 use Rattle.readers.proofs.check_lines.Key.{name}
 use Rattle.readers.proofs.check_lines.Code as code
@@ -135,14 +134,7 @@ module _ {M : Type 1} (𝓤 : URA M) (H : Heap 𝓤) (A : Atoms 𝓤) (W : Given
     abbrev α : NamedLft
     α = record { mir = erased; lft = κ }
 
-    abbrev D : Declared
-    D = T.the-type α
-
-    abbrev L : LL.Laws D
-    L = T′.the-laws α
-
-    abbrev R : RattleType
-    R = T.the-row α
+    open ReaderType (readerType α) using (D, L, R)
 
     abbrev readerTy : Ty
     readerTy = T′.mir erased

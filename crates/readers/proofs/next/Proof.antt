@@ -27,7 +27,6 @@ use types.Kit.{Given, ‵, given, _⊛_, _$_, _∵_, !, qed, by, move, keep, dro
 use types.Part.{whole, sub, look-in, store-in}
 use types.Run.{look, init, stop, hop, fld, from, load, of-opd, and-then, no-more, assigns, land, returns, enter, alloc1, alloc0, params1, pass1, pass0}
 use denote.Exit.{yes}
-use denote.RattleType.{RattleType}
 use denote.Laws.{Is, shows}
 use denote.Memory.{cellAt}
 use denote.Plain.{uint-vals, uint-tells, uint-makes}
@@ -35,7 +34,6 @@ use denote.Builtin.{u8, usize}
 use denote.Ref.{RefT, NamedLft, now, ptr-vals, mut-tells}
 use denote.Slice.{slice-vals, Room}
 use denote.Steps.{only, opens, closes, owned, peeks}
-use denote.Struct.Declared.{Declared}
 use denote.Struct.Laws as LL
 use denote.Struct.Rest.{all-own, own-open, own-put}
 use denote.Struct.Steps.{spelt}
@@ -58,6 +56,7 @@ use Rattle.lines.proofs.line_at.Symbol as parser-def
 use Rattle.lines.proofs.line_at.Met as parser-thm
 use Rattle.record_loops.proofs.Walking.{begun, calls-to, ends-with, meets-by}
 use Rattle.record_loops.proofs.Locals.{full, frees-behind}
+use Rattle.readers.proofs.ReaderType.{ReaderType, readerType}
 use Rattle.readers.proofs.next as next
 use Rattle.readers.proofs.next.Key.{name}
 use Rattle.readers.proofs.next.Code as code
@@ -82,14 +81,7 @@ module _ {M : Type 1} (𝓤 : URA M) (H : Heap 𝓤) (A : Atoms 𝓤) (W : Given
     α = record { mir = named 1; lft = κ′ }
 
     -- the struct's type and laws, and its row
-    abbrev D : Declared
-    D = T.the-type α
-
-    abbrev L : LL.Laws D
-    L = T′.the-laws α
-
-    abbrev R : RattleType
-    R = T.the-row α
+    open ReaderType (readerType α) using (D, L, R)
 
     -- the reader as it is lent, and as it is once it stands at n
     abbrev h : Reader
