@@ -18,18 +18,18 @@ use Rattle.words.specs.Lists.{lastOr}
 use Rattle.words.proofs.Tests.{by-test}
 use Rattle.trays.specs.declared.Refusal.{Refusal}
 use Rattle.trays.specs.Limits.{maxSlip}
-use Rattle.trays.specs.Slips.{isLetter}
+use Rattle.trays.specs.Slips.{stop, isLetter}
 use Rattle.trays.specs.Faults.{refusal, notAbove, tooLong, badPlace}
 use Rattle.checking.specs.steps.Checks.{firstOf, noteLong, endsFault, slipHolding}
 
-pub letter-stop : (b : ℕ) → b ≡ 46 → true ≡ isLetter b
-letter-stop b e = rw (eq-eqb b 46 e)
+pub letter-stop : (b : ℕ) → b ≡ stop → true ≡ isLetter b
+letter-stop b e = rw (eq-eqb b stop e)
 
-pub letter-low : (b : ℕ) → (b ≡ 46 → ⊥) → b < 65 → false ≡ isLetter b
-letter-low b e h = rw (ne-eqb b 46 e, lt-leb 65 b h)
+pub letter-low : (b : ℕ) → (b ≡ stop → ⊥) → b < 65 → false ≡ isLetter b
+letter-low b e h = rw (ne-eqb b stop e, lt-leb 65 b h)
 
-pub letter-high : (b : ℕ) → (b ≡ 46 → ⊥) → 65 ≤ b → leb b 90 ≡ isLetter b
-letter-high b e h = rw (ne-eqb b 46 e, le-leb 65 b h)
+pub letter-high : (b : ℕ) → (b ≡ stop → ⊥) → 65 ≤ b → leb b 90 ≡ isLetter b
+letter-high b e h = rw (ne-eqb b stop e, le-leb 65 b h)
 
 module _ (s : List ℕ) (i : ℕ) (r : Bool) (h : i < length s) (e : r ≡ isLetter (getD s i 0)) (k : badPlace 1 s ≡ badPlace (i + 1) (drop i s)) where
   pub bad-here : r ≡ false → i + 1 ≡ badPlace 1 s

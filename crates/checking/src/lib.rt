@@ -5,7 +5,6 @@ ghost use lib.ListN.{length};
 ghost use Rattle.words.specs.Lists.{lastOr};
 ghost use Rattle.trays.specs.Limits.{maxSlips};
 ghost use Rattle.trays.specs.Slips as S;
-ghost use Rattle.trays.specs.Aside.{counted};
 ghost use Rattle.trays.specs.Faults as F;
 ghost use Rattle.checking.specs.steps.Checks as K;
 use tables::wide;
@@ -13,13 +12,14 @@ use trays::MAX_LETTERS;
 use trays::MAX_SLIP;
 use trays::MAX_SLIPS;
 use trays::Refusal;
+use trays::STOP;
 use trays::refuse;
 
 // Whether a byte is one of the 27 signs.
 fn is_letter(b: u8) -> bool
     ensures { λ r. ⌜ r ≡ S.isLetter b ⌝ }
 {
-    if b == 46 {
+    if b == STOP {
         return true;
     }
     if b < 65 {

@@ -2,6 +2,7 @@
 --   slipsOf s es   == the slips of a tray, as strings
 --   slip ss i      == the letters of slip i; no letters where there is no such slip
 --   numbers ss     == 1, 2, .. up to the count of slips
+--   stop           == the full stop
 --   isLetter b     == b is one of the 27 signs
 --   startOf es i   == where slip i starts, the end before it
 --   endOf es i     == where slip i ends
@@ -30,9 +31,12 @@ slip ss (suc i) = getD ss i []
 abbrev pub numbers : List (List ℕ) → List ℕ
 numbers ss = upFrom 1 (length ss)
 
+abbrev pub stop : ℕ
+stop = 46
+
 -- Rules: capitals A to Z and the full stop.
 abbrev pub isLetter : ℕ → Bool
-isLetter b = eqb b 46 || (leb 65 b && leb b 90)
+isLetter b = eqb b stop || (leb 65 b && leb b 90)
 
 abbrev pub endOf : List ℕ → ℕ → ℕ
 endOf es zero = 0

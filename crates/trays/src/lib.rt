@@ -8,6 +8,9 @@ pub const MAX_SLIP: usize = 40;
 
 pub const MAX_LETTERS: usize = 2000;
 
+// The full stop, the lowest of the 27 signs.
+pub const STOP: u8 = 46;
+
 // A refusal of the rules' table: its number and detail, or 0 and 0.
 pub struct Refusal {
     pub number: u8,
