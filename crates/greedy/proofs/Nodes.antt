@@ -33,7 +33,7 @@ pub sooner-con : (x y : List ℕ) → sooner x y ≡ false → sooner y x ≡ fa
 sooner-con x y e f = lex-con down (length x) (length y) (before x y) (before y x) (strings .con x y) e f .1
 
 -- the beginnings of a slip, and of the slips of K
-prefix-in : (m n : ℕ) (s : List ℕ) → 1 ≤ m → m ≤ n → In (take m s) (prefixesTo n s)
+pub prefix-in : (m n : ℕ) (s : List ℕ) → 1 ≤ m → m ≤ n → In (take m s) (prefixesTo n s)
 prefix-in m zero s h l = absurd (omega arith)
 prefix-in m (suc n) s h l =
     elim (ℕ-discrete m (suc n)) [ yes e ↦ List·Memᴰ·head (ap (λ i. take i s) e) | no ne ↦ List·Memᴰ·tail (prefix-in m n s h (omega arith)) ]

@@ -8,21 +8,21 @@
 -- The walk takes its candidates (walk-takes). They ascend by the order of arcs, and every arc is among them. A candidate of a pair of
 -- different slips does not precede the arc of that pair, since no string that ends l and begins r is longer than the overlap; and a pair
 -- of one slip is refused from the start. So what is taken of the candidates is taken of the arcs (take-thin).
-use mathlib.Core.Path.{_≡_, refl, sym, ap, _∙_}
+use mathlib.Core.Path.{_≡_, refl, sym, _∙_}
 use mathlib.Core.Bool.{Bool, true, false, cond, _&&_, _||_}
-use mathlib.Core.List.{List, [], _∷_, List·Memᴰ·head as here, List·Memᴰ·tail as there, List·Memᴰ·not-nil}
+use mathlib.Core.List.{List, [], _∷_, List·Memᴰ·not-nil}
 use mathlib.Core.Logic.{inl, inr}
-use Prim.Native.Nat.{ℕ, zero, suc, _≤_, _<_}
+use Prim.Native.Nat.{ℕ, _≤_, _<_}
 use native.Mathlib.Decide.{ℕ-discrete}
 use native.Mathlib.Omega.{arith}
 use lib.Dec.{eqb, ltb}
-use lib.ListN.{length, take}
+use lib.ListN.{length}
 use borrow.Author.Tests.{lt-ltb}
 use Rattle.words.specs.Lists.{each, those, inOrder}
 use Rattle.words.specs.Words.{begins, before, same, endsProperly, overlap}
 use Rattle.words.proofs.Tests.{not-both}
 use Rattle.words.proofs.Members.{In, Asc, Sorts, Less, in-each, each-in, in-those, those-in, asc-each, inOrder-sorts, asc-upFrom, in-upFrom}
-use Rattle.words.proofs.Orders.{up, down, strings, lex-first, lex-then, lex-cases, lex-tr, lex-con}
+use Rattle.words.proofs.Orders.{up, down, strings, lex-first, lex-then, lex-cases}
 use Rattle.words.proofs.Strings.{begins-take, begins-prefix, endsProperly-ends}
 use Rattle.words.proofs.Overlaps.{Counts, nonEmpty-counts, counts-some, overlap-length, overlap-fits, overlap-met, met-overlap, suffix-counts}
 use Rattle.trays.specs.Slips.{slip, numbers}
@@ -33,19 +33,8 @@ use Rattle.greedy.specs.Composing.{whole, joinsOf, walkOf}
 use Rattle.greedy.specs.Walk.{prefixesTo, sooner, walkFor}
 use Rattle.greedy.proofs.Takes.{sound-nil, refused-last, Cover, take-thin}
 use Rattle.greedy.proofs.Arcs.{Prior, firstArc-irr, firstArc-tr, firstArc-not, IsArc, arcs-sorted, in-arcs, arcs-in, byNumbers}
+use Rattle.greedy.proofs.Nodes.{sooner-tr, sooner-con, prefix-in}
 use Rattle.greedy.proofs.Visits.{tie, tiesTo, ties, Tied, in-tie, in-tiesTo, in-ties, ties-in, walk-takes}
-
--- the order of the visits
-sooner-tr : (x y z : List ℕ) → Less sooner x y → Less sooner y z → Less sooner x z
-sooner-tr x y z = lex-tr down (length x) (length y) (length z) (before x y) (before y z) (before x z) (strings .tr x y z)
-
-sooner-con : (x y : List ℕ) → sooner x y ≡ false → sooner y x ≡ false → x ≡ y
-sooner-con x y e f = lex-con down (length x) (length y) (before x y) (before y x) (strings .con x y) e f .1
-
-prefix-in : (m n : ℕ) (s : List ℕ) → 1 ≤ m → m ≤ n → In (take m s) (prefixesTo n s)
-prefix-in m zero s p h = absurd (omega arith)
-prefix-in m (suc n) s p h =
-    elim (ℕ-discrete m (suc n)) [ yes e ↦ here (ap (λ k. take k s) e) | no ne ↦ there (prefix-in m n s p (omega arith)) ]
 
 asc-cond : {A : Type 0} (R : A → A → Type 0) (b : Bool) (a : A) → Asc R (cond b (a ∷ []) [])
 asc-cond R true a = ((λ y m. absurd (List·Memᴰ·not-nil m)), tt)
