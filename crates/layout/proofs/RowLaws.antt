@@ -1,5 +1,6 @@
 -- The nodes by rows: of d letters, of one letter fewer, .. of one letter, each row by number.
 --   row-num       == a number of the row of d letters is that of a node of d letters
+--   row-before    == of two nodes of a row the one with the lower number has the smaller string
 --   row-asc       == a row ascends by the order of visits; rows-asc == so do the rows
 --   rows-nodes    == the walk may go over the rows: they have every beginning
 -- Numbers ascend by length, then byte order; the table of levels parts them by length. Within a row the order of numbers is byte order.
@@ -18,7 +19,6 @@ use Rattle.words.specs.Words.{before}
 use Rattle.words.proofs.Members.{In, Asc, Less, asc-upFrom, in-upFrom, upFrom-in, asc-append}
 use Rattle.words.proofs.Orders.{up, down, lex-first, lex-then, lex-cases}
 use Rattle.words.proofs.Picks.{asc-getD}
-use Rattle.trays.specs.Slips.{slip}
 use Rattle.greedy.specs.Walk.{sooner}
 use Rattle.greedy.proofs.Nodes.{Nodes}
 use Rattle.matching.specs.Nodes.{lower, nodes, string, Num}
@@ -56,18 +56,24 @@ module _ (ps : List (List ℕ)) (level : ℕ → ℕ) (top : ℕ) (L : LevelIs p
       let (a, b) = in-row d v i in
       ap length (sym e) ∙ row-num d v h l a b .1
 
-  row-asc : (d : ℕ) → 1 ≤ d → d ≤ top → Asc (Less sooner) (nodesAt ps level d)
-  row-asc d h l =
-      asc-map _<_ (Less sooner) (string ps) (upFrom (level d) (level (suc d) - level d)) (asc-upFrom (level d) (level (suc d) - level d))
-      (λ a b i k q.
-      let (m, e) = row-num d a h l (in-row d a i .0) (in-row d a i .1) in
-      let (n, f) = row-num d b h l (in-row d b k .0) (in-row d b k .1) in
+  pub row-before : (d a b : ℕ) → 1 ≤ d → d ≤ top → level d ≤ a → a < b → b < level (suc d)
+      → (length (string ps a) ≡ length (string ps b)) × (before (string ps a) (string ps b) ≡ true)
+  row-before d a b h l low q high =
+      let (m, e) = row-num d a h l low (omega arith) in
+      let (n, f) = row-num d b h l (omega arith) high in
       let x = string ps a in
       let y = string ps b in
       elim (lex-cases up (length x) (length y) (before x y) (asc-getD [] (Less lower) (nodes ps) a b (nodes-numbered ps .asc) q (n .inside))) [
         | inl t ↦ absurd (omega (arith, ltb-true (length x) (length y) t))
-        | inr t ↦ lex-then down (length x) (length y) (before x y) (t .0) (t .1)
-      ])
+        | inr t ↦ t
+      ]
+
+  row-asc : (d : ℕ) → 1 ≤ d → d ≤ top → Asc (Less sooner) (nodesAt ps level d)
+  row-asc d h l =
+      asc-map _<_ (Less sooner) (string ps) (upFrom (level d) (level (suc d) - level d)) (asc-upFrom (level d) (level (suc d) - level d))
+      (λ a b i k q.
+      let (e, t) = row-before d a b h l (in-row d a i .0) q (in-row d b k .1) in
+      lex-then down (length (string ps a)) (length (string ps b)) (before (string ps a) (string ps b)) e t)
 
   rows-length : (d : ℕ) (x : List ℕ) → d ≤ top → In x (rows ps level d) → (1 ≤ length x) × (length x ≤ d)
   rows-length zero x l m = absurd (List·Memᴰ·not-nil m)

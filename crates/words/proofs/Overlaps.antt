@@ -6,10 +6,11 @@
 -- The exchange inequality: a's overlap with b holds a suffix that begins d, and a prefix that ends c; the letters that both have in common are a
 -- suffix of c that begins d.
 use mathlib.Core.Path.{_≡_, refl, sym, ap, _∙_}
-use mathlib.Core.Bool.{Bool, true, false, true≢false, false≢true}
+use mathlib.Core.Bool.{Bool, true, false, false≢true}
 use mathlib.Core.Logic.{inl, inr}
 use mathlib.Core.List.{List, [], _∷_, _++_, append-assoc}
 use Prim.Native.Nat.{ℕ, zero, suc, _+_, _-_, _≤_, _<_}
+use native.Mathlib.Decide.{decLt}
 use native.Mathlib.Omega.{arith}
 use lib.ListN.{length, take, drop, length-drop, take-append-drop}
 use lib.Seq.{length-take-le, drop-drop}
@@ -154,6 +155,11 @@ module _ (counts : List ℕ → Bool) (a b : List ℕ) where
   pub overlapFor-some : 1 ≤ overlapFor counts a b → counts (take (overlap a b) b) ≡ true
   overlapFor-some h = elim (tell (counts (take (overlap a b) b))) [ inl e ↦ e | inr e ↦ absurd (omega (arith, overlapFor-no e)) ]
 
+  -- where every prefix of b counts, the overlap is the plain one
+  pub overlapFor-all : ((n : ℕ) → 1 ≤ n → n ≤ length b → counts (take n b) ≡ true) → overlapFor counts a b ≡ overlap a b
+  overlapFor-all h =
+      elim (decLt 0 (overlap a b)) [ yes p ↦ overlapFor-yes (h (overlap a b) p (overlap-fits a b)) | no z ↦ omega (arith, overlapFor-at-most) ]
+
   module _ (C : Counts counts) where
     pub some-overlapFor : counts (take (overlap a b) b) ≡ true → 1 ≤ overlapFor counts a b
     some-overlapFor e = omega (arith, overlapFor-yes e, overlap-length a b, counts-some counts C (take (overlap a b) b) e)
@@ -165,12 +171,8 @@ module _ (counts : List ℕ → Bool) (a b : List ℕ) where
         C .longer x (take (overlap a b) b) (begins-both x (take (overlap a b) b) b h (overlap-begins a b) l) c
 
 pub overlapFor-nonEmpty : (a b : List ℕ) → overlapFor nonEmpty a b ≡ overlap a b
-overlapFor-nonEmpty a b =
-    elim (tell (nonEmpty (take (overlap a b) b))) [
-      | inl e ↦ overlapFor-yes nonEmpty a b e
-      | inr e ↦ omega (arith, overlapFor-no nonEmpty a b e, overlap-length a b, empty (take (overlap a b) b) e)
-    ]
+overlapFor-nonEmpty a b = overlapFor-all nonEmpty a b (λ n h l. some (take n b) (omega (arith, length-take-le n b l)))
   where
-    empty : (x : List ℕ) → nonEmpty x ≡ false → length x ≡ 0
-    empty [] e = refl
-    empty (x ∷ xs) e = absurd (true≢false e)
+    some : (x : List ℕ) → 1 ≤ length x → nonEmpty x ≡ true
+    some [] h = absurd (omega arith)
+    some (x ∷ xs) h = refl

@@ -64,6 +64,10 @@ each-those f t (x ∷ xs) h =
     let r = each-those f t xs h in
     elim (tell (t x)) [ inl y ↦ rw (those-yes t x xs y, r) | inr n ↦ rw (those-no t x xs n, h x n) r ]
 
+pub each-agree : {A B : Type 0} (f g : A → List B) (xs : List A) → ((a : A) → In a xs → f a ≡ g a) → each f xs ≡ each g xs
+each-agree f g [] h = refl
+each-agree f g (x ∷ xs) h = rw (h x (List·Memᴰ·head refl), each-agree f g xs (λ a m. h a (List·Memᴰ·tail m)))
+
 -- an ascending list ascends by any relation that follows between its members
 pub asc-turn : {A : Type 0} (R S : A → A → Type 0) (xs : List A) → ((a b : A) → In a xs → In b xs → R a b → S a b) → Asc R xs → Asc S xs
 asc-turn R S [] f p = tt

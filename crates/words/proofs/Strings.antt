@@ -16,8 +16,9 @@ use lib.Dec.{eqb, leb, ltb}
 use lib.ListN.{length, take, drop, length-append, take-append-drop}
 use lib.Seq.{drop-at, drop-drop}
 use borrow.Author.Tests.{eqb-true, eq-eqb, leb-true, le-leb, ltb-true, lt-ltb}
+use Rattle.words.specs.Lists.{any}
 use Rattle.words.specs.Words.{same, begins, ends, endsProperly, standsIn}
-use Rattle.words.proofs.Tests.{both, either, and-intro, or-left, or-right}
+use Rattle.words.proofs.Tests.{tell, both, either, and-intro, or-left, or-right, not-both}
 use Rattle.words.proofs.Orders.{same-is, same-at}
 
 -- prefixes
@@ -58,6 +59,20 @@ begins-prefix (suc n) (y ∷ ys) = begins-cons y y (take n ys) ys refl (begins-p
 
 pub begins-length : (x y : List ℕ) → begins x y ≡ true → length x ≤ length y
 begins-length x y e = omega (arith, rw length-append at (ap length (begins-split x y e)))
+
+-- some letter of a prefix passes a test: so does one of the whole
+pub begins-any : (t : ℕ → Bool) (x y : List ℕ) → begins x y ≡ true → any t x ≡ true → any t y ≡ true
+begins-any t [] y e h = absurd (false≢true h)
+begins-any t (x ∷ xs) [] e h = absurd (false≢true e)
+begins-any t (x ∷ xs) (y ∷ ys) e h =
+    let r = cons-begins x y xs ys e in
+    elim (either (t x) (any t xs) h) [
+      | inl a ↦ or-left (t y) (any t ys) (rw (r .0) at a)
+      | inr a ↦ or-right (t y) (any t ys) (begins-any t xs ys (r .1) a)
+    ]
+
+pub begins-none : (t : ℕ → Bool) (x y : List ℕ) → begins x y ≡ true → any t y ≡ false → any t x ≡ false
+begins-none t x y e h = elim (tell (any t x)) [ inl a ↦ absurd (not-both (any t y) (begins-any t x y e a) h) | inr a ↦ a ]
 
 pub begins-trans : (x y z : List ℕ) → begins x y ≡ true → begins y z ≡ true → begins x z ≡ true
 begins-trans [] y z e f = refl
