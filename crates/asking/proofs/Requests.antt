@@ -3,15 +3,17 @@
 --   slip-..     == rows 1 to 6, then 10
 --   pair-..     == rows 1 to 6, 10, 10, 11
 use mathlib.Core.Path.{_≡_, refl, sym, _∙_, ap, ap₂}
+use mathlib.Core.Bool.{Bool, true, false, not}
 use mathlib.Core.List.{List, [], _∷_}
 use Prim.Native.Nat.{ℕ, zero, suc, _-_, _^_, _≤_, _<_, _+_}
-use borrow.Author.Tests.{ltb-false, lt-ltb, le-ltb, eq-eqb, ne-eqb, eqb-false}
+use borrow.Author.Tests.{ltb-false, lt-ltb, le-ltb, eq-eqb, ne-eqb, eqb-false, not-true, not-false}
 use native.Mathlib.Omega.{arith}
 use lib.Dec.{ltb, eqb}
 use lib.ListN.{length, take, drop}
+use lib.Seq.{length-take-le}
 use Rattle.words.specs.Words.{overlap, overlapFor}
 use Rattle.words.proofs.Tests.{by-test}
-use Rattle.words.proofs.Overlaps.{overlapFor-nonEmpty, overlapFor-fits}
+use Rattle.words.proofs.Overlaps.{overlap-fits, overlapFor-yes, overlapFor-no, overlapFor-fits}
 use Rattle.trays.specs.declared.Refusal.{Refusal}
 use Rattle.trays.specs.declared.Pair.{Pair}
 use Rattle.trays.specs.declared.Span.{Span}
@@ -102,8 +104,17 @@ module _ (s es : List ℕ) (i j : ℕ) where
       let r = row-accepts es j (both-silent (slipRow es j) (orElse (pairRow i j) accepted) (a .1) .0) in
       (l .0, l .1, l .2, r .0, r .1)
 
-pub overlap-counted : (a b : List ℕ) (n : ℕ) → n ≡ overlap a b → n ≡ overlapFor counted a b
-overlap-counted a b n e = e ∙ sym (overlapFor-nonEmpty a b)
+-- the overlap and whether its string counts
+module _ (a b : List ℕ) (n : ℕ) (e : n ≡ overlap a b) where
+  pub overlap-inside : n ≡ length (take n b)
+  overlap-inside = sym (length-take-le n b (omega (arith, overlap-fits a b)))
+
+  module _ (r : Bool) (h : r ≡ counted (take n b)) where
+    pub overlap-stops : not r ≡ true → 0 ≡ overlapFor counted a b
+    overlap-stops t = sym (overlapFor-no counted a b (rw e at (sym h ∙ not-true r t)))
+
+    pub overlap-counted : not r ≡ false → n ≡ overlapFor counted a b
+    overlap-counted t = e ∙ sym (overlapFor-yes counted a b (rw e at (sym h ∙ not-false r t)))
 
 -- the refusal of a slip, and two places
 abbrev located : List ℕ → List ℕ → ℕ → ℕ → ℕ → Located

@@ -11,6 +11,7 @@ use spans::slip_span;
 use trays::Located;
 use trays::Pair;
 use trays::Refusal;
+use trays::counts;
 use trays::refuse;
 
 // Refusal 10.
@@ -100,11 +101,15 @@ fn check_pair(letters: &[u8], ends: &[u16], left: u32, right: u32) -> Refusal
     refuse(0, 0)
 }
 
-// The overlap of two strings that counts.
+// The overlap of two strings, 0 where it does not count: a shorter one is a prefix of it, and does not count either.
 fn counted_overlap(a: &[u8], b: &[u8]) -> usize
     ensures { λ r. ⌜ r ≡ overlapFor counted (now (a .entry)) (now (b .entry)) ⌝ }
 {
-    words::overlap(a, b)
+    let n = words::overlap(a, b);
+    if !counts(&b[..n]) {
+        return 0;
+    }
+    n
 }
 
 // The overlap of a pair of slips, by comparing their letters.

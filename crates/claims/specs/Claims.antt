@@ -1,9 +1,11 @@
 -- The demands that speak of the definitions alone, for every accepted tray.
-use Rattle.greedy.specs.Claims.{Demand-3}
+use Rattle.greedy.specs.Claims.{Demand-3, Stop-free}
 use Rattle.matching.specs.Moves.{Few-moves}
 
 pub record Demands : Type 0 where
-  -- one list by both rules; kept letters = saved + legend length; the legend holds every kept slip; at most twice
+  -- one list by both rules; kept letters = saved + legend length; the legend holds every kept slip; at most twice, where no kept slip begins with a stop
   pub third : Demand-3
+  -- there joins, legend and places are as if all overlaps counted
+  pub stop-free : Stop-free
   -- moves are at most 2 × the letters
   pub few-moves : Few-moves

@@ -6,17 +6,19 @@
 --   starred        == the trays that the rules marks for proof
 --   telling        == trays at which a misread rule has another outcome
 --   tight          == a tray and a text that holds it, at which the bound of demand 3 is met with equality
+--   stops-needed   == a tray and a text at which the bound fails, since a slip begins with a stop
 use mathlib.Core.Path.{_≡_, refl}
-use mathlib.Core.Bool.{true}
+use mathlib.Core.Bool.{true, false}
 use mathlib.Core.List.{List, [], _∷_, map}
 use Prim.Native.Nat.{ℕ}
 use Prim.Native.String.{String}
+use Rattle.words.specs.Words.{nonEmpty}
 use Rattle.words.specs.Quoted.{word}
 use Rattle.trays.specs.Slips.{numbers}
 use Rattle.trays.specs.Aside.{kept}
-use Rattle.greedy.specs.Joins.{Join, join, saved}
+use Rattle.greedy.specs.Joins.{Join, join, plainFor, saved}
 use Rattle.greedy.specs.Composing.{whole, joinsOf, walkOf, legendOf, placeOf, keptLetters}
-use Rattle.greedy.specs.Claims.{holdsAll, bound}
+use Rattle.greedy.specs.Claims.{holdsAll, stopFree, bound}
 
 pub record Outcome : Type 0 where
   pub kept-slips : List ℕ
@@ -101,8 +103,14 @@ telling =
     ∷ specimen ("AB" ∷ "AB" ∷ "BC" ∷ []) (1 ∷ 3 ∷ []) (join 1 3 1 ∷ []) "ABC" (1 ∷ 1 ∷ 2 ∷ []) 1 4
     -- a slip that neither begins nor ends the longer one is set aside; its place may lie across two chains
     ∷ specimen ("AB" ∷ "CD" ∷ "XBCY" ∷ "BC" ∷ []) (1 ∷ 2 ∷ 3 ∷ []) [] "ABCDXBCY" (1 ∷ 3 ∷ 5 ∷ 2 ∷ []) 0 8
-    -- the full stop is a letter, and smaller than the others
-    ∷ specimen ("BA" ∷ "A." ∷ ".B" ∷ []) (1 ∷ 2 ∷ 3 ∷ []) (join 2 3 1 ∷ join 1 2 1 ∷ []) "BA.B" (1 ∷ 2 ∷ 3 ∷ []) 2 6
+    -- an overlap of stops alone is none
+    ∷ specimen ("BA" ∷ "A." ∷ ".B" ∷ []) (1 ∷ 2 ∷ 3 ∷ []) (join 1 2 1 ∷ join 3 1 1 ∷ []) ".BA." (2 ∷ 3 ∷ 1 ∷ []) 2 6
+    ∷ specimen ("A." ∷ ".B" ∷ ".." ∷ []) (1 ∷ 2 ∷ 3 ∷ []) [] "A..B.." (1 ∷ 3 ∷ 5 ∷ []) 0 6
+    -- one that begins or ends with a stop counts
+    ∷ specimen ("X.A" ∷ ".AB" ∷ []) (1 ∷ 2 ∷ []) (join 1 2 2 ∷ []) "X.AB" (1 ∷ 2 ∷ []) 2 6
+    ∷ specimen ("..A" ∷ ".A.." ∷ "A..B" ∷ []) (1 ∷ 2 ∷ 3 ∷ []) (join 2 3 3 ∷ join 1 2 2 ∷ []) "..A..B" (1 ∷ 2 ∷ 3 ∷ []) 5 11
+    -- a stop that stands in a longer slip is set aside
+    ∷ specimen ("A.B" ∷ "." ∷ []) (1 ∷ []) [] "A.B" (1 ∷ 2 ∷ []) 0 3
     -- the greedy legend saves 1, where the text CADAB saves 2
     ∷ specimen ("CA" ∷ "AB" ∷ "ADA" ∷ []) (1 ∷ 2 ∷ 3 ∷ []) (join 1 2 1 ∷ []) "CABADA" (1 ∷ 2 ∷ 4 ∷ []) 1 7
     ∷ []
@@ -124,3 +132,21 @@ tightTray = map word ("CA" ∷ "AB" ∷ "ADA" ∷ [])
 pub tight :
     (holdsAll tightTray (kept tightTray (numbers tightTray)) (word "CADAB") ≡ true) × (keptLetters (whole tightTray) ≡ bound (whole tightTray) (word "CADAB"))
 tight = (refl, refl)
+
+abbrev pub stopTray : List (List ℕ)
+stopTray = map word ("A." ∷ ".B" ∷ [])
+
+-- a slip begins with a stop, and the text saves what the joins do not
+pub stops-needed :
+    (stopFree stopTray (numbers stopTray) ≡ false)
+    × (holdsAll stopTray (kept stopTray (numbers stopTray)) (word "A.B") ≡ true)
+    × (keptLetters (whole stopTray) ≡ 4) × (bound (whole stopTray) (word "A.B") ≡ 3)
+stops-needed = (refl, refl, refl, refl)
+
+-- by the rule on stops, and as if all overlaps counted
+pub stops-tell : (joinsOf (whole stopTray) ≡ []) × (plainFor nonEmpty stopTray (numbers stopTray) ≡ join 1 2 1 ∷ [])
+stops-tell = (refl, refl)
+
+-- a stop at the end, or behind the first letter, is none at the beginning
+pub stop-frees : (stopFree (map word ("A." ∷ "B.C" ∷ [])) (1 ∷ 2 ∷ []) ≡ true) × (stopFree stopTray (1 ∷ []) ≡ true)
+stop-frees = (refl, refl)

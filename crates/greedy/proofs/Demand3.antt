@@ -2,15 +2,15 @@
 use mathlib.Core.List.{List}
 use Prim.Native.Nat.{ℕ, _≤_, _<_}
 use lib.ListN.{length}
-use Rattle.words.specs.Lists.{upFrom}
 use Rattle.words.proofs.Members.{In, Asc, in-upFrom, asc-upFrom}
 use Rattle.trays.specs.Slips.{numbers, slipsOf}
-use Rattle.trays.specs.Aside.{counted}
+use Rattle.trays.specs.Aside.{kept, counted}
 use Rattle.greedy.specs.Composing.{whole}
 use Rattle.greedy.specs.Claims.{Greedy, Demand-3}
 use Rattle.greedy.proofs.OneList.{walk-is-plain}
 use Rattle.greedy.proofs.Letters.{saving-of, holds-of}
 use Rattle.greedy.proofs.Bound.{kept-rep, kept-at-most-twice}
+use Rattle.greedy.proofs.StopFree.{plain-free}
 
 -- the numbers of a tray's slips rise from 1
 pub numbers-rise : (ss : List (List ℕ)) → Asc _<_ (numbers ss)
@@ -26,7 +26,7 @@ composed ss =
       one-list = walk-is-plain ss;
       saving = saving-of counted ss (r .1);
       legend-holds = holds-of counted ss (r .1);
-      at-most-twice = kept-at-most-twice ss (numbers ss) (numbers-rise ss) (numbers-positive ss);
+      at-most-twice = λ free. rw (plain-free ss (kept ss (numbers ss)) free) (kept-at-most-twice ss (numbers ss) (numbers-rise ss) (numbers-positive ss));
     }
 
 pub demand-3 : Demand-3

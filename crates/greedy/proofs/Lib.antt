@@ -13,6 +13,7 @@ pub mod Represent
 pub mod Links
 pub mod TextOrder
 pub mod Bound
+pub mod StopFree
 pub mod Demand3
 pub mod Linked
 pub mod Threads

@@ -24,10 +24,11 @@ use Rattle.words.proofs.Tests.{not-both}
 use Rattle.words.proofs.Members.{In, Asc, Sorts, Less, in-each, each-in, in-those, those-in, asc-each, inOrder-sorts, asc-upFrom, in-upFrom}
 use Rattle.words.proofs.Orders.{up, down, strings, lex-first, lex-then, lex-cases}
 use Rattle.words.proofs.Strings.{begins-take, begins-prefix, endsProperly-ends}
-use Rattle.words.proofs.Overlaps.{Counts, nonEmpty-counts, counts-some, overlap-length, overlap-fits, overlap-met, met-overlap, suffix-counts}
+use Rattle.words.proofs.Overlaps.{Counts, counts-some, overlap-length, overlap-fits, overlap-met, met-overlap, suffix-counts}
 use Rattle.trays.specs.Slips.{slip, numbers}
 use Rattle.trays.specs.Aside.{kept, counted}
 use Rattle.trays.proofs.Kept.{kept-asc, in-kept, kept-proper}
+use Rattle.trays.proofs.Stops.{counted-counts}
 use Rattle.greedy.specs.Joins.{Join, join, arcs, stringOf, firstArc, plainFor}
 use Rattle.greedy.specs.Composing.{whole, joinsOf, walkOf}
 use Rattle.greedy.specs.Walk.{prefixesTo, sooner, walkFor}
@@ -161,4 +162,4 @@ kept-ready counts ss M C a p =
 pub walk-is-plain : (ss : List (List ℕ)) → walkOf (whole ss) ≡ joinsOf (whole ss)
 walk-is-plain ss =
     one-list counted ss (kept ss (numbers ss))
-    (kept-ready counted ss (numbers ss) nonEmpty-counts (asc-upFrom 1 (length ss)) (λ k m. in-upFrom 1 (length ss) m .0))
+    (kept-ready counted ss (numbers ss) counted-counts (asc-upFrom 1 (length ss)) (λ k m. in-upFrom 1 (length ss) m .0))

@@ -1,20 +1,30 @@
 -- Demand 3: what is claimed of every accepted tray, over the definitions alone.
+--   holdsAll ss K t  == the text t holds every slip of K
+--   stopFree ss K    == no slip of K begins with a stop
+--   bound c t        == the most letters that the kept slips may have if the text t holds them
+--   Greedy c         == what is claimed of all that is composed
+--   AllCount c       == joins, legend and places are as if all overlaps counted
 use mathlib.Core.Path.{_≡_}
-use mathlib.Core.Bool.{Bool, true, _&&_}
+use mathlib.Core.Bool.{Bool, true, _&&_, not}
 use mathlib.Core.List.{List, [], _∷_}
 use Prim.Native.Nat.{ℕ, _+_, _*_, _≤_}
 use lib.ListN.{length}
-use Rattle.words.specs.Words.{standsIn}
-use Rattle.trays.specs.Slips.{slipsOf, slip}
-use Rattle.trays.specs.Aside.{kept}
+use Rattle.words.specs.Lists.{any}
+use Rattle.words.specs.Words.{begins, standsIn, nonEmpty}
+use Rattle.trays.specs.Slips.{slipsOf, slip, stop}
 use Rattle.trays.specs.Faults.{trayFault}
-use Rattle.greedy.specs.Joins.{saved}
-use Rattle.greedy.specs.Composing.{Composing, whole, keptOf, joinsOf, walkOf, legendOf, keptLetters}
+use Rattle.greedy.specs.Joins.{saved, plainFor}
+use Rattle.greedy.specs.Legends.{legendFor, placeFor}
+use Rattle.greedy.specs.Composing.{Composing, whole, keptOf, joinsOf, walkOf, legendOf, placeOf, keptLetters}
 
 -- Rules: a text holds a slip whose letters stand in it as one stretch. Here: it holds every slip of K.
 abbrev pub holdsAll : List (List ℕ) → List ℕ → List ℕ → Bool
 holdsAll ss [] t = true
 holdsAll ss (i ∷ is) t = standsIn (slip ss i) t && holdsAll ss is t
+
+-- Rules: no kept slip begins with a full stop. Less is asked than that no slip does, so what holds here holds there.
+abbrev pub stopFree : List (List ℕ) → List ℕ → Bool
+stopFree ss K = not (any (λ i. begins (stop ∷ []) (slip ss i)) K)
 
 -- Rules: a text's length + 2 × saved.
 abbrev pub bound : Composing → List ℕ → ℕ
@@ -28,8 +38,20 @@ pub record Greedy (c : Composing) : Type 0 where
   pub saving : keptLetters c ≡ saved (joinsOf c) + length (legendOf c)
   -- the legend holds every kept slip
   pub legend-holds : holdsAll (c .slips) (keptOf c) (legendOf c) ≡ true
-  -- any text that holds every kept slip saves at most twice as much
-  pub at-most-twice : (t : List ℕ) → holdsAll (c .slips) (keptOf c) t ≡ true → keptLetters c ≤ bound c t
+  -- where no kept slip begins with a stop, any text that holds every kept slip saves at most twice as much
+  pub at-most-twice :
+      stopFree (c .slips) (keptOf c) ≡ true → (t : List ℕ) → holdsAll (c .slips) (keptOf c) t ≡ true → keptLetters c ≤ bound c t
 
 abbrev pub Demand-3 : Type 0
 Demand-3 = (s es : List ℕ) → trayFault s es .number ≡ 0 → Greedy (whole (slipsOf s es))
+
+-- as if every overlap that has a letter counted: the rule on stops changes nothing
+pub record AllCount (c : Composing) : Type 0 where
+  pub joins-are : joinsOf c ≡ plainFor nonEmpty (c .slips) (keptOf c)
+  pub legend-is : legendOf c ≡ legendFor nonEmpty (c .slips) (c .members)
+  pub places-are : (i : ℕ) → placeOf c i ≡ placeFor nonEmpty (c .slips) (c .members) i
+
+-- so it is where no kept slip begins with a stop
+abbrev pub Stop-free : Type 0
+Stop-free =
+    (s es : List ℕ) → trayFault s es .number ≡ 0 → let c = whole (slipsOf s es) in stopFree (c .slips) (keptOf c) ≡ true → AllCount c

@@ -50,6 +50,6 @@ abbrev pub walkFrom : List (List ℕ) → List ℕ → List (List ℕ) → List 
 walkFrom ss K [] js = js
 walkFrom ss K (x ∷ xs) js = walkFrom ss K xs (visit ss K x K js)
 
--- Rules: visit each different non-empty beginning of kept slips.
+-- Rules: visit each different beginning of kept slips that counts: one with a letter other than the full stop.
 abbrev pub walkFor : (List ℕ → Bool) → List (List ℕ) → List ℕ → List Join
 walkFor counts ss K = walkFrom ss K (inOrder sooner (beginnings counts ss K)) []

@@ -1,5 +1,6 @@
 -- What is known of an accepted tray, and where its slips stand.
 --   Accepted s es  == no row of 1 to 6 turns the tray back
+--   Signs x        == x is made of the 27 signs
 use mathlib.Core.Path.{_≡_, refl, _∙_, ap}
 use mathlib.Core.Bool.{Bool, true, false, not}
 use mathlib.Core.List.{List, [], _∷_}
@@ -9,11 +10,12 @@ use native.Mathlib.Omega.{arith}
 use lib.Dec.{ltb, eqb}
 use lib.ListN.{length, getD, take, drop}
 use lib.Seq.{drop-drop}
-use Rattle.words.specs.Lists.{lastOr}
+use Rattle.words.specs.Lists.{any, lastOr}
+use Rattle.words.proofs.Tests.{by-test}
 use Rattle.words.proofs.Sums.{All}
 use Rattle.trays.specs.declared.Refusal.{Refusal}
 use Rattle.trays.specs.Limits.{maxSlips, maxLetters}
-use Rattle.trays.specs.Slips.{slipsFrom, slipsOf, slip, startOf, endOf}
+use Rattle.trays.specs.Slips.{slipsFrom, slipsOf, slip, isLetter, startOf, endOf}
 use Rattle.trays.specs.Faults.{row, firstRow, trayRows, trayFault, notAbove, tooLong, badSlip}
 use Rattle.trays.proofs.Rising.{above-rest}
 use Rattle.trays.proofs.Rows.{both-silent, slip-zero}
@@ -108,6 +110,25 @@ module _ (s es : List ℕ) (acc : trayFault s es .number ≡ 0) where
   span-slip (suc k) p l =
       let z : getD (0 ∷ es) k 0 - 0 ≡ getD (0 ∷ es) k 0 = omega arith in
       rw (end-at es k) (slips-at 1 0 s es (omega arith) (accepted-tells s es acc .rise) k l ∙ rw z)
+
+-- x is made of the 27 signs
+abbrev pub Signs : List ℕ → Type 0
+Signs x = any (λ b. not (isLetter b)) x ≡ false
+
+signs-rest : (i : ℕ) (x : List ℕ) (xs : List (List ℕ)) → 1 ≤ i → badSlip i (x ∷ xs) ≡ 0 → Signs x × (badSlip (suc i) xs ≡ 0)
+signs-rest i x xs p h =
+    by-test (any (λ b. not (isLetter b)) x)
+    (λ t. absurd (omega (arith, rw (t, badSlip) at h)))
+    (λ t. (t, rw (t, badSlip) at h))
+
+slips-signs : (i : ℕ) (xs : List (List ℕ)) → 1 ≤ i → badSlip i xs ≡ 0 → (k : ℕ) → Signs (getD xs k [])
+slips-signs i [] p h k = refl
+slips-signs i (x ∷ xs) p h zero = signs-rest i x xs p h .0
+slips-signs i (x ∷ xs) p h (suc k) = slips-signs (suc i) xs (omega arith) (signs-rest i x xs p h .1) k
+
+pub accepted-signs : (s es : List ℕ) → trayFault s es .number ≡ 0 → (i : ℕ) → Signs (slip (slipsOf s es) i)
+accepted-signs s es acc zero = refl
+accepted-signs s es acc (suc i) = slips-signs 1 (slipsOf s es) (omega arith) (accepted-tells s es acc .signs) i
 
 count-slips : (here : ℕ) (s es : List ℕ) → length (slipsFrom here s es) ≡ length es
 count-slips here s [] = refl

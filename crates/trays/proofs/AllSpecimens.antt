@@ -5,15 +5,17 @@
 --   rows n k       == a tray of n slips of k letters
 --   faultOf t      == the refusal of a tray
 use mathlib.Core.Path.{_≡_, refl}
+use mathlib.Core.Bool.{true, false}
 use mathlib.Core.List.{List, [], _∷_, map}
 use Prim.Native.Nat.{ℕ, _*_}
 use Prim.Native.String.{String}
 use Rattle.words.specs.Lists.{upFrom}
+use Rattle.words.specs.Words.{overlapFor}
 use Rattle.words.specs.Quoted.{word}
 use Rattle.trays.specs.declared.Refusal.{Refusal}
 use Rattle.trays.specs.declared.Pair.{Pair}
 use Rattle.trays.specs.Slips.{numbers}
-use Rattle.trays.specs.Aside.{kept}
+use Rattle.trays.specs.Aside.{kept, counted}
 use Rattle.trays.specs.Faults.{trayFault, slipFault, pairFault, refusal}
 use Rattle.trays.specs.Answers.{stretchOf, pairOf}
 
@@ -34,6 +36,9 @@ kept-specimens =
     ∷ specimen ("AVG" ∷ "CAESAVG" ∷ []) (2 ∷ [])
     ∷ specimen ("ANNA" ∷ "AN" ∷ "NN" ∷ "NA" ∷ "ANA" ∷ []) (1 ∷ 5 ∷ [])
     ∷ specimen ("A" ∷ "A" ∷ "B" ∷ "A" ∷ []) (1 ∷ 3 ∷ [])
+    -- here a stop is a letter like the rest
+    ∷ specimen ("A.B" ∷ "." ∷ []) (1 ∷ [])
+    ∷ specimen ("A." ∷ ".B" ∷ ".." ∷ []) (1 ∷ 2 ∷ 3 ∷ [])
     ∷ []
 
 pub kept-computed : map (λ s. keptOf (s .given)) kept-specimens ≡ map (λ s. s .value) kept-specimens
@@ -43,6 +48,24 @@ kept-computed = refl
 -- only members set a slip aside
 pub kept-members : kept (map word ("AB" ∷ "AB" ∷ "ABC" ∷ [])) (2 ∷ []) ≡ (2 ∷ [])
 kept-members = refl
+
+-- stops alone do not count; a string that begins or ends with a stop may
+pub counted-specimens : map (λ w. counted (word w)) ("" ∷ "." ∷ ".." ∷ ".A" ∷ "A." ∷ ".A." ∷ "B" ∷ []) ≡ (false ∷ false ∷ false ∷ true ∷ true ∷ true ∷ true ∷ [])
+counted-specimens = refl
+
+pub overlap-specimens : List (Specimen (String × String) ℕ)
+overlap-specimens =
+    specimen ("AVG", "AVG") 3
+    ∷ specimen ("AVG", "CAES") 0
+    ∷ specimen ("A.", ".B") 0
+    ∷ specimen ("A..", "..") 0
+    ∷ specimen ("X.A", ".AB") 2
+    ∷ specimen (".A..", "A..B") 3
+    ∷ []
+
+pub overlaps-computed : map (λ s. overlapFor counted (word (s .given .0)) (word (s .given .1))) overlap-specimens ≡ map (λ s. s .value) overlap-specimens
+unfolding overlap-specimens
+overlaps-computed = refl
 
 pub record Tray : Type 0 where
   pub letters : List ℕ
@@ -95,3 +118,8 @@ pub pairs :
     (pairAt 1 2 ∷ pairAt 2 1 ∷ pairAt 0 3 ∷ pairAt 1 3 ∷ pairAt 2 2 ∷ []) ≡ (pair 0 0 0 ∷ pair 0 0 3 ∷ pair 10 0 0 ∷ pair 10 3 0 ∷ pair 11 2 0 ∷ [])
 unfolding pairFault
 pairs = refl
+
+-- A. and .B: the overlap of stops alone is none
+pub stopped-pair : pairOf (word "A..B") (2 ∷ 4 ∷ []) 1 2 ≡ pair 0 0 0
+unfolding pairFault
+stopped-pair = refl

@@ -4,4 +4,6 @@ pub mod Kept
 pub mod Rising
 pub mod Rows
 pub mod Accepted
+pub mod Stops
+pub mod CountsLoop
 pub mod Specimens

@@ -5,11 +5,9 @@ use mathlib.Core.Path.{_≡_, refl}
 use mathlib.Core.List.{List, [], _∷_, map}
 use Prim.Native.Nat.{ℕ}
 use Rattle.words.specs.Lists.{those, upFrom}
-use Rattle.words.specs.Words.{overlapFor}
 use Rattle.words.specs.Quoted.{word}
 use Rattle.trays.specs.Limits.{maxSlips, maxSlip, maxLetters, maxText, workNeed, maxFile, endsNeed}
 use Rattle.trays.specs.Slips.{slipsOf, slip, numbers, isLetter, spanOf, total}
-use Rattle.trays.specs.Aside.{counted}
 use Rattle.trays.specs.Faults.{refusal, written, trayFault, slipFault, pairFault}
 use Rattle.trays.specs.Answers.{Stretch}
 
@@ -45,12 +43,6 @@ spans :
     map (spanOf bounds) (0 ∷ 1 ∷ 2 ∷ 5 ∷ [])
     ≡ (record { start = 0; end = 0 } ∷ record { start = 0; end = 7 } ∷ record { start = 7; end = 10 } ∷ record { start = 23; end = 27 } ∷ [])
 spans = refl
-
--- the full stop counts as a letter like the rest
-overlaps :
-    (overlapFor counted (word "AVG") (word "AVG") ∷ overlapFor counted (word "A.") (word ".B") ∷ overlapFor counted (word "AVG") (word "CAES") ∷ [])
-    ≡ (3 ∷ 1 ∷ 0 ∷ [])
-overlaps = refl
 
 -- bad letters, and one row fewer at fault each time: the first row wins; its detail is the lowest slip at fault
 first-rows :

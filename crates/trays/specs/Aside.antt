@@ -2,15 +2,15 @@
 --   asideFor ss i k   == slip i is set aside because of slip k
 --   isAside ss M i    == slip i is set aside because of some member
 --   kept ss M         == the members that are not set aside, ascending if M is
---   counted x         == an overlap string x counts
+--   counted x         == an overlap string x counts: some letter of it is no stop
 use mathlib.Core.Bool.{Bool, _&&_, _||_, not}
 use mathlib.Core.List.{List}
 use Prim.Native.Nat.{ℕ}
-use lib.Dec.{ltb}
+use lib.Dec.{eqb, ltb}
 use lib.ListN.{length}
 use Rattle.words.specs.Lists.{those, any}
-use Rattle.words.specs.Words.{same, standsIn, nonEmpty}
-use Rattle.trays.specs.Slips.{slip}
+use Rattle.words.specs.Words.{same, standsIn}
+use Rattle.trays.specs.Slips.{slip, stop}
 
 -- Rules, set aside: its letters stand in a longer slip, or equal those of a lower-numbered slip.
 abbrev pub asideFor : List (List ℕ) → ℕ → ℕ → Bool
@@ -24,6 +24,7 @@ isAside ss M i = any (asideFor ss i) M
 abbrev pub kept : List (List ℕ) → List ℕ → List ℕ
 kept ss M = those (λ i. not (isAside ss M i)) M
 
--- Rules, arcs: a non-empty overlap. The one rule that the pair query, the joins and the legend go by.
+-- Rules, overlap: a string of full stops alone does not count, and the empty one has no other letter. The one rule that the pair query, the
+-- joins, the walk and the legend go by.
 abbrev pub counted : List ℕ → Bool
-counted x = nonEmpty x
+counted x = any (λ b. not (eqb b stop)) x

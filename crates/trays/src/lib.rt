@@ -1,5 +1,6 @@
-// Trays: limits, and what calls on a tray answer. The calls stand in checking, spans and asking.
+// Trays: limits, which overlap strings count, and what calls on a tray answer. The calls stand in checking, spans and asking.
 ghost use mathlib.Core.Path.{_≡_};
+ghost use Rattle.trays.specs.Aside.{counted};
 ghost use Rattle.trays.specs.Faults.{refusal};
 
 pub const MAX_SLIPS: usize = 200;
@@ -40,4 +41,18 @@ pub fn refuse(number: u8, detail: u32) -> Refusal
     ensures { λ r. ⌜ r ≡ refusal number detail ⌝ }
 {
     Refusal { number, detail }
+}
+
+// Whether an overlap string counts: some letter of it is no stop.
+pub fn counts(x: &[u8]) -> bool
+    ensures { λ r. ⌜ r ≡ counted (now (x .entry)) ⌝ }
+{
+    let mut i = 0;
+    while i < x.len() {
+        if x[i] != STOP {
+            return true;
+        }
+        i += 1;
+    }
+    false
 }

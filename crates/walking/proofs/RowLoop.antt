@@ -1,17 +1,14 @@
 -- The visits of the nodes of one length, by number.
 --   RowWalking .. w made v end ..  == what is left of the row from node v on makes of the joins in w what the whole row makes
-use mathlib.Core.Path.{_≡_, refl, sym, ap, _∙_}
-use mathlib.Core.Bool.{true}
-use mathlib.Core.List.{List, [], _∷_, map}
+use mathlib.Core.Path.{_≡_, sym, ap, _∙_}
+use mathlib.Core.List.{List, map}
 use Prim.Native.Nat.{ℕ, suc, _+_, _-_, _≤_, _<_}
 use native.Mathlib.Numerals.{add-one}
 use native.Mathlib.Omega.{arith}
 use lib.ListN.{length}
-use Rattle.words.specs.Lists.{those, upFrom}
-use Rattle.words.proofs.Members.{those-yes}
+use Rattle.words.specs.Lists.{upFrom}
 use Rattle.trays.specs.Limits.{maxSlip}
 use Rattle.trays.specs.Slips.{slipsOf}
-use Rattle.trays.specs.Aside.{counted}
 use Rattle.tables.specs.Tables.{Cells, Only, Got}
 use Rattle.tables.proofs.Tables.{only-refl, only-trans}
 use Rattle.greedy.specs.Walk.{visit, walkFrom}
@@ -24,7 +21,7 @@ use Rattle.layout.specs.Staging.{keptIn, joinsIn}
 use Rattle.offers.specs.steps.Runs.{startersAt, endersAt}
 use Rattle.offers.specs.steps.Marks.{Marks}
 use Rattle.offers.specs.steps.Offers.{JoinsMade}
-use Rattle.walking.specs.steps.Walking.{Visits, Walkable, RowAsks, rowWalked}
+use Rattle.walking.specs.steps.Walking.{Visits, Walkable, RowAsks, RowEnds, CountedFrom, rowWalked}
 use Rattle.layout.proofs.RowLaws.{row-num}
 use Rattle.layout.proofs.AreaSlips.{AreaSlips, areaSlips}
 use Rattle.walking.proofs.WalkableLaws.{kept-rises, here-sized, node-starts, node-ends, patterns-same, kept-same, walkable-kept}
@@ -38,28 +35,26 @@ pub record RowWalking (s es : List ℕ) (n k count : ℕ) (w₀ : List ℕ) (d m
   pub from : cell w₀ LEVEL d ≤ v
   pub upto : end ≡ cell w₀ LEVEL (suc d)
   pub marks : Marks (joinsIn w made) left right overs first last
-  pub rest : walkFrom (slipsOf s es) (keptIn w₀ k) (those counted (map (string (patternsIn s es n w₀)) (upFrom v (end - v)))) (joinsIn w made)
+  pub rest : walkFrom (slipsOf s es) (keptIn w₀ k) (map (string (patternsIn s es n w₀)) (upFrom v (end - v))) (joinsIn w made)
       ≡ rowWalked s es n k w₀ d made₀
 
-pub row-start : {s es : List ℕ} {n k count : ℕ} {w : List ℕ} {d made v end : ℕ} {left right overs first last : List ℕ}
-    → RowAsks s es n k count w d made left right overs first last → Got w LEVEL d v → Got w LEVEL (d + 1) end
-    → RowWalking s es n k count w d made w made v end left right overs first last
-row-start {s} {es} {n} {k} {count} {w} {d} {made} {v} {end} A a b =
-    let e : end ≡ cell w LEVEL (suc d) = b .is ∙ ap (cell w LEVEL) (add-one d) in
-    record {
-      walkable = A .walkable;
-      some = A .some;
-      most = A .most;
-      only = only-refl;
-      from = omega (arith, a .is);
-      upto = e;
-      marks = A .marks;
-      rest = rw (a .is, e);
-    }
+module _ {s es : List ℕ} {n k count : ℕ} {w : List ℕ} {d made end : ℕ} {left right overs first last : List ℕ}
+    (A : RowAsks s es n k count w d made left right overs first last) (b : Got w LEVEL (d + 1) end) where
+  pub row-ends : RowEnds s es n count w d end
+  row-ends = record { numbered = A .walkable .numbered; some = A .some; most = A .most; upto = b .is ∙ ap (cell w LEVEL) (add-one d) }
 
-counted-some : (x : List ℕ) → 1 ≤ length x → counted x ≡ true
-counted-some [] h = absurd (omega arith)
-counted-some (a ∷ x) h = refl
+  pub row-start : {v : ℕ} → CountedFrom s es n w d end v → RowWalking s es n k count w d made w made v end left right overs first last
+  row-start F =
+      record {
+        walkable = A .walkable;
+        some = A .some;
+        most = A .most;
+        only = only-refl;
+        from = F .from;
+        upto = row-ends .upto;
+        marks = A .marks;
+        rest = ap (λ xs. walkFrom (slipsOf s es) (keptIn w k) xs (joinsIn w made)) (sym (F .those-are));
+      }
 
 module _ {s es : List ℕ} {n k count : ℕ} {w₀ : List ℕ} {d made₀ : ℕ} {w : List ℕ} {made v end : ℕ} {left right overs first last : List ℕ}
     (T : RowWalking s es n k count w₀ d made₀ w made v end left right overs first last) where
@@ -109,11 +104,9 @@ module _ {s es : List ℕ} {n k count : ℕ} {w₀ : List ℕ} {d made₀ : ℕ}
         )
         (sym (S.visit-scan ss x K (kept-rises (T .walkable)) K (joinsIn w made)))
 
-    rest-first : walkFrom ss K (those counted (map (string ps) (upFrom v (end - v)))) (joinsIn w made)
-        ≡ walkFrom ss K (those counted (map (string ps) (upFrom (suc v) (end - suc v)))) (visit ss K x K (joinsIn w made))
-    rest-first =
-        let e : end - v ≡ suc (end - suc v) = omega arith in
-        rw (e, those-yes counted x (map (string ps) (upFrom (suc v) (end - suc v))) (counted-some x (omega (arith, num .1, T .some))))
+    rest-first : walkFrom ss K (map (string ps) (upFrom v (end - v))) (joinsIn w made)
+        ≡ walkFrom ss K (map (string ps) (upFrom (suc v) (end - suc v))) (visit ss K x K (joinsIn w made))
+    rest-first = let e : end - v ≡ suc (end - suc v) = omega arith in rw e
 
     pub row-turn : {w′ left′ right′ overs′ first′ last′ : List ℕ} {made′ : ℕ} (v′ : ℕ)
         → JoinsMade w (S.scan (endersAt w es d v) d (startersAt w es d v) (joinsIn w made)) w′ left′ right′ overs′ first′ last′ made′ → v′ ≡ v + 1

@@ -9,11 +9,11 @@ use native.Mathlib.Omega.{arith}
 use lib.ListN.{length, replicate, length-replicate}
 use Rattle.words.specs.Lists.{those, upFrom}
 use Rattle.words.proofs.Members.{In, Asc, those-append}
-use Rattle.words.proofs.Overlaps.{nonEmpty-counts}
 use Rattle.words.proofs.Sums.{all-in, asc-once, length-sum}
 use Rattle.trays.specs.Limits.{maxSlips, maxSlip}
 use Rattle.trays.specs.Slips.{slipsOf}
 use Rattle.trays.specs.Aside.{kept, counted}
+use Rattle.trays.proofs.Stops.{counted-counts}
 use Rattle.tables.specs.Tables.{Cells, Only}
 use Rattle.tables.proofs.Tables.{only-refl, only-trans}
 use Rattle.greedy.specs.Joins.{plainFor}
@@ -114,7 +114,7 @@ module _ {s es : List ℕ} {n k count : ℕ} {w₀ w : List ℕ} {made d : ℕ} 
       let z : d ≡ 0 = omega arith in
       let positive : (x : ℕ) → In x (members w₀ n) → 1 ≤ x = λ x m. T .walkable .numbered .real x m .0 in
       let ready : Ready counted ss K =
-      rw (T .walkable .kept-are) (kept-ready counted ss (members w₀ n) nonEmpty-counts (T .walkable .numbered .ascending) positive) in
+      rw (T .walkable .kept-are) (kept-ready counted ss (members w₀ n) counted-counts (T .walkable .numbered .ascending) positive) in
       let walked : joinsIn w made ≡ walkFor counted ss K = (rw z at (T .rest)) in
       let plain : joinsIn w made ≡ plainFor counted ss K = walked ∙ one-list counted ss K ready in
       record {

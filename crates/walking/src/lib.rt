@@ -36,7 +36,33 @@ fn visit(
     made
 }
 
-// Visits the nodes of `d` letters in byte order. Each has a letter, so each counts.
+// The first of the nodes of `d` letters, which end before `end`, that counts. They stand in byte order and the stop is the lowest sign, so only the first can be
+// of stops alone.
+fn first_counted(
+    letters: &[u8],
+    ends: &[u16],
+    work: &[u16],
+    n: usize,
+    nodes: usize,
+    d: usize,
+    end: usize,
+) -> usize
+    requires { ⌜ W.RowEnds (now letters) (now ends) n nodes (now work) d end ⌝ }
+    ensures { λ v. ⌜ W.CountedFrom (now (letters .entry)) (now (ends .entry)) n (now (work .entry)) d end v ⌝ }
+{
+    let v = tables::at(work, layout::LEVEL, d);
+    if end <= v {
+        return v;
+    }
+    let after = tables::at(work, layout::OWN, v) + 1;
+    let start = after - d;
+    if trays::counts(&letters[start..after]) {
+        return v;
+    }
+    v + 1
+}
+
+// Visits the nodes of `d` letters that count, in byte order.
 fn walk_row(
     letters: &[u8],
     ends: &[u16],
@@ -57,8 +83,8 @@ fn walk_row(
         (now (work .exit)) (now (left .exit)) (now (right .exit)) (now (overs .exit)) (now (first .exit)) (now (last .exit)) made ⌝ }
 {
     let mut made = count;
-    let mut v = tables::at(work, layout::LEVEL, d);
     let end = tables::at(work, layout::LEVEL, d + 1);
+    let mut v = first_counted(letters, ends, work, n, nodes, d, end);
     while v < end {
         made = visit(work, ends, d, v, made, left, right, overs, first, last);
         v += 1;

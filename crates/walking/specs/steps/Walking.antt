@@ -3,16 +3,17 @@
 --                              those that properly end with it
 --   Walked ..               == what the walk leaves: the joins of the plain rule
 use mathlib.Core.Path.{_≡_}
-use mathlib.Core.List.{List}
-use Prim.Native.Nat.{ℕ, _≤_}
+use mathlib.Core.List.{List, map}
+use Prim.Native.Nat.{ℕ, suc, _-_, _≤_}
 use lib.ListN.{length, replicate}
-use Rattle.words.specs.Lists.{those}
+use Rattle.words.specs.Lists.{those, upFrom}
 use Rattle.trays.specs.Limits.{maxSlips, maxSlip, maxLetters}
 use Rattle.trays.specs.Slips.{slipsOf}
 use Rattle.trays.specs.Aside.{kept, counted}
 use Rattle.tables.specs.Tables.{Cells, Only}
 use Rattle.greedy.specs.Joins.{Join, rightOf, plainFor}
 use Rattle.greedy.specs.Walk.{walkFrom}
+use Rattle.matching.specs.Nodes.{string}
 use Rattle.layout.specs.Layout.{LEVEL, STARTS, STARTS-NEXT, ENDS, ENDS-NEXT, JOINS}
 use Rattle.layout.specs.Tables.{cell, members, StartsIs, EndsIs}
 use Rattle.layout.specs.Numbered.{patternsIn, Numbered}
@@ -42,6 +43,18 @@ pub record RowAsks (s es : List ℕ) (n k count : ℕ) (w : List ℕ) (d made : 
   pub some : 1 ≤ d
   pub most : d ≤ maxSlip
   pub marks : Marks (joinsIn w made) left right overs first last
+
+-- the nodes of d letters end before `end`
+pub record RowEnds (s es : List ℕ) (n count : ℕ) (w : List ℕ) (d end : ℕ) : Type 0 where
+  pub numbered : Numbered s es n count w
+  pub some : 1 ≤ d
+  pub most : d ≤ maxSlip
+  pub upto : end ≡ cell w LEVEL (suc d)
+
+-- of the nodes of d letters those count that stand from v on
+pub record CountedFrom (s es : List ℕ) (n : ℕ) (w : List ℕ) (d end v : ℕ) : Type 0 where
+  pub from : cell w LEVEL d ≤ v
+  pub those-are : those counted (nodesAt (patternsIn s es n w) (cell w LEVEL) d) ≡ map (string (patternsIn s es n w)) (upFrom v (end - v))
 
 abbrev pub rowWalked : List ℕ → List ℕ → ℕ → ℕ → List ℕ → ℕ → ℕ → List Join
 rowWalked s es n k w d made =

@@ -1,0 +1,58 @@
+-- Where no kept slip begins with a stop, the rule on stops changes nothing.
+--   plain-agree     == two rules that give the slips of K the same overlaps make the same joins
+--   plain-free      == so the joins are those of all overlaps that have a letter, where no slip of K begins with a stop
+--   stopFree-kept   == no slip begins with a stop: so no kept slip does
+use mathlib.Core.Path.{_≡_, sym, ap, _∙_}
+use mathlib.Core.Bool.{Bool, true, false}
+use mathlib.Core.List.{List, [], _∷_}
+use Prim.Native.Nat.{ℕ}
+use borrow.Author.Tests.{not-true}
+use Rattle.words.specs.Lists.{any}
+use Rattle.words.specs.Words.{begins, nonEmpty, overlapFor}
+use Rattle.words.proofs.Members.{In, any-none, none-any}
+use Rattle.words.proofs.Overlaps.{overlapFor-nonEmpty}
+use Rattle.words.proofs.Picks.{each-agree}
+use Rattle.trays.specs.Slips.{slip, slipsOf, stop}
+use Rattle.trays.specs.Aside.{isAside, kept, counted}
+use Rattle.trays.proofs.Kept.{in-kept}
+use Rattle.trays.proofs.Stops.{overlapFor-free}
+use Rattle.greedy.specs.Joins.{Join, arc, arcs, plainFor}
+use Rattle.greedy.specs.Legends.{pieces, spelled, placeIn, lowest}
+use Rattle.greedy.specs.Composing.{Composing, whole, keptOf}
+use Rattle.greedy.specs.Claims.{stopFree, AllCount, Stop-free}
+
+module _ (counts counts′ : List ℕ → Bool) (ss : List (List ℕ)) (K : List ℕ)
+    (same : (l r : ℕ) → In l K → In r K → overlapFor counts (slip ss l) (slip ss r) ≡ overlapFor counts′ (slip ss l) (slip ss r)) where
+  arcs-agree : arcs counts ss K ≡ arcs counts′ ss K
+  arcs-agree =
+      each-agree _ _ K (λ l m. each-agree (arc counts ss l) (arc counts′ ss l) K (λ r n. rw (same l r m n)))
+
+  pub plain-agree : plainFor counts ss K ≡ plainFor counts′ ss K
+  plain-agree = rw arcs-agree
+
+module _ (ss : List (List ℕ)) where
+  stopFree-at : (K : List ℕ) → stopFree ss K ≡ true → (i : ℕ) → In i K → begins (stop ∷ []) (slip ss i) ≡ false
+  stopFree-at K h = none-any (λ i. begins (stop ∷ []) (slip ss i)) K (not-true (any (λ i. begins (stop ∷ []) (slip ss i)) K) h)
+
+  pub stopFree-kept : (M : List ℕ) → stopFree ss M ≡ true → stopFree ss (kept ss M) ≡ true
+  stopFree-kept M h =
+      rw (any-none (λ i. begins (stop ∷ []) (slip ss i)) (kept ss M) (λ i m. stopFree-at M h i (in-kept ss M m .0)))
+
+  pub plain-free : (K : List ℕ) → stopFree ss K ≡ true → plainFor counted ss K ≡ plainFor nonEmpty ss K
+  plain-free K h =
+      plain-agree counted nonEmpty ss K
+      (λ l r m n. overlapFor-free (slip ss l) (slip ss r) (stopFree-at K h r n) ∙ sym (overlapFor-nonEmpty (slip ss l) (slip ss r)))
+
+pub all-count : (c : Composing) → stopFree (c .slips) (keptOf c) ≡ true → AllCount c
+all-count c h =
+    let e = plain-free (c .slips) (keptOf c) h in
+    record { joins-are = e; legend-is = rw e; places-are = λ i. ap (placeBy i) e }
+  where
+    placeBy : ℕ → List Join → ℕ
+    placeBy i js =
+        let ps = pieces js (keptOf c) in
+        elim (isAside (c .slips) (c .members) i)
+        [ true ↦ lowest 1 (slip (c .slips) i) (spelled (c .slips) ps) | false ↦ placeIn (c .slips) i 1 ps ]
+
+pub stop-free : Stop-free
+stop-free s es accepted = all-count (whole (slipsOf s es))

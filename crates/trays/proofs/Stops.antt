@@ -1,0 +1,57 @@
+-- Stops: which overlap strings count.
+--   counted-counts  == what begins with a string that counts does, and the empty string does not
+--   overlapFor-free == the overlap with a string that begins with no stop is the plain one
+--   after-counts    == of two strings of signs that are as long, the second one counts
+-- The stop is the lowest sign, so a string of stops alone has none before it that is as long.
+use mathlib.Core.Path.{_≡_, refl}
+use mathlib.Core.Bool.{true, false, not, _&&_}
+use mathlib.Core.List.{List, [], _∷_}
+use mathlib.Core.Logic.{inl, inr}
+use Prim.Native.Nat.{ℕ, zero, suc, _≤_}
+use borrow.Author.Tests.{eqb-true, leb-true, le-ltb, ne-eqb, not-false}
+use native.Mathlib.Omega.{arith}
+use lib.Dec.{eqb, leb}
+use lib.ListN.{length, take}
+use Rattle.words.specs.Lists.{any}
+use Rattle.words.specs.Words.{begins, before, overlap, overlapFor}
+use Rattle.words.proofs.Tests.{tell, both, either, neither, not-both}
+use Rattle.words.proofs.Strings.{begins-any}
+use Rattle.words.proofs.Overlaps.{Counts, overlapFor-all}
+use Rattle.trays.specs.Slips.{stop, isLetter}
+use Rattle.trays.specs.Aside.{counted}
+use Rattle.trays.proofs.Accepted.{Signs}
+
+pub counted-counts : Counts counted
+counted-counts = record { empty = refl; longer = begins-any (λ b. not (eqb b stop)) }
+
+pub overlapFor-free : (x y : List ℕ) → begins (stop ∷ []) y ≡ false → overlapFor counted x y ≡ overlap x y
+overlapFor-free x y e = overlapFor-all counted x y (first y e)
+  where
+    first : (y : List ℕ) → begins (stop ∷ []) y ≡ false → (n : ℕ) → 1 ≤ n → n ≤ length y → counted (take n y) ≡ true
+    first y e zero h l = absurd (omega arith)
+    first [] e (suc n) h l = absurd (omega arith)
+    first (c ∷ y) e (suc n) h l =
+        let other : eqb c stop ≡ false = ne-eqb c stop (λ q. not-both (eqb stop c && true) (rw q) e) in
+        rw other
+
+sign-least : (b : ℕ) → isLetter b ≡ true → stop ≤ b
+sign-least b e =
+    elim (either (eqb b stop) (leb 65 b && leb b 90) e) [
+      | inl t ↦ omega (arith, eqb-true b stop t)
+      | inr t ↦ omega (arith, leb-true 65 b (both (leb 65 b) (leb b 90) t .0))
+    ]
+
+stops-least : (x y : List ℕ) → length x ≡ length y → Signs x → counted y ≡ false → before x y ≡ false
+stops-least [] [] n h e = refl
+stops-least [] (b ∷ y) n h e = absurd (omega arith)
+stops-least (a ∷ x) [] n h e = refl
+stops-least (a ∷ x) (b ∷ y) n h e =
+    let (sign, signs) = neither (not (isLetter a)) (any (λ b. not (isLetter b)) x) h in
+    let (alone, stops) = neither (not (eqb b stop)) (counted y) e in
+    let low : b ≤ a = omega (arith, eqb-true b stop (not-false (eqb b stop) alone), sign-least a (not-false (isLetter a) sign)) in
+    let rest : before x y ≡ false = stops-least x y (omega arith) signs stops in
+    elim (tell (eqb a b)) [ inl t ↦ rw (le-ltb a b low, t, rest) | inr t ↦ rw (le-ltb a b low, t) ]
+
+pub after-counts : (x y : List ℕ) → length x ≡ length y → Signs x → before x y ≡ true → counted y ≡ true
+after-counts x y n h e =
+    elim (tell (counted y)) [ inl t ↦ t | inr t ↦ absurd (not-both (before x y) e (stops-least x y n h t)) ]
