@@ -78,7 +78,7 @@ void kotsghane_find(const uint8_t *letters, size_t letters_len, const uint16_t *
 void kotsghane_slip(const uint8_t *letters, size_t letters_len, const uint16_t *ends, size_t ends_len, uint32_t slip,
                     uint32_t answer[KOTSGHANE_SLIP_NUMBERS]);
 
-/* How many letters end the left slip and begin the right one, 0 if refused. Refusals 1 to 6, 10, 11. */
+/* How many letters end the left slip and begin the right one; full stops alone do not count. 0 if refused. Refusals 1 to 6, 10, 11. */
 void kotsghane_pair(const uint8_t *letters, size_t letters_len, const uint16_t *ends, size_t ends_len, uint32_t left, uint32_t right,
                     uint32_t answer[KOTSGHANE_PAIR_NUMBERS]);
 

@@ -10,13 +10,24 @@ pub struct Tray {
     pub ends: Vec<u16>,
 }
 
-/// The longest string that ends `a` and begins `b`, counted. It may be a whole slip, and may be empty.
-pub fn overlap(a: &[u8], b: &[u8]) -> usize {
+/// The longest string that ends `a` and begins `b`. It may be a whole slip, and may be empty.
+pub fn longest_shared<'a>(a: &[u8], b: &'a [u8]) -> &'a [u8] {
     let most = a.len().min(b.len());
-    (1..=most)
+    let length = (1..=most)
         .rev()
         .find(|n| a[a.len() - n] == b[0] && a[a.len() - n..] == b[..*n])
-        .unwrap_or(0)
+        .unwrap_or(0);
+    &b[..length]
+}
+
+/// The overlap of `a` with `b`, counted: the longest string that ends `a` and begins `b`, unless it is full stops alone.
+pub fn overlap(a: &[u8], b: &[u8]) -> usize {
+    let shared = longest_shared(a, b);
+    // No shorter string is tried: it would begin the longest one, and so be stops alone too.
+    match shared.iter().all(|&letter| letter == b'.') {
+        true => 0,
+        false => shared.len(),
+    }
 }
 
 impl Tray {

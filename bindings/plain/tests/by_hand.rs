@@ -73,13 +73,19 @@ fn edge_trays() {
 
 #[test]
 fn overlaps() {
-    let cases: [(&[u8], &[u8], usize); 6] = [
+    let cases: [(&[u8], &[u8], usize); 12] = [
         (b"AVG", b"AVG", 3),
         (b"IMPCAES", b"CAESAVG", 4),
         (b"CAESAVG", b"VGPIVS", 2),
         (b"AB", b"BA", 1),
         (b"CD", b"AB", 0),
         (b"ANNA", b"ANA", 1),
+        (b"A.", b".B", 0),
+        (b"X.A", b".AB", 2),
+        (b"..", b"..", 0),
+        (b"A.", b".", 0),
+        (b"A..", b"..A", 0),
+        (b"A..B", b"..B", 3),
     ];
     for (a, b, n) in cases {
         assert_eq!(overlap(a, b), n);

@@ -137,7 +137,8 @@ impl Tray {
         Refusal::of(number, detail).map_or(Ok(start as usize..end as usize), Err)
     }
 
-    /// How many letters end slip `left` and begin slip `right`, both from 1, or why there is no answer.
+    /// How many letters end slip `left` and begin slip `right`, both from 1, or why there is no answer. Full stops alone do
+    /// not count.
     ///
     /// ```
     /// use kotsghane::Tray;
@@ -145,6 +146,9 @@ impl Tray {
     /// let tray = Tray::of(&["IMPCAES", "CAESAVG"]);
     /// assert_eq!((tray.overlap(1, 2), tray.overlap(2, 1)), (Ok(4), Ok(0)));
     /// assert_eq!(tray.overlap(2, 2).unwrap_err().number, 11);
+    ///
+    /// assert_eq!(Tray::of(&["A.", ".B"]).overlap(1, 2), Ok(0));
+    /// assert_eq!(Tray::of(&["X.A", ".AB"]).overlap(1, 2), Ok(2));
     /// ```
     #[allow(unsafe_code)]
     pub fn overlap(&self, left: u32, right: u32) -> Result<usize, Refusal> {

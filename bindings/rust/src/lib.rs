@@ -1,8 +1,8 @@
 //! Coin legends composed from worn readings: a safe form over the proved library.
 //!
-//! Slips of letters, together a tray, are joined by their overlaps into one legend, and found in a text. [`compose_tray`]
-//! and [`find_slips`] take care of all buffers; [`compose`] and [`find`] are for callers who lend their own. [`Tray::read`] reads
-//! a tray file, [`Tray::slip`] and [`Tray::overlap`] answer for one slip and for a pair.
+//! Slips of letters, together a tray, are joined by their overlaps into one legend, and found in a text. Full stops alone
+//! are no overlap. [`compose_tray`] and [`find_slips`] take care of all buffers; [`compose`] and [`find`] are for callers who
+//! lend their own. [`Tray::read`] reads a tray file, [`Tray::slip`] and [`Tray::overlap`] answer for one slip and for a pair.
 //!
 //! ```
 //! use kotsghane::{compose_tray, Tray};

@@ -4,6 +4,7 @@ mod tally;
 use kotsghane::{read_tray, Read, Refusal, Tray, FILE_ENDS, MAX_FILE};
 use plain::made::damage::{damaged, DAMAGES};
 use plain::made::files::{damaged_file, tray_file, BLOTS};
+use plain::made::stops::{many_stops, share_stops_alone};
 use plain::made::{valid, Chance};
 use plain::{file, tray};
 use tally::Tally;
@@ -54,6 +55,19 @@ fn slips_and_pairs_agree() {
     }
     tally.assert_all_from(&[0, 2, 3, 5, 6, 10, 11], 1_000);
     assert!(pairs > 400_000, "pairs: {pairs}");
+}
+
+/// Pairs of slips that share stops alone among them.
+#[test]
+fn pairs_with_many_stops_agree() {
+    let (mut chance, mut tally, mut met) = (Chance::new(45), Tally::default(), 0);
+    for n in 0..4_000 {
+        let tray = tray::Tray::of(&many_stops(&mut chance, 12, [12, 40][n % 2]));
+        met += usize::from(share_stops_alone(&tray));
+        try_tray(&tray, &mut tally);
+    }
+    tally.assert_all_from(&[0, 10, 11], 1_000);
+    assert!(met > 1_000, "trays in which slips share stops alone: {met}");
 }
 
 #[test]

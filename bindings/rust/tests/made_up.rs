@@ -6,6 +6,7 @@ use buffers::{trial, Buffers, AMPLE};
 use kotsghane::{compose_tray, Refusal, Tray};
 use plain::compose::Rooms;
 use plain::made::damage::{damaged, DAMAGES};
+use plain::made::stops::{many_stops, share_stops_alone};
 use plain::made::{near, slips, valid, Chance, SHAPES};
 use plain::tray;
 use tally::Tally;
@@ -57,6 +58,19 @@ fn full_trays_agree() {
         try_tray(&mut chance, &tray, &mut tally);
     }
     tally.assert_all_from(&[0], 150);
+}
+
+/// Trays in which slips share stops alone, and would overlap if these counted.
+#[test]
+fn trays_with_many_stops_agree() {
+    let (mut chance, mut tally, mut met) = (Chance::new(10), Tally::default(), 0);
+    for n in 0..3_000 {
+        let tray = tray::Tray::of(&many_stops(&mut chance, [8, 30, 200][n % 3], 40));
+        met += usize::from(share_stops_alone(&tray));
+        try_tray(&mut chance, &tray, &mut tally);
+    }
+    tally.assert_all_from(&[0, 7, 8, 9], 300);
+    assert!(met > 1_000, "trays in which slips share stops alone: {met}");
 }
 
 #[test]

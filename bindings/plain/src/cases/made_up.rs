@@ -4,6 +4,7 @@ use crate::compose::compose;
 use crate::find::occurrences;
 use crate::made::damage::{damaged, DAMAGES};
 use crate::made::files::{damaged_file, tray_file, BLOTS};
+use crate::made::stops::many_stops;
 use crate::made::texts::{damaged_text, text};
 use crate::made::{near, slips, valid, Chance, SHAPES};
 use crate::tray::Tray;
@@ -126,6 +127,12 @@ const KINDS: &[Kind] = &[
             Case::Read(file, letters, ends)
         },
     },
+    Kind {
+        name: "Trays with many stops",
+        seed: 114,
+        count: 300,
+        make: with_stops,
+    },
 ];
 
 /// 200 slips of 10 letters.
@@ -161,6 +168,18 @@ fn small_list(chance: &mut Chance, _: usize) -> Case {
     let need = 2 * occurrences(&tray.slips(), &text).len();
     let work = chance.one(&[WORK_CELLS, WORK_CELLS, WORK_CELLS + 7, 31_999]);
     Case::Find(tray, text, work, near(chance, need))
+}
+
+/// Mostly small trays. They are composed, but for every fifth: finding takes a stop as a letter like the rest.
+fn with_stops(chance: &mut Chance, n: usize) -> Case {
+    let most = if n % 10 == 0 { 60 } else { 10 };
+    let all = many_stops(chance, most, 12);
+    let tray = Tray::of(&all);
+    if n % 5 < 4 {
+        return Case::Compose(tray, WHOLE);
+    }
+    let letters = chance.below(60);
+    Case::Find(tray, text(chance, &all, letters), WORK_CELLS, WHOLE_LIST)
 }
 
 pub fn all() -> Vec<Case> {

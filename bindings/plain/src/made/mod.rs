@@ -5,6 +5,7 @@ use crate::{MAX_LETTERS, SIGNS};
 pub mod damage;
 pub mod files;
 pub mod full;
+pub mod stops;
 pub mod texts;
 
 /// A generator of numbers (splitmix64): the same seed gives the same cases.
