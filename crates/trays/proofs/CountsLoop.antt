@@ -1,23 +1,40 @@
--- One turn of the loop that looks for a letter that is no stop.
-use mathlib.Core.Path.{_≡_, _∙_}
-use mathlib.Core.Bool.{true, false}
-use mathlib.Core.List.{List}
-use Prim.Native.Nat.{ℕ, suc, _+_, _≤_, _<_}
+-- One turn of the loop that looks for a letter that is no stop, from the last letter on.
+use mathlib.Core.Path.{_≡_, sym, _∙_}
+use mathlib.Core.Bool.{true, false, not}
+use mathlib.Core.List.{List, [], _∷_}
+use Prim.Native.Nat.{ℕ, zero, suc, _-_, _≤_, _<_}
 use borrow.Author.Tests.{eq-eqb, ne-eqb}
-use native.Mathlib.Numerals.{add-one}
-use lib.ListN.{length, getD, drop, drop-of-length-le}
-use lib.Seq.{drop-cons}
+use native.Mathlib.Omega.{arith}
+use lib.Dec.{eqb}
+use lib.ListN.{length, getD, take}
+use lib.Seq.{take-all}
+use Rattle.words.proofs.Tests.{or-right}
 use Rattle.trays.specs.Slips.{stop}
 use Rattle.trays.specs.Aside.{counted}
 
-module _ (x : List ℕ) (i : ℕ) (k : counted x ≡ counted (drop i x)) where
-  pub counts-here : i < length x → (getD x i 0 ≡ stop → ⊥) → true ≡ counted x
-  counts-here h ne = rw (k, drop-cons x i 0, ne-eqb (getD x i 0) stop ne)
+-- the letter behind the first i is a stop, or it is not
+take-stop : (x : List ℕ) (i : ℕ) → i < length x → getD x i 0 ≡ stop → counted (take (suc i) x) ≡ counted (take i x)
+take-stop [] i h e = absurd (omega arith)
+take-stop (a ∷ x) zero h e = rw (eq-eqb a stop e)
+take-stop (a ∷ x) (suc i) h e = rw (take-stop x i (omega arith) e)
 
-  pub counts-next : i < length x → getD x i 0 ≡ stop → counted x ≡ counted (drop (i + 1) x)
-  counts-next h e =
-      let g : counted (drop i x) ≡ counted (drop (suc i) x) = rw (drop-cons x i 0, eq-eqb (getD x i 0) stop e) in
-      rw add-one (k ∙ g)
+take-letter : (x : List ℕ) (i : ℕ) → i < length x → (getD x i 0 ≡ stop → ⊥) → counted (take (suc i) x) ≡ true
+take-letter [] i h ne = absurd (omega arith)
+take-letter (a ∷ x) zero h ne = rw (ne-eqb a stop ne)
+take-letter (a ∷ x) (suc i) h ne = or-right (not (eqb a stop)) (counted (take (suc i) x)) (take-letter x i (omega arith) ne)
 
-  pub counts-none : length x ≤ i → false ≡ counted x
-  counts-none h = rw (k, drop-of-length-le x h)
+pub counts-start : (x : List ℕ) → counted x ≡ counted (take (length x) x)
+counts-start x = rw (take-all (length x) x (omega arith))
+
+module _ (x : List ℕ) (i : ℕ) (some : 0 < i) (l : i ≤ length x) (k : counted x ≡ counted (take i x)) where
+  last : suc (i - 1) ≡ i
+  last = omega arith
+
+  pub counts-here : (getD x (i - 1) 0 ≡ stop → ⊥) → true ≡ counted x
+  counts-here ne = sym (k ∙ (rw last at (take-letter x (i - 1) (omega arith) ne)))
+
+  pub counts-next : getD x (i - 1) 0 ≡ stop → counted x ≡ counted (take (i - 1) x)
+  counts-next e = k ∙ (rw last at (take-stop x (i - 1) (omega arith) e))
+
+pub counts-none : (x : List ℕ) (i : ℕ) → i ≤ 0 → counted x ≡ counted (take i x) → false ≡ counted x
+counts-none x i h k = let z : i ≡ 0 = omega arith in sym (rw z at k)

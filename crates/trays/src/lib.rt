@@ -43,16 +43,17 @@ pub fn refuse(number: u8, detail: u32) -> Refusal
     Refusal { number, detail }
 }
 
-// Whether an overlap string counts: some letter of it is no stop.
+// Whether an overlap string counts: some letter of it is no stop. From the last letter on, since the walk asks of the lowest string of a row, which
+// begins with stops if any does.
 pub fn counts(x: &[u8]) -> bool
     ensures { λ r. ⌜ r ≡ counted (now (x .entry)) ⌝ }
 {
-    let mut i = 0;
-    while i < x.len() {
+    let mut i = x.len();
+    while 0 < i {
+        i -= 1;
         if x[i] != STOP {
             return true;
         }
-        i += 1;
     }
     false
 }

@@ -36,8 +36,8 @@ fn visit(
     made
 }
 
-// The first of the nodes of `d` letters, which end before `end`, that counts. They stand in byte order and the stop is the lowest sign, so only the first can be
-// of stops alone.
+// Of the nodes of `d` letters, up to `end`, the first that counts: the first of all or the second. They stand in byte order and the stop is the lowest sign,
+// so only the first can be of stops alone.
 fn first_counted(
     letters: &[u8],
     ends: &[u16],

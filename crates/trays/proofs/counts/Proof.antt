@@ -1,18 +1,21 @@
--- Invariant: the letters before place i are stops, so the string counts where what is left of it does.
+-- Invariant: the letters from place i on are stops, so the string counts where its first i letters do.
 use mathlib.Core.Path.{_≡_}
-use Prim.Native.Nat.{_-_, _≤_}
-use lib.ListN.{length, drop}
+use Prim.Native.Nat.{_≤_}
+use lib.ListN.{length, take}
 use Rattle.trays.specs.Aside.{counted}
-use Rattle.trays.proofs.CountsLoop.{counts-here, counts-next, counts-none}
+use Rattle.trays.proofs.CountsLoop.{counts-start, counts-here, counts-next, counts-none}
 use borrow.Author.Needs.{needs}
 use Rattle.trays.proofs.counts.Statement.{statement}
 use Rattle.trays.proofs.counts.Tie as tie
 
 abbrev Inv-loop : tie.InvT-loop
-Inv-loop x i₀ i = (i ≤ length x) × (counted x ≡ counted (drop i x))
+Inv-loop x i₀ i = (i ≤ length x) × (counted x ≡ counted (take i x))
 
 abbrev μ-loop : tie.MeasureT-loop
-μ-loop x i₀ i = length x - i
+μ-loop x i₀ i = i
+
+loop-holds : tie.Need-loop-holds Inv-loop μ-loop
+loop-holds c = (search needs, search counts-start)
 
 returns : tie.Need-returns Inv-loop μ-loop
 returns c = search counts-here
@@ -24,5 +27,5 @@ returns-2 : tie.Need-returns-2 Inv-loop μ-loop
 returns-2 c = search counts-none
 
 pub counts-spec : {M : Type 1} → statement M
-counts-spec = tie.close (tie.spec Inv-loop μ-loop (λ c. search needs) (λ c. search needs) returns (λ c. search needs) (λ c. search needs)
+counts-spec = tie.close (tie.spec Inv-loop μ-loop loop-holds (λ c. search needs) (λ c. search needs) returns (λ c. search needs)
     loop-again returns-2)

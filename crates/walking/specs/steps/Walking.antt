@@ -1,6 +1,7 @@
 -- What the functions of the walk ask and leave.
 --   Walkable s es n k c w   == the nodes of the n members are numbered, the k kept ones known, and for each node those that begin with it and
 --                              those that properly end with it
+--   RowEnds ..              == what it asks to look for the first node of a row that counts; CountedFrom .. == what that look finds
 --   Walked ..               == what the walk leaves: the joins of the plain rule
 use mathlib.Core.Path.{_≡_}
 use mathlib.Core.List.{List, map}
