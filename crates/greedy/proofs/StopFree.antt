@@ -2,13 +2,14 @@
 --   plain-agree     == two rules that give the slips of K the same overlaps make the same joins
 --   plain-free      == so the joins are those of all overlaps that have a letter, where no slip of K begins with a stop
 --   stopFree-kept   == no slip begins with a stop: so no kept slip does
-use mathlib.Core.Path.{_≡_, sym, ap, _∙_}
+use mathlib.Core.Path.{_≡_, sym, _∙_}
 use mathlib.Core.Bool.{Bool, true, false}
 use mathlib.Core.List.{List, [], _∷_}
 use Prim.Native.Nat.{ℕ}
 use borrow.Author.Tests.{not-true}
 use Rattle.words.specs.Lists.{any}
 use Rattle.words.specs.Words.{begins, nonEmpty, overlapFor}
+use Rattle.words.proofs.Tests.{by-test}
 use Rattle.words.proofs.Members.{In, any-none, none-any}
 use Rattle.words.proofs.Overlaps.{overlapFor-nonEmpty}
 use Rattle.words.proofs.Picks.{each-agree}
@@ -16,8 +17,8 @@ use Rattle.trays.specs.Slips.{slip, slipsOf, stop}
 use Rattle.trays.specs.Aside.{isAside, kept, counted}
 use Rattle.trays.proofs.Kept.{in-kept}
 use Rattle.trays.proofs.Stops.{overlapFor-free}
-use Rattle.greedy.specs.Joins.{Join, arc, arcs, plainFor}
-use Rattle.greedy.specs.Legends.{pieces, spelled, placeIn, lowest}
+use Rattle.greedy.specs.Joins.{arc, arcs, plainFor}
+use Rattle.greedy.specs.Legends.{placeFor}
 use Rattle.greedy.specs.Composing.{Composing, whole, keptOf}
 use Rattle.greedy.specs.Claims.{stopFree, AllCount, Stop-free}
 
@@ -46,13 +47,11 @@ module _ (ss : List (List ℕ)) where
 pub all-count : (c : Composing) → stopFree (c .slips) (keptOf c) ≡ true → AllCount c
 all-count c h =
     let e = plain-free (c .slips) (keptOf c) h in
-    record { joins-are = e; legend-is = rw e; places-are = λ i. ap (placeBy i) e }
-  where
-    placeBy : ℕ → List Join → ℕ
-    placeBy i js =
-        let ps = pieces js (keptOf c) in
-        elim (isAside (c .slips) (c .members) i)
-        [ true ↦ lowest 1 (slip (c .slips) i) (spelled (c .slips) ps) | false ↦ placeIn (c .slips) i 1 ps ]
+    record {
+      joins-are = e;
+      legend-is = rw e;
+      places-are = λ i. by-test (isAside (c .slips) (c .members) i) (λ t. rw (t, placeFor, e)) (λ t. rw (t, placeFor, e));
+    }
 
 pub stop-free : Stop-free
 stop-free s es accepted = all-count (whole (slipsOf s es))

@@ -3,7 +3,9 @@
 --   stopFree ss K    == no slip of K begins with a stop
 --   bound c t        == the most letters that the kept slips may have if the text t holds them
 --   Greedy c         == what is claimed of all that is composed
+--   Demand-3         == so for every accepted tray
 --   AllCount c       == joins, legend and places are as if all overlaps counted
+--   Stop-free        == so where no kept slip begins with a stop
 use mathlib.Core.Path.{_≡_}
 use mathlib.Core.Bool.{Bool, true, _&&_, not}
 use mathlib.Core.List.{List, [], _∷_}
@@ -51,7 +53,6 @@ pub record AllCount (c : Composing) : Type 0 where
   pub legend-is : legendOf c ≡ legendFor nonEmpty (c .slips) (c .members)
   pub places-are : (i : ℕ) → placeOf c i ≡ placeFor nonEmpty (c .slips) (c .members) i
 
--- so it is where no kept slip begins with a stop
 abbrev pub Stop-free : Type 0
 Stop-free =
     (s es : List ℕ) → trayFault s es .number ≡ 0 → let c = whole (slipsOf s es) in stopFree (c .slips) (keptOf c) ≡ true → AllCount c

@@ -50,7 +50,8 @@ pub kept-members : kept (map word ("AB" ∷ "AB" ∷ "ABC" ∷ [])) (2 ∷ []) �
 kept-members = refl
 
 -- stops alone do not count; a string that begins or ends with a stop may
-pub counted-specimens : map (λ w. counted (word w)) ("" ∷ "." ∷ ".." ∷ ".A" ∷ "A." ∷ ".A." ∷ "B" ∷ []) ≡ (false ∷ false ∷ false ∷ true ∷ true ∷ true ∷ true ∷ [])
+pub counted-specimens :
+    map (λ w. counted (word w)) ("" ∷ "." ∷ ".." ∷ ".A" ∷ "A." ∷ ".A." ∷ "B" ∷ []) ≡ (false ∷ false ∷ false ∷ true ∷ true ∷ true ∷ true ∷ [])
 counted-specimens = refl
 
 pub overlap-specimens : List (Specimen (String × String) ℕ)

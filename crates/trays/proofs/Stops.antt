@@ -1,8 +1,8 @@
 -- Stops: which overlap strings count.
 --   counted-counts  == what begins with a string that counts does, and the empty string does not
 --   overlapFor-free == the overlap with a string that begins with no stop is the plain one
---   after-counts    == of two strings of signs that are as long, the second one counts
--- The stop is the lowest sign, so a string of stops alone has none before it that is as long.
+--   after-counts    == a string counts if one of signs comes before it that is as long
+-- The stop is the lowest sign, so no string of signs comes before one of stops alone that is as long.
 use mathlib.Core.Path.{_≡_, refl}
 use mathlib.Core.Bool.{true, false, not, _&&_}
 use mathlib.Core.List.{List, [], _∷_}

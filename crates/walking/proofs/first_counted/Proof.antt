@@ -22,5 +22,5 @@ returns-3 : tie.Need-returns-3
 returns-3 c = search first-skips
 
 pub first-counted-spec : {M : Type 1} → statement M
-first-counted-spec = tie.close (tie.spec (λ c κs. search needs) returns at-requires-2 (λ c. search needs) sub-start (λ c. search needs) (λ c. search needs) part-counts-end
-    (λ c κs. search needs) returns-2 (λ c. search needs) returns-3)
+first-counted-spec = tie.close (tie.spec (λ c κs. search needs) returns at-requires-2 (λ c. search needs) sub-start (λ c. search needs)
+    (λ c. search needs) part-counts-end (λ c κs. search needs) returns-2 (λ c. search needs) returns-3)
