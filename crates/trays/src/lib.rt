@@ -43,8 +43,7 @@ pub fn refuse(number: u8, detail: u32) -> Refusal
     Refusal { number, detail }
 }
 
-// Whether an overlap string counts: some letter of it is no stop. From the last letter on, since the walk asks of the lowest string of a row, which
-// begins with stops if any does.
+// Whether an overlap string counts: some letter of it is no stop. It looks from the last letter on for a reason of layout alone (docs/STEPS.md).
 pub fn counts(x: &[u8]) -> bool
     ensures { λ r. ⌜ r ≡ counted (now (x .entry)) ⌝ }
 {
