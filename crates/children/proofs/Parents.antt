@@ -14,9 +14,8 @@ use native.Mathlib.Decide.{decLt}
 use native.Mathlib.Omega.{arith}
 use lib.Dec.{ltb, leb}
 use lib.ListN.{length, getD, take}
-use lib.Seq.{take-suc, length-take-le}
+use lib.Seq.{take-suc}
 use borrow.Author.Tests.{lt-ltb, le-ltb, le-leb, lt-leb}
-use Rattle.trays.specs.Limits.{maxLetters}
 use Rattle.trays.specs.Slips.{slip, startOf}
 use Rattle.tables.specs.Tables.{Got}
 use Rattle.matching.specs.Nodes.{nodes, string, IsNode, Num}
@@ -25,8 +24,9 @@ use Rattle.matching.proofs.Numbered as T
 use Rattle.layout.specs.Layout.{AT, OWN, LEVEL, KID}
 use Rattle.layout.specs.Tables.{cell, members, Owned}
 use Rattle.layout.specs.Numbered.{Numbered, SameBelow}
-use Rattle.layout.proofs.Frames.{letter-within, letter-place, letter-is}
+use Rattle.layout.proofs.Frames.{letter-is}
 use Rattle.layout.proofs.AreaSlips.{AreaSlips, areaSlips}
+use Rattle.layout.proofs.OwnLaws.{owned-length, owned-place}
 use Rattle.children.specs.Children.{parentOf, letterOf, ParentCells, Lettered}
 
 -- the two ways of `parent`
@@ -74,20 +74,10 @@ module _ {s es : List ℕ} {n count : ℕ} {w : List ℕ} (N : Numbered s es n c
         ap (λ p. getD s p 0) (o .place) ∙ letter-is s es (N .accepted) (o .member) (o .letter) h l (o .within) in
         rw e (sym (o .beginning) ∙ take-suc x (o .letter) 0 (o .within))
 
-    owned-length : length (string ps v) ≡ suc (o .letter)
-    owned-length = ap length (sym (o .beginning)) ∙ length-take-le (suc (o .letter)) (slip ss (o .member)) (o .within)
-
-    owned-place : (cell w OWN v < length s) × (cell w OWN v < maxLetters)
-    owned-place =
-        let (h, l) = N .real (o .member) (o .among) in
-        let a = letter-within s es (N .accepted) (o .member) (o .letter) h l (o .within) in
-        let b = letter-place s es (N .accepted) (o .member) (o .letter) h l (o .within) in
-        (omega (arith, o .place), omega (arith, o .place))
-
     parent-is : IsNode ps (parentOf w v) (take (o .letter) (slip ss (o .member)))
     parent-is =
         let x = slip ss (o .member) in
-        let l = owned-length in
+        let l = owned-length N v m in
         elim (decLt v (cell w LEVEL 2)) [
           | yes h ↦
               let e : o .letter ≡ 0 =
@@ -107,17 +97,17 @@ module _ {s es : List ℕ} {n count : ℕ} {w : List ℕ} (N : Numbered s es n c
       let m : Num ps v = record { some = h; inside = omega (arith, N .all-nodes) } in
       let r = N .room in
       let f = N .few-nodes in
-      let p = owned-place v m in
+      let p = owned-place N v m in
       record {
         levels = omega arith;
         own = omega arith;
-        before = λ k. (omega (arith, N .level .back 2 v (omega arith) (omega arith) m k, owned-length v m, N .own v m .place), omega (arith, p .1));
+        before = λ k. (omega (arith, N .level .back 2 v (omega arith) (omega arith) m k, owned-length N v m, N .own v m .place), omega (arith, p .1));
       }
 
   pub lettered : {v : ℕ} → 1 ≤ v → v ≤ count → Lettered s w v
   lettered {v} h l =
       let m : Num ps v = record { some = h; inside = omega (arith, N .all-nodes) } in
-      record { own = placed h l .own; within = owned-place v m .0 }
+      record { own = placed h l .own; within = owned-place N v m .0 }
 
   -- cells above those of the numbering do not tell
   pub parent-kept : (w′ : List ℕ) (v : ℕ) → SameBelow KID w w′ → 1 ≤ v → v ≤ count → parentOf w′ v ≡ parentOf w v
@@ -126,7 +116,7 @@ module _ {s es : List ℕ} {n count : ℕ} {w : List ℕ} (N : Numbered s es n c
       let a : cell w′ LEVEL 2 ≡ cell w LEVEL 2 = k .cells (LEVEL + 2) (omega arith) in
       let b : cell w′ OWN v ≡ cell w OWN v = k .cells (OWN + v) (omega (arith, N .few-nodes)) in
       let c : cell w′ AT (cell w OWN v - 1) ≡ cell w AT (cell w OWN v - 1) =
-      k .cells (AT + (cell w OWN v - 1)) (omega (arith, owned-place v m .1)) in
+      k .cells (AT + (cell w OWN v - 1)) (omega (arith, owned-place N v m .1)) in
       rw (a, b, c)
 
   pub parents-tree : T.Tree (nodes ps) (parentOf w) (letterOf s w)

@@ -29,7 +29,7 @@ kept-lower a h k = record { same = k .same; cells = λ p l. k .cells p (omega ar
 
 -- a letter of a slip stands within the letters
 module _ (s es : List ℕ) (acc : trayFault s es .number ≡ 0) (i c : ℕ) (some : 1 ≤ i) (real : i ≤ length es) (within : c < length (slip (slipsOf s es) i)) where
-  letter-span : c < endOf es i - startOf es i
+  pub letter-span : c < endOf es i - startOf es i
   letter-span =
       omega (arith, rw (span-slip s es acc i some real, length-take, length-drop) at within)
 

@@ -4,3 +4,4 @@ pub mod Frames
 pub mod RowLaws
 pub mod Heads
 pub mod AreaSlips
+pub mod OwnLaws
