@@ -16,7 +16,7 @@ use trays::STOP;
 use trays::refuse;
 
 // Whether a byte is one of the 27 signs.
-fn is_letter(b: u8) -> bool
+pub fn is_letter(b: u8) -> bool
     ensures { λ r. ⌜ r ≡ S.isLetter b ⌝ }
 {
     if b == STOP {

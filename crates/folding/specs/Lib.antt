@@ -1,0 +1,2 @@
+-- How the bytes of tray files and text files are filed.
+pub mod Folding
