@@ -2,13 +2,14 @@
 -- computes another value.
 --   composeFile   == the sample tray, as `compose` reads it
 use mathlib.Core.Path.{_≡_, refl}
-use mathlib.Core.List.{List, [], _∷_, map}
+use mathlib.Core.List.{List, [], _∷_, _++_, map}
 use Prim.Native.Nat.{ℕ}
 use Prim.Native.String.{String}
 use lib.ListN.{replicate}
 use Rattle.words.specs.Quoted.{word}
 use Rattle.trays.specs.declared.Refusal.{Refusal}
 use Rattle.trays.specs.Faults.{refusal}
+use Rattle.folding.specs.Folding.{fold}
 use Rattle.files.specs.Lines.{linesOf}
 use Rattle.files.specs.Faults.{readFault}
 use Rattle.files.specs.Answers.{lettersOf, endsFrom, readOf}
@@ -21,10 +22,23 @@ unfolding readFault
 compose-answer = refl
 
 pub compose-letters : lettersOf (linesOf composeFile) ≡ word "IMPCAESAESCAESAVGVGPIVSSIMP"
+unfolding fold
 compose-letters = refl
 
 pub compose-ends : endsFrom 0 (linesOf composeFile) ≡ 7 ∷ 10 ∷ 17 ∷ 23 ∷ 27 ∷ []
 compose-ends = refl
+
+-- as readers type it, with a digit and a CR in slip 3: letters are filed folded, those two as 0, and each length counts the bytes of the line
+abbrev typedFile : List ℕ
+typedFile = word "   1   5 Avg.u\n   2   3 UVA\n   3   4 uj1\r\n"
+
+typed-letters : lettersOf (linesOf typedFile) ≡ word "AVG.VVVAVI" ++ (0 ∷ 0 ∷ [])
+unfolding fold
+typed-letters = refl
+
+typed-answer : readOf typedFile 16384 1700 ≡ record { number = 0; detail = 0; letters = 12; slips = 3 }
+unfolding readFault
+typed-answer = refl
 
 -- the empty tray, and a slip without letters
 empty-answer : readOf [] 16384 1700 ≡ record { number = 0; detail = 0; letters = 0; slips = 0 }
@@ -46,8 +60,8 @@ layouts = refl
 
 numbers-and-lengths :
     map found ("   2   2 AVG\n" ∷ "   0   3 AVG\n" ∷ "   1   2 AVG\n" ∷ "   1   3 AVG\n   1   3 AES\n"
-    ∷ "   1   3 AVG\n   2   0 \n" ∷ "   1  10 IMPCAESAVG\n" ∷ [])
-    ≡ refusal 18 1 ∷ refusal 18 1 ∷ refusal 19 1 ∷ refusal 18 2 ∷ refusal 0 0 ∷ refusal 0 0 ∷ []
+    ∷ "   1   3 AVG\n   2   0 \n" ∷ "   1  10 IMPCAESAVG\n" ∷ "   1   3 AVG\r\n" ∷ "   1   4 AVG\r\n" ∷ [])
+    ≡ refusal 18 1 ∷ refusal 18 1 ∷ refusal 19 1 ∷ refusal 18 2 ∷ refusal 0 0 ∷ refusal 0 0 ∷ refusal 19 1 ∷ refusal 0 0 ∷ []
 unfolding readFault
 numbers-and-lengths = refl
 

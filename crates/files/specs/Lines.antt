@@ -7,7 +7,6 @@
 --   slipField l    == the slip number of the line l
 --   lengthField l  == its stated length
 --   isLaidOut l    == l has the layout of a tray line
---   filed b        == the letter b as it is filed, here the byte itself
 --   letters l      == the letters of l, as they are filed
 use mathlib.Core.Bool.{Bool, true, false, _&&_}
 use mathlib.Core.List.{List, [], _∷_, map}
@@ -15,6 +14,7 @@ use Prim.Native.Nat.{ℕ, suc, _+_, _-_, _*_}
 use lib.Dec.{eqb, leb}
 use lib.ListN.{length, getD, take, drop}
 use Rattle.words.specs.Lists.{headOr, lastOr}
+use Rattle.folding.specs.Folding.{fold}
 
 abbrev pub lf : ℕ
 lf = 10
@@ -58,8 +58,6 @@ abbrev pub isLaidOut : List ℕ → Bool
 isLaidOut l =
     leb 10 (length l) && (eqb (lastOr 0 l) lf && (leb 1 (slipField l) && (leb 1 (lengthField l) && eqb (getD l 8 0) blank)))
 
-abbrev pub filed : ℕ → ℕ
-filed b = b
-
+-- Folding comes before the tray checks; columns 1 to 9 and the count of letters are those of the line as it stands.
 abbrev pub letters : List ℕ → List ℕ
-letters l = map filed (take (length l - 10) (drop 9 l))
+letters l = map fold (take (length l - 10) (drop 9 l))

@@ -13,17 +13,24 @@ use native.Mathlib.Omega.{arith}
 use lib.ListN.{length, take, drop, set, length-append, length-drop, take-append-drop, drop-of-length-le}
 use lib.Seq.{take-all, length-take-le, drop-drop, take-append-le, drop-append-le}
 use Rattle.words.specs.Lists.{over}
-use Rattle.words.proofs.Buffers.{length-over, over-set}
+use Rattle.words.proofs.Buffers.{length-over, over-set, over-part}
 use Rattle.trays.specs.Limits.{maxFile, endsNeed}
 use Rattle.trays.specs.Faults.{accepted}
-use Rattle.files.specs.Lines.{linesOf, firstLine, filed, letters}
+use Rattle.folding.specs.Folding.{fold}
+use Rattle.files.specs.Lines.{linesOf, firstLine, letters}
 use Rattle.files.specs.Faults.{lineFault, linesFault}
 use Rattle.files.specs.Answers.{lettersOf, endsFrom}
 use Rattle.reading.specs.steps.Copying.{Lent, Copied}
 use Rattle.files.proofs.FirstLines.{lines-at, first-take, first-length}
 use Rattle.files.proofs.LineFaults.{letters-length, or-accepted, long-enough}
 use Rattle.files.proofs.SlipsRead.{length-ends}
-use Rattle.reading.proofs.LentParts.{over-mid}
+
+-- the part of a buffer from n on is lent, and p comes back in its place
+over-mid : (xs ys old z p : List ℕ) (n : ℕ) → length xs ≡ n → z ≡ over xs old
+    → p ≡ over ys (take (length z - n) (drop n z)) → putMid n (length z - n) z p ≡ over (xs ++ ys) old
+over-mid xs ys old z p n e w f =
+    let d : length (drop n z) ≤ length z - n = rw length-drop (omega arith) in
+    rw (f, take-all (length z - n) (drop n z) d, drop-of-length-le (drop n z) d, append-nil, w) (over-part xs ys old n e)
 
 -- one member more
 next-drop : {A : Type 0} (n : ℕ) (xs : List A) {x : A} {rest : List A} → drop n xs ≡ x ∷ rest → drop (suc n) xs ≡ rest
@@ -115,13 +122,13 @@ module _ (s a b a′ b′ : List ℕ) (at count slips : ℕ) (t : Lent s a b) (i
     abbrev many : ℕ
     many = next - 1 - (at + 9)
 
-    filed-letters : map filed (take many (drop (at + 9) s)) ≡ letters l
+    filed-letters : map fold (take many (drop (at + 9) s)) ≡ letters l
     filed-letters =
         let n : many ≡ length l - 10 = omega (arith, turn) in
         let x : l ++ drop (length l) (drop at s) ≡ drop at s = rw (first-take (drop at s)) at (take-append-drop (length l) (drop at s)) in
-        rw (n, ← drop-drop 9 at s) (ap (map filed) (line-letters (drop at s) l _ (sym x) (turn .long)))
+        rw (n, ← drop-drop 9 at s) (ap (map fold) (line-letters (drop at s) l _ (sym x) (turn .long)))
 
-    pub passed-more : (p : List ℕ) → p ≡ over (map filed (take many (drop (at + 9) s))) (take (length a′ - count) (drop count a′))
+    pub passed-more : (p : List ℕ) → p ≡ over (map fold (take many (drop (at + 9) s))) (take (length a′ - count) (drop count a′))
         → Passed s a b (putMid count (length a′ - count) a′ p) (set b′ slips (count + many)) next (count + many) (slips + 1)
     passed-more p f = record {
       left = rw (e, add-one) (sym (next-drop slips (linesOf s) next-lines));

@@ -1,4 +1,3 @@
--- The loops that copy a tray file, turn by turn, and the ways through read_tray.
-pub mod LentParts
+-- The loop that copies a tray file, turn by turn, and the ways through read_tray.
 pub mod CopyTurns
 pub mod ReadRows

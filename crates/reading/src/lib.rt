@@ -1,10 +1,5 @@
-// A tray file is read: it is checked before it is copied.
+// A tray file is read: it is checked before it is copied, and its letters are folded in the copy.
 ghost use mathlib.Core.Path.{_≡_};
-ghost use mathlib.Core.List.{map};
-ghost use Prim.Native.Nat.{_≤_};
-ghost use lib.ListN.{length};
-ghost use Rattle.words.specs.Lists.{over};
-ghost use Rattle.files.specs.Lines as L;
 ghost use Rattle.files.specs.Faults as F;
 ghost use Rattle.files.specs.Answers.{Reading};
 ghost use Rattle.reading.specs.steps.Copying.{Lent, Copied};
@@ -30,25 +25,6 @@ fn check_file(file: &[u8], letters: usize, ends: usize) -> Refusal
     readers::check_lines(file)
 }
 
-// A letter as it is filed.
-fn filed(b: u8) -> u8
-    ensures { λ r. ⌜ r ≡ L.filed b ⌝ }
-{
-    b
-}
-
-// Letters are filed into the first part of a buffer.
-fn file_letters(from: &[u8], to: &mut [u8])
-    requires { ⌜ length (now from) ≤ length (now to) ⌝ }
-    ensures { λ r. ⌜ now (to .exit) ≡ over (map L.filed (now (from .entry))) (now (to .entry)) ⌝ }
-{
-    let mut i: usize = 0;
-    while i < from.len() {
-        to[i] = filed(from[i]);
-        i += 1;
-    }
-}
-
 // The letters and ends of a file without a fault.
 fn copy_file(file: &[u8], letters: &mut [u8], ends: &mut [u16]) -> Read
     requires { ⌜ Lent (now file) (now letters) (now ends) ⌝ }
@@ -62,7 +38,7 @@ fn copy_file(file: &[u8], letters: &mut [u8], ends: &mut [u16]) -> Read
         // a good line has its letters behind 9 columns, and an LF behind them
         let start = at + 9;
         let end = next - 1;
-        file_letters(&file[start..end], &mut letters[count..]);
+        folding::file_letters(&file[start..end], &mut letters[count..]);
         count += end - start;
         ends[slips] = count as u16;
         slips += 1;
