@@ -1,7 +1,7 @@
 // Opens TRAY.TXT and TEXT.TXT and writes the sheet of the text's occurrences.
 
 // Writes the sheet of a tray file and a text file. The list takes 8,000 occurrences, two numbers each.
-fn print_sheet(tray: &[u8], text: &[u8]) {
+fn print_sheet(tray: &[u8], text: &mut [u8]) {
     let mut letters = [0u8; 16384];
     let mut ends = [0u16; 1700];
     let mut work = [0u16; 32000];
@@ -38,7 +38,7 @@ fn print_files(tray: i32, text: i32) {
     }
     let n = tray_came.count;
     let m = text_came.count;
-    print_sheet(&tray_file[..n], &text_file[..m]);
+    print_sheet(&tray_file[..n], &mut text_file[..m]);
 }
 
 // Both are opened before either is checked.

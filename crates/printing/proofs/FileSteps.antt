@@ -22,10 +22,10 @@ use Rattle.files.specs.Answers.{goodOf, readOf, Reading}
 use Rattle.files.proofs.SlipsRead.{length-ends, letters-first, ends-first}
 use Rattle.sheets.specs.Sheets.{detailWidth, refusedLine, refusedSize, composeSheetOf, findSheetOf, maxFound}
 use Rattle.sheet_lines.specs.steps.Lines.{Printed}
-use Rattle.sheets.specs.Programs.{lettersIn, endsIn, traySheet, composeSheetFault, composeSheet, textOf, textFault, textSheet, findSheetFault, findSheet}
+use Rattle.sheets.specs.Programs.{lettersIn, endsIn, traySheet, composeSheetFault, composeSheet, textIn, textFault, textSheet, findSheetFault, findSheet}
 use Rattle.sheet_sizes.proofs.RefusalsFit.{read-refusal-fits}
 use Rattle.sheet_sizes.proofs.Printing.{printed-is}
-use Rattle.text_sheets.specs.steps.Lent.{TextRoom, Trimmed}
+use Rattle.text_sheets.specs.steps.Lent.{TextRoom, Filed}
 use Rattle.printing.specs.steps.Lent.{FileRoom, ComposeRoom, FindRoom}
 
 -- what turns the file itself back, whatever is lent
@@ -131,7 +131,7 @@ module _ (s : List ℕ) where
 
 -- what `find` prints, where f turns the files back
 abbrev found : List ℕ → List ℕ → Refusal → List ℕ
-found s x f = elim (f .number) [ zero ↦ findSheetOf (slipsOf (lettersIn s) (endsIn s)) (textOf x) | suc n ↦ refusedLine f ]
+found s x f = elim (f .number) [ zero ↦ findSheetOf (slipsOf (lettersIn s) (endsIn s)) (textIn x) | suc n ↦ refusedLine f ]
 
 -- of a list that takes at least as many occurrences as `find` lists, just so many are lent
 pub found-lent : (a b w f o : List ℕ) → FindRoom a b w f o → 2 * maxFound ≡ length (take (2 * maxFound) f)
@@ -145,15 +145,15 @@ pub find-can : (s a b w f o : List ℕ) → FindRoom a b w f o → (a′ b′ : 
 find-can s a b w f o room a′ b′ r t z = refused-can s a b (room .file) a′ b′ r t z o (omega (arith, room .sheet))
 
 module _ (s x : List ℕ) where
-  find-silent : own s .number ≡ 0 → findSheet s x ≡ textSheet (lettersIn s) (endsIn s) (textOf x)
+  find-silent : own s .number ≡ 0 → findSheet s x ≡ textSheet (lettersIn s) (endsIn s) (textIn x)
   unfolding findSheet findSheetFault
-  find-silent h = ap (found s x) (or-zero (own s) (textFault (lettersIn s) (endsIn s) (textOf x)) h)
+  find-silent h = ap (found s x) (or-zero (own s) (textFault (lettersIn s) (endsIn s) (textIn x)) h)
 
   find-speaks : (n : ℕ) → own s .number ≡ suc n → findSheet s x ≡ refusedLine (own s)
   unfolding findSheet findSheetFault
   find-speaks n h =
-      ap (found s x) (or-some (own s) (textFault (lettersIn s) (endsIn s) (textOf x)) (omega arith))
-      ∙ ap {B = List ℕ} (λ (m : ℕ). elim m [ zero ↦ findSheetOf (slipsOf (lettersIn s) (endsIn s)) (textOf x) | suc k ↦ refusedLine (own s) ]) h
+      ap (found s x) (or-some (own s) (textFault (lettersIn s) (endsIn s) (textIn x)) (omega arith))
+      ∙ ap {B = List ℕ} (λ (m : ℕ). elim m [ zero ↦ findSheetOf (slipsOf (lettersIn s) (endsIn s)) (textIn x) | suc k ↦ refusedLine (own s) ]) h
 
   module _ (a b w f o : List ℕ) (room : FindRoom a b w f o) (a′ b′ : List ℕ) (r : Read) (t : Reading s a a′ b b′ r) where
     pub find-refused : (r .number ≡ 0 → ⊥) → (o′ : List ℕ) (k : ℕ) → Printed (refusedLine (refusal (r .number) (r .detail))) o o′ k →
@@ -163,8 +163,8 @@ module _ (s x : List ℕ) where
         printed-is (refusedLine (refusal (r .number) (r .detail))) (findSheet s x) o o′ k
         (ap refusedLine (refused-as s a b (room .file) a′ b′ r t z) ∙ sym (find-speaks n h)) p
 
-    pub find-printed : r .number ≡ 0 → (m : ℕ) → Trimmed x m → (o′ : List ℕ) (k : ℕ) →
-        Printed (textSheet (take (r .letters) a′) (take (r .slips) b′) (take m x)) o o′ k → Printed (findSheet s x) o o′ k
-    find-printed z m q o′ k p =
-        printed-is (textSheet (take (r .letters) a′) (take (r .slips) b′) (take m x)) (findSheet s x) o o′ k
+    pub find-printed : r .number ≡ 0 → (x′ : List ℕ) (m : ℕ) → Filed x x′ m → (o′ : List ℕ) (k : ℕ) →
+        Printed (textSheet (take (r .letters) a′) (take (r .slips) b′) (take m x′)) o o′ k → Printed (findSheet s x) o o′ k
+    find-printed z x′ m q o′ k p =
+        printed-is (textSheet (take (r .letters) a′) (take (r .slips) b′) (take m x′)) (findSheet s x) o o′ k
         (rw (letters-first s a a′ b b′ r t z, ends-first s a a′ b b′ r t z, q .is) (sym (find-silent (silent s a b (room .file) a′ b′ r t z)))) p

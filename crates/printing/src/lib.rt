@@ -27,10 +27,11 @@ pub fn compose_sheet(
     tray_sheets::tray_sheet(&letters[..n], &ends[..k], work, legend, out)
 }
 
-// The sheet that `find` prints for a tray file and a text file. Letters, ends, work area and occurrences are lent for the work.
+// The sheet that `find` prints for a tray file and a text file. Letters, ends, work area and occurrences are lent for the work; the text is folded
+// where it stands.
 pub fn find_sheet(
     tray: &[u8],
-    text: &[u8],
+    text: &mut [u8],
     letters: &mut [u8],
     ends: &mut [u16],
     work: &mut [u16],
@@ -46,7 +47,7 @@ pub fn find_sheet(
     }
     let n = got.letters as usize;
     let k = got.slips as usize;
-    let m = text_sheets::text_length(text);
+    let m = text_sheets::file_text(text);
     text_sheets::text_sheet(
         &letters[..n],
         &ends[..k],

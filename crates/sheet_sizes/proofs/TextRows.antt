@@ -22,7 +22,7 @@ use Rattle.answers.specs.Finding.{textRows, listRow}
 use Rattle.sheets.specs.Sheets.{findSheetOf, findRoom, maxFound, refusedLine}
 use Rattle.sheet_sizes.specs.Fits.{RefusalFits}
 use Rattle.sheet_lines.specs.steps.Lines.{Printed}
-use Rattle.sheets.specs.Programs.{lettersIn, endsIn, textOf, textFault, findSheetFault, findSheet}
+use Rattle.sheets.specs.Programs.{lettersIn, endsIn, textIn, textFault, findSheetFault, findSheet}
 use Rattle.sheet_sizes.proofs.Fitting.{find-fits}
 use Rattle.sheet_sizes.proofs.RefusalsFit.{row-fits, or-fits, rows-fit, badPlace-most, tray-refusal-fits, read-refusal-fits}
 use Rattle.sheet_sizes.proofs.Sizes.{refused-size, find-most}
@@ -70,20 +70,20 @@ module _ (s es t : List ℕ) where
 -- what is printed, where the refusal of the two files has the number n
 abbrev numbered : List ℕ → List ℕ → ℕ → List ℕ
 numbered file text n =
-    elim n [ zero ↦ findSheetOf (slipsOf (lettersIn file) (endsIn file)) (textOf text) | suc k ↦ refusedLine (findSheetFault file text) ]
+    elim n [ zero ↦ findSheetOf (slipsOf (lettersIn file) (endsIn file)) (textIn text) | suc k ↦ refusedLine (findSheetFault file text) ]
 
 module _ (file text : List ℕ) where
   pub find-refusal-fits : RefusalFits (findSheetFault file text)
   unfolding findSheetFault
   find-refusal-fits =
-      or-fits (readFault file maxFile endsNeed) (textFault (lettersIn file) (endsIn file) (textOf text)) (read-refusal-fits file maxFile endsNeed)
-      (λ z. text-refusal-fits (lettersIn file) (endsIn file) (textOf text))
+      or-fits (readFault file maxFile endsNeed) (textFault (lettersIn file) (endsIn file) (textIn text)) (read-refusal-fits file maxFile endsNeed)
+      (λ z. text-refusal-fits (lettersIn file) (endsIn file) (textIn text))
 
-  files-tell : findSheetFault file text .number ≡ 0 → TextAccepted (lettersIn file) (endsIn file) (textOf text)
+  files-tell : findSheetFault file text .number ≡ 0 → TextAccepted (lettersIn file) (endsIn file) (textIn text)
   unfolding findSheetFault
   files-tell h =
-      text-tells (lettersIn file) (endsIn file) (textOf text)
-      (both-silent (readFault file maxFile endsNeed) (textFault (lettersIn file) (endsIn file) (textOf text)) h .1)
+      text-tells (lettersIn file) (endsIn file) (textIn text)
+      (both-silent (readFault file maxFile endsNeed) (textFault (lettersIn file) (endsIn file) (textIn text)) h .1)
 
   pub find-sheet-most : length (findSheet file text) ≤ findRoom
   unfolding findSheet
@@ -91,9 +91,9 @@ module _ (file text : List ℕ) where
     where
       go : (n : ℕ) → findSheetFault file text .number ≡ n → length (findSheet file text) ≤ findRoom
       go zero h =
-          let e : findSheet file text ≡ findSheetOf (slipsOf (lettersIn file) (endsIn file)) (textOf text) = ap (numbered file text) h in
+          let e : findSheet file text ≡ findSheetOf (slipsOf (lettersIn file) (endsIn file)) (textIn text) = ap (numbered file text) h in
           let a = files-tell h in
-          rw e (find-most (lettersIn file) (endsIn file) (a .tray) (textOf text) (a .short) (a .few))
+          rw e (find-most (lettersIn file) (endsIn file) (a .tray) (textIn text) (a .short) (a .few))
       go (suc n) h =
           let e : findSheet file text ≡ refusedLine (findSheetFault file text) = ap (numbered file text) h in
           rw e (omega (arith, refused-size (findSheetFault file text) find-refusal-fits))

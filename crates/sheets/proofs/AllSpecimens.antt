@@ -6,6 +6,7 @@ use Prim.Native.Nat.{ℕ}
 use lib.ListN.{replicate}
 use Rattle.words.specs.Quoted.{word}
 use Rattle.trays.specs.Faults.{refusal, trayFault}
+use Rattle.folding.specs.Folding.{fold}
 use Rattle.files.specs.Faults.{readFault}
 use Rattle.sheets.specs.Sheets.{decimal, column, composeSheetOf, findSheetOf, refusedLine}
 use Rattle.sheets.specs.Programs.{composeSheetFault, composeSheet, textFault, findSheetFault, findSheet}
@@ -48,7 +49,8 @@ pub compose-file-specimens :
     ∷ word "   2   0 \n"
     ∷ word "   1   2 AVG\n"
     ∷ word "   1   0 \n"
-    ∷ word "   1   2 av\n" ∷ [])
+    ∷ word "   1   2 a1\n"
+    ∷ word "   1   3 avg\n   2   2 UG\n" ∷ [])
     ≡ (word "TRAY   5   4   24    9   15\n   1   7    2 K\n   2   3    6 S\n   3   7    5 K\n   4   6   10 K\n   5   4    1 K\n   1   3   4\n   5   1   3\n   3   4   2\nSIMPCAESAVGPIVS\n"
     ∷ word "TRAY   0   0    0    0    0\n\n"
     ∷ word "REFUSED  17     2\n"
@@ -56,35 +58,37 @@ pub compose-file-specimens :
     ∷ word "REFUSED  18     1\n"
     ∷ word "REFUSED  19     1\n"
     ∷ word "REFUSED   2     1\n"
-    ∷ word "REFUSED   6     1\n" ∷ [])
-unfolding decimal column composeSheetOf trayFault readFault composeSheetFault composeSheet
+    ∷ word "REFUSED   6     1\n"
+    ∷ word "TRAY   2   1    3    0    3\n   1   3    1 K\n   2   2    2 S\nAVG\n" ∷ [])
+unfolding decimal column composeSheetOf trayFault fold readFault composeSheetFault composeSheet
 compose-file-specimens = refl
 
--- from both files' bytes: the rules' text with and without LF, no text, and what is turned back, the tray before the text
+-- from both files' bytes: the rules' text with and without LF and in small letters, no text, and what is turned back, the tray before the text
 abbrev sample : List ℕ
 sample = word "   1   7 IMPCAES\n   2   3 AES\n   3   7 CAESAVG\n   4   6 VGPIVS\n   5   4 SIMP\n"
 
 pub find-file-specimens :
-    map (findSheet sample) (word "IMPCAESAVG\n" ∷ word "IMPCAESAVG" ∷ [] ∷ word "\n" ∷ word "IMPCAESAVG\n\n" ∷ word "AVg" ∷ [])
+    map (findSheet sample) (word "IMPCAESAVG\n" ∷ word "IMPCAESAVG" ∷ word "jmpcaesaUg\n" ∷ [] ∷ word "\n" ∷ word "IMPCAESAVG\n\n" ∷ word "av\ng7\n" ∷ [])
     ≡ (word "FIND  10  11     3\n   7   1\n   7   2\n  10   3\n"
+    ∷ word "FIND  10  11     3\n   7   1\n   7   2\n  10   3\n"
     ∷ word "FIND  10  11     3\n   7   1\n   7   2\n  10   3\n"
     ∷ word "FIND   0   0     0\n"
     ∷ word "FIND   0   0     0\n"
     ∷ word "REFUSED  13    11\n"
     ∷ word "REFUSED  13     3\n" ∷ [])
-unfolding decimal column findSheetOf trayFault readFault textFault findSheetFault findSheet
+unfolding decimal column findSheetOf trayFault fold readFault textFault findSheetFault findSheet
 find-file-specimens = refl
 
 pub find-tray-specimens :
-    map (λ (file : List ℕ). findSheet file (word "av"))
-    (word "   1   3 AVG\n   2   3 AVG" ∷ word "   1   2 av\n   3   2 av\n" ∷ word "   1   2 av\n" ∷ [] ∷ [])
+    map (λ (file : List ℕ). findSheet file (word "7v"))
+    (word "   1   3 AVG\n   2   3 AVG" ∷ word "   1   2 a7\n   3   2 a7\n" ∷ word "   1   2 a7\n" ∷ [] ∷ [])
     ≡ (word "REFUSED  17     2\n" ∷ word "REFUSED  18     2\n" ∷ word "REFUSED   6     1\n" ∷ word "REFUSED  13     1\n" ∷ [])
-unfolding decimal column findSheetOf trayFault readFault textFault findSheetFault findSheet
+unfolding decimal column findSheetOf trayFault fold readFault textFault findSheetFault findSheet
 find-tray-specimens = refl
 
 -- 2,000 letters with their LF, and one more
 pub long-text-specimens :
     map (findSheet []) ((replicate 2000 65 ++ word "\n") ∷ (replicate 2001 65 ++ word "\n") ∷ [])
     ≡ (word "FIND20002000     0\n" ∷ word "REFUSED  12     0\n" ∷ [])
-unfolding decimal column findSheetOf trayFault readFault textFault findSheetFault findSheet
+unfolding decimal column findSheetOf trayFault fold readFault textFault findSheetFault findSheet
 long-text-specimens = refl

@@ -8,7 +8,7 @@ use Prim.Native.Nat.{ℕ, zero, suc, _+_, _-_, _≤_, _<_}
 use borrow.Author.Tests.{lt-ltb, ltb-true, ltb-false}
 use native.Mathlib.Omega.{arith}
 use lib.Dec.{eqb, ltb}
-use lib.ListN.{length, take}
+use lib.ListN.{length, take, length-map}
 use lib.Seq.{take-all, length-take-le}
 use Rattle.words.specs.Lists.{lastOr}
 use Rattle.words.proofs.Tests.{by-test}
@@ -17,11 +17,12 @@ use Rattle.trays.specs.Limits.{maxText, maxFile, endsNeed}
 use Rattle.trays.specs.Slips.{slipsOf}
 use Rattle.trays.specs.Faults.{refusal, orElse, firstRow, trayRows, trayFault}
 use Rattle.trays.proofs.Rows.{both-silent, rows-append}
+use Rattle.folding.specs.Folding.{fold}
 use Rattle.files.specs.Lines.{lf}
 use Rattle.files.specs.Faults.{readFault}
 use Rattle.answers.specs.Finding.{textRows, listRow}
 use Rattle.sheets.specs.Sheets.{composeSheetOf, findSheetOf, refusedLine, maxFound}
-use Rattle.sheets.specs.Programs.{lettersIn, endsIn, composeSheetFault, composeSheet, textOf, textFault, findSheetFault, findSheet}
+use Rattle.sheets.specs.Programs.{lettersIn, endsIn, composeSheetFault, composeSheet, textOf, textIn, textFault, findSheetFault, findSheet}
 
 -- by whether a list is longer than n
 by-length : {P : Type 0} (n : ℕ) (xs : List ℕ) → (length xs ≤ n → P) → (n < length xs → P) → P
@@ -51,11 +52,11 @@ compose-cut s =
 
 -- what `find` prints, where f turns its files back
 abbrev printed : List ℕ → List ℕ → Refusal → List ℕ
-printed s x f = elim (f .number) [ zero ↦ findSheetOf (slipsOf (lettersIn s) (endsIn s)) (textOf x) | suc n ↦ refusedLine f ]
+printed s x f = elim (f .number) [ zero ↦ findSheetOf (slipsOf (lettersIn s) (endsIn s)) (textIn x) | suc n ↦ refusedLine f ]
 
 find-file-long : (s x : List ℕ) → maxFile < length s → findSheet s x ≡ refusedLine (refusal 16 0)
 unfolding findSheet findSheetFault
-find-file-long s x h = ap {B = List ℕ} (λ (f : Refusal). printed s x (orElse f (textFault (lettersIn s) (endsIn s) (textOf x)))) (file-long s h)
+find-file-long s x h = ap {B = List ℕ} (λ (f : Refusal). printed s x (orElse f (textFault (lettersIn s) (endsIn s) (textIn x)))) (file-long s h)
 
 -- a text over its limit
 text-long : (s es t : List ℕ) → maxText < length t → textFault s es t ≡ orElse (trayFault s es) (refusal 12 0)
@@ -66,11 +67,12 @@ text-long s es t h = rows-append (trayRows s es) (textRows t ++ (listRow (slipsO
     first = rw (lt-ltb maxText (length t) h)
 
 -- the text lacks one byte of its file at most
-text-least : (x : List ℕ) → length x - 1 ≤ length (textOf x)
+text-least : (x : List ℕ) → length x - 1 ≤ length (textIn x)
 text-least x =
-    by-test (eqb (lastOr 0 x) lf)
+    rw (length-map (textOf x) fold)
+    (by-test (eqb (lastOr 0 x) lf)
     (λ t. rw (t, textOf) (omega (arith, length-take-le (length x - 1) x (omega arith))))
-    (λ t. rw (t, textOf) (omega arith))
+    (λ t. rw (t, textOf) (omega arith)))
 
 module _ (s : List ℕ) where
   -- what turns back a tray file beside a text that is too long
@@ -83,15 +85,15 @@ module _ (s : List ℕ) where
       let inner : refusal 12 0 .number ≡ 0 = both-silent (trayFault (lettersIn s) (endsIn s)) (refusal 12 0) (outer .1) .1 in
       omega arith
 
-  find-text-long : (x : List ℕ) → maxText < length (textOf x) → findSheet s x ≡ refusedLine fault
+  find-text-long : (x : List ℕ) → maxText < length (textIn x) → findSheet s x ≡ refusedLine fault
   unfolding findSheet findSheetFault
   find-text-long x h =
-      ap (λ (f : Refusal). printed s x (orElse (readFault s maxFile endsNeed) f)) (text-long (lettersIn s) (endsIn s) (textOf x) h)
+      ap (λ (f : Refusal). printed s x (orElse (readFault s maxFile endsNeed) f)) (text-long (lettersIn s) (endsIn s) (textIn x) h)
       ∙ go (fault .number) refl
     where
       go : (n : ℕ) → fault .number ≡ n → printed s x fault ≡ refusedLine fault
       go zero e = absurd (speaks e)
-      go (suc n) e = ap {B = List ℕ} (λ (m : ℕ). elim m [ zero ↦ findSheetOf (slipsOf (lettersIn s) (endsIn s)) (textOf x) | suc k ↦ refusedLine fault ]) e
+      go (suc n) e = ap {B = List ℕ} (λ (m : ℕ). elim m [ zero ↦ findSheetOf (slipsOf (lettersIn s) (endsIn s)) (textIn x) | suc k ↦ refusedLine fault ]) e
 
   find-text-cut : (x : List ℕ) → findSheet s (take (maxText + 2) x) ≡ findSheet s x
   find-text-cut x =

@@ -4,12 +4,13 @@
 --   composeSheetFault file          == what turns a tray file back: 16 to 19, then 1 to 6
 --   composeSheet file       == what `compose` prints
 --   textOf text             == the text of a text file: one final LF is not counted
+--   textIn text             == its letters, folded
 --   textFault s es t        == what turns a tray and a text back: 1 to 6, 12, 13, 14
 --   textSheet s es t        == what is printed of a tray and a text: a refusal, or the `find` sheet
 --   findSheetFault file text     == what turns a tray file and a text file back: 16 to 19, then these
 --   findSheet file text     == what `find` prints
 use mathlib.Core.Bool.{true, false}
-use mathlib.Core.List.{List, [], _∷_, _++_}
+use mathlib.Core.List.{List, [], _∷_, _++_, map}
 use Prim.Native.Nat.{ℕ, zero, suc, _-_}
 use lib.Dec.{eqb}
 use lib.ListN.{length, take}
@@ -18,6 +19,7 @@ use Rattle.trays.specs.declared.Refusal.{Refusal}
 use Rattle.trays.specs.Limits.{maxFile, endsNeed}
 use Rattle.trays.specs.Slips.{slipsOf}
 use Rattle.trays.specs.Faults.{orElse, firstRow, trayRows, trayFault}
+use Rattle.folding.specs.Folding.{fold}
 use Rattle.files.specs.Lines.{lf, linesOf}
 use Rattle.files.specs.Faults.{readFault}
 use Rattle.files.specs.Answers.{lettersOf, endsFrom}
@@ -46,6 +48,10 @@ composeSheet file =
 abbrev pub textOf : List ℕ → List ℕ
 textOf text = elim (eqb (lastOr 0 text) lf) [ true ↦ take (length text - 1) text | false ↦ text ]
 
+-- Folding: 12 counts what is left of the text, and 13 judges its bytes folded.
+abbrev pub textIn : List ℕ → List ℕ
+textIn text = map fold (textOf text)
+
 unfoldable pub textFault : List ℕ → List ℕ → List ℕ → Refusal
 textFault s es t = firstRow (trayRows s es ++ (textRows t ++ (listRow (slipsOf s es) t maxFound ∷ [])))
 
@@ -55,9 +61,9 @@ textSheet s es t =
     elim (f .number) [ zero ↦ findSheetOf (slipsOf s es) t | suc n ↦ refusedLine f ]
 
 unfoldable pub findSheetFault : List ℕ → List ℕ → Refusal
-findSheetFault file text = orElse (readFault file maxFile endsNeed) (textFault (lettersIn file) (endsIn file) (textOf text))
+findSheetFault file text = orElse (readFault file maxFile endsNeed) (textFault (lettersIn file) (endsIn file) (textIn text))
 
 unfoldable pub findSheet : List ℕ → List ℕ → List ℕ
 findSheet file text =
     let f = findSheetFault file text in
-    elim (f .number) [ zero ↦ findSheetOf (slipsOf (lettersIn file) (endsIn file)) (textOf text) | suc n ↦ refusedLine f ]
+    elim (f .number) [ zero ↦ findSheetOf (slipsOf (lettersIn file) (endsIn file)) (textIn text) | suc n ↦ refusedLine f ]

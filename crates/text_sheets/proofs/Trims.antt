@@ -1,18 +1,20 @@
--- The text of a text file: one final LF is not counted.
+-- The text of a text file: one final LF is not counted, and the letters are folded.
 --   trim-..        == the three ways through text_length
 --   trimmed-count  == the text is the first part of the file
+--   filed-..       == that part, folded where it stands
 use mathlib.Core.Path.{_≡_, refl, sym, _∙_, ap}
 use mathlib.Core.Bool.{Bool, true, false}
-use mathlib.Core.List.{List, [], _∷_}
+use mathlib.Core.List.{List, [], _∷_, _++_, map}
 use Prim.Native.Nat.{ℕ, _-_}
 use borrow.Author.Tests.{eq-eqb, ne-eqb}
 use native.Mathlib.Omega.{arith}
-use lib.ListN.{length, getD, take}
-use lib.Seq.{take-length, length-take-le}
+use lib.ListN.{length, getD, take, drop, length-append, length-map}
+use lib.Seq.{take-length, length-take-le, take-at}
 use Rattle.words.specs.Lists.{lastOr}
 use Rattle.checking.proofs.CheckLoops.{last-some}
+use Rattle.folding.specs.Folding.{fold}
 use Rattle.files.specs.Lines.{lf}
-use Rattle.text_sheets.specs.steps.Lent.{Trimmed}
+use Rattle.text_sheets.specs.steps.Lent.{Trimmed, Filed}
 
 pub trim-empty : (x : List ℕ) → length x ≡ 0 → Trimmed x 0
 trim-empty [] z = record { within = omega arith; is = refl }
@@ -34,3 +36,11 @@ module _ (x : List ℕ) (some : length x ≡ 0 → ⊥) where
 
 pub trimmed-count : (x : List ℕ) (m : ℕ) → Trimmed x m → m ≡ length (take m x)
 trimmed-count x m q = sym (length-take-le m x (q .within))
+
+pub filed-text : (x p : List ℕ) (m : ℕ) → Trimmed x m → p ≡ map fold (take m x) → Filed x (p ++ drop m x) m
+filed-text x p m q e =
+    let n : length p ≡ m = rw (e, length-map) (length-take-le m x (q .within)) in
+    record { within = rw (length-append p (drop m x)) (omega arith); is = take-at p (drop m x) m n ∙ e ∙ ap (map fold) (q .is) }
+
+pub filed-count : (x x′ : List ℕ) (m : ℕ) → Filed x x′ m → m ≡ length (take m x′)
+filed-count x x′ m q = sym (length-take-le m x′ (q .within))

@@ -1,11 +1,11 @@
 // From a tray and a text to their sheet, and the text in the bytes of a text file.
 ghost use Rattle.sheet_lines.specs.steps.Lines.{Printed};
 ghost use Rattle.sheets.specs.Programs.{textSheet};
-ghost use Rattle.text_sheets.specs.steps.Lent.{TextRoom, Trimmed};
+ghost use Rattle.text_sheets.specs.steps.Lent.{TextRoom, Trimmed, Filed};
 use files::LF;
 
 // The length of the text in a text file: one final LF is not counted.
-pub fn text_length(text: &[u8]) -> usize
+fn text_length(text: &[u8]) -> usize
     ensures { λ r. ⌜ Trimmed (now (text .entry)) r ⌝ }
 {
     let n = text.len();
@@ -16,6 +16,15 @@ pub fn text_length(text: &[u8]) -> usize
     if text[last] == LF {
         return last;
     }
+    n
+}
+
+// The text in a text file is folded where it stands. Answers its length.
+pub fn file_text(text: &mut [u8]) -> usize
+    ensures { λ r. ⌜ Filed (now (text .entry)) (now (text .exit)) r ⌝ }
+{
+    let n = text_length(text);
+    folding::fold_in_place(&mut text[..n]);
     n
 }
 

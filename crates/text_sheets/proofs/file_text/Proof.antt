@@ -1,0 +1,14 @@
+use Rattle.text_sheets.proofs.Trims.{trimmed-count, filed-text}
+use borrow.Author.Needs.{needs}
+use Rattle.text_sheets.proofs.file_text.Statement.{statement}
+use Rattle.text_sheets.proofs.file_text.Tie as tie
+
+slice-aggregate-fold-in-place : tie.Need-slice-aggregate-fold-in-place
+slice-aggregate-fold-in-place c = search trimmed-count
+
+returns : tie.Need-returns
+returns c = search filed-text
+
+pub file-text-spec : {M : Type 1} → statement M
+file-text-spec = tie.close (tie.spec (λ c κs. search needs) (λ c. search needs) slice-aggregate-fold-in-place (λ c κs. search needs)
+    (λ c. search needs) returns)
