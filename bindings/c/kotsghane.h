@@ -82,8 +82,9 @@ void kotsghane_slip(const uint8_t *letters, size_t letters_len, const uint16_t *
 void kotsghane_pair(const uint8_t *letters, size_t letters_len, const uint16_t *ends, size_t ends_len, uint32_t left, uint32_t right,
                     uint32_t answer[KOTSGHANE_PAIR_NUMBERS]);
 
-/* Reads a tray file into letters and ends. Lend at least KOTSGHANE_MAX_FILE letters and KOTSGHANE_FILE_ENDS ends. Refusals 15 to 19; the tray itself is
- * judged by the other calls. */
+/* Reads a tray file into letters and ends. Lend at least KOTSGHANE_MAX_FILE letters and KOTSGHANE_FILE_ENDS ends. Letters are filed as the die has them:
+ * small ones as capitals, U as V, J as I, and 0 for a byte that is no sign. No other call folds: they take the 27 signs alone. Refusals 15 to 19, of the
+ * file as it stands; the tray itself is judged by the other calls, which refuse a 0 by 6. */
 void kotsghane_read_tray(const uint8_t *file, size_t file_len, uint8_t *letters, size_t letters_len, uint16_t *ends, size_t ends_len,
                          uint32_t answer[KOTSGHANE_READ_NUMBERS]);
 

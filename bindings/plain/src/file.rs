@@ -1,4 +1,5 @@
 //! Tray files: a line for each slip.
+use crate::fold::filed;
 use crate::tray::Tray;
 use crate::{refusal, row, unless, Refusal, FILE_ENDS, MAX_FILE};
 
@@ -28,10 +29,13 @@ fn letters(line: &[u8], k: usize) -> Result<&[u8], Refusal> {
 }
 
 /// Reads a tray file where so many letters and ends are lent, or refuses it. An empty file is the empty tray.
+///
+/// Rows 15 to 19 judge the file as it is typed. Only then are the letters folded: a byte that is no sign is read as 0, and
+/// the tray check turns it back.
 pub fn read_tray(file: &[u8], letters_lent: usize, ends_lent: usize) -> Result<Tray, Refusal> {
     unless(row(15, letters_lent < MAX_FILE || ends_lent < FILE_ENDS))?;
     unless(row(16, file.len() > MAX_FILE))?;
     let lines = file.split_inclusive(|&byte| byte == b'\n');
-    let slips: Result<Vec<&[u8]>, Refusal> = lines.zip(1..).map(|(line, k)| letters(line, k)).collect();
+    let slips: Result<Vec<Vec<u8>>, Refusal> = lines.zip(1..).map(|(line, k)| letters(line, k).map(filed)).collect();
     Ok(Tray::of(&slips?))
 }

@@ -1,7 +1,7 @@
 //! What is right, said once more and in another way than the library says it: a plain program that compares all pairs of
 //! slips, written only from the sentences of the rules. It shares no table, no loop and no order of work with the library.
 //!
-//! - [`tray`], [`file`], [`compose`], [`find`], [`sheet`]: the plain program.
+//! - [`tray`], [`fold`], [`mod@file`], [`compose`], [`find`], [`sheet`]: the plain program.
 //! - [`by_hand`]: what was worked out by hand.
 //! - [`made`]: made-up trays, texts and files, whole and damaged.
 //! - [`cases`]: the cases of the program `trials`, and what it must answer to each.
@@ -12,6 +12,7 @@ pub mod cases;
 pub mod compose;
 pub mod file;
 pub mod find;
+pub mod fold;
 pub mod made;
 pub mod sheet;
 pub mod tray;
@@ -40,7 +41,7 @@ pub const FILE_ENDS: usize = 1_700;
 /// The occurrences that the list of the program `find` takes.
 pub const MAX_FOUND: usize = 8_000;
 
-/// The 27 signs in byte order.
+/// The 27 signs in byte order. Files take small letters too, which are folded: [`fold`].
 pub const SIGNS: &[u8] = b".ABCDEFGHIJKLMNOPQRSTUVWXYZ";
 
 /// What turns a call back: a row's number and one detail, 0 where none is named.

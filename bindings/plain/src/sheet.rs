@@ -2,6 +2,7 @@
 use crate::compose::{compose_tray, Composition, Rooms};
 use crate::file::read_tray;
 use crate::find::{find_slips, Finding};
+use crate::fold::filed;
 use crate::tray::Tray;
 use crate::{Refusal, FILE_ENDS, MAX_FILE, MAX_FOUND, MAX_LETTERS, MAX_SLIPS, WORK_CELLS};
 
@@ -57,15 +58,16 @@ fn found(text: &[u8], finding: &Finding) -> Vec<u8> {
     std::iter::once(head).chain(lines).collect::<String>().into_bytes()
 }
 
-/// What `find` prints of a tray file and a text file. One final LF of the text, if present, is not counted.
+/// What `find` prints of a tray file and a text file. One final LF of the text, if present, is not counted. Every byte
+/// left is folded; an LF is no sign.
 pub fn find_sheet(file: &[u8], text: &[u8]) -> Vec<u8> {
-    let text = text.strip_suffix(b"\n").unwrap_or(text);
+    let text = filed(text.strip_suffix(b"\n").unwrap_or(text));
     let tray = match read_tray(file, MAX_FILE, FILE_ENDS) {
         Ok(tray) => tray,
         Err(refusal) => return refused(refusal),
     };
-    match find_slips(&tray, text, WORK_CELLS, MAX_FOUND) {
-        Ok(finding) => found(text, &finding),
+    match find_slips(&tray, &text, WORK_CELLS, MAX_FOUND) {
+        Ok(finding) => found(&text, &finding),
         Err(refusal) => refused(refusal),
     }
 }

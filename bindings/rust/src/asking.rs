@@ -55,6 +55,10 @@ impl Read {
 /// Reads a tray file into lent letters and ends, or refuses it. On success the first part of each is the outcome, and the
 /// rest is unchanged; on a refusal both hold what they held. The tray that was read may still be refused by other calls.
 ///
+/// Letters are filed as the die has them: small ones as capitals, U as V, J as I. A byte that is no sign is filed as 0,
+/// which the other calls refuse (6). The columns before the letters, and the count of letters, are judged as they stand in
+/// the file.
+///
 /// ```
 /// use kotsghane::{read_tray, FILE_ENDS, MAX_FILE};
 ///
@@ -62,6 +66,10 @@ impl Read {
 /// let read = read_tray(b"   1   3 AVG\n   2   3 AES\n", &mut letters, &mut ends);
 /// assert_eq!((read.number, read.letters, read.slips), (0, 6, 2));
 /// assert_eq!((&letters[..6], &ends[..2]), (&b"AVGAES"[..], &[3, 6][..]));
+///
+/// let read = read_tray(b"   1   3 avg\n   2   4 uj.7\n", &mut letters, &mut ends);
+/// assert_eq!((read.number, read.letters, read.slips), (0, 7, 2));
+/// assert_eq!(&letters[..7], b"AVGVI.\0");
 /// ```
 #[allow(unsafe_code)]
 pub fn read_tray(file: &[u8], letters: &mut [u8], ends: &mut [u16]) -> Read {
@@ -90,14 +98,22 @@ pub fn read_tray(file: &[u8], letters: &mut [u8], ends: &mut [u16]) -> Read {
 }
 
 impl Tray {
-    /// The tray of a tray file, or why it cannot be read. Refusal 15 cannot occur: the buffers are made here.
+    /// The tray of a tray file, or why it cannot be read. Refusal 15 cannot occur: the buffers are made here. Letters are
+    /// filed as [`read_tray`] has it: small ones as capitals, U as V, J as I, and 0 for a byte that is no sign.
     ///
     /// ```
-    /// use kotsghane::Tray;
+    /// use kotsghane::{compose_tray, Tray};
     ///
     /// let tray = Tray::read(b"   1   3 AVG\n   2   3 AES\n").unwrap();
     /// assert_eq!(tray, Tray::of(&["AVG", "AES"]));
     /// assert_eq!(Tray::read(b"   1   3 AVG\n   3   3 AES\n").unwrap_err().number, 18);
+    ///
+    /// let tray = Tray::read(b"   1   3 avg\n   2   2 uj\n").unwrap();
+    /// assert_eq!(tray, Tray::of(&["AVG", "VI"]));
+    ///
+    /// let tray = Tray::read(b"   1   3 avg\n   2   3 a3s\n").unwrap();
+    /// let refusal = compose_tray(&tray).unwrap_err();
+    /// assert_eq!((refusal.number, refusal.detail), (6, 2));
     /// ```
     pub fn read(file: impl AsRef<[u8]>) -> Result<Tray, Refusal> {
         let (mut letters, mut ends) = (vec![0; MAX_FILE], vec![0; FILE_ENDS]);

@@ -4,6 +4,9 @@
 //! are no overlap. [`compose_tray`] and [`find_slips`] take care of all buffers; [`compose`] and [`find`] are for callers who
 //! lend their own. [`Tray::read`] reads a tray file, [`Tray::slip`] and [`Tray::overlap`] answer for one slip and for a pair.
 //!
+//! Letters are 27 signs: the capitals A to Z and the full stop. A tray file may have small letters, and U and J, which are
+//! not on the die: [`Tray::read`] files them as the die has them. No other call does.
+//!
 //! ```
 //! use kotsghane::{compose_tray, Tray};
 //!

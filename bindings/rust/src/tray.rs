@@ -11,6 +11,7 @@ pub struct Tray {
 
 impl Tray {
     /// The tray of these slips. Any slips can be given: [`compose_tray`] and [`find_slips`](crate::find_slips) judge them.
+    /// Their letters stay as they are given, so that a small one is refused (6): only [`Tray::read`] folds.
     ///
     /// Ends have 16 bits, so of a slip that is too long only the letters up to the first too many are stored, and behind
     /// 65,535 letters the ends stop rising. Such a tray is refused (3, or 1 or 2 before it) as if all were stored.

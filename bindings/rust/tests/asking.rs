@@ -1,10 +1,12 @@
 //! One slip, pairs and tray files through the exported calls, against the plain program.
 mod tally;
 
-use kotsghane::{read_tray, Read, Refusal, Tray, FILE_ENDS, MAX_FILE};
+use kotsghane::{compose_tray, read_tray, Read, Refusal, Tray, FILE_ENDS, MAX_FILE};
+use plain::by_hand::{COMPOSE, FILED, TYPED_FILE};
 use plain::made::damage::{damaged, DAMAGES};
 use plain::made::files::{damaged_file, tray_file, BLOTS};
 use plain::made::stops::{many_stops, share_stops_alone};
+use plain::made::typed::{has_other_forms, many_forms, spoil, typed_slips};
 use plain::made::{valid, Chance};
 use plain::{file, tray};
 use tally::Tally;
@@ -129,6 +131,52 @@ fn tray_files_agree() {
     }
     tally.assert_all_from(&[0, 15, 17, 18], 150);
     tally.assert_all_from(&[19], 40);
+}
+
+/// Files as readers type them: whole, with bytes that are no signs, and damaged.
+#[test]
+fn typed_files_agree() {
+    let (mut chance, mut tally, mut met) = (Chance::new(46), Tally::default(), 0);
+    for n in 0..3_000 {
+        let signs = many_forms(&mut chance, [6, 40, 200][n % 3], 40);
+        let mut all = typed_slips(&mut chance, &signs);
+        met += usize::from(has_other_forms(&all.concat()));
+        let made = match n % 4 {
+            0 => damaged_file(&mut chance, &all, BLOTS[n / 4 % BLOTS.len()]),
+            1 => {
+                all.iter_mut().for_each(|slip| spoil(&mut chance, slip, 1));
+                tray_file(&all)
+            }
+            _ => tray_file(&all),
+        };
+        try_file(&mut chance, &made, MAX_FILE, FILE_ENDS, &mut tally);
+    }
+    tally.assert_all_from(&[0, 17, 18, 19], 100);
+    assert!(met > 2_500, "files with letters that are not on the die: {met}");
+}
+
+/// All bytes but LF stand in a slip, one after another, beside a sign on either hand.
+#[test]
+fn each_byte_is_filed() {
+    let (mut chance, mut tally) = (Chance::new(47), Tally::default());
+    let bytes = (0..=255).filter(|&byte| byte != b'\n');
+    let all: Vec<[u8; 3]> = bytes.map(|byte| [b'u', byte, b'j']).collect();
+    try_file(&mut chance, &tray_file(&all), MAX_FILE, FILE_ENDS, &mut tally);
+    tally.assert_all_from(&[0], 1);
+}
+
+/// What was worked out by hand, and the tray check behind reading.
+#[test]
+fn letters_are_filed_as_the_die_has_them() {
+    for (typed, filed) in FILED {
+        let tray = Tray::read(tray_file(&[*typed])).expect("a file of one line");
+        assert_eq!(tray, Tray::of(&[*filed]), "{typed:?}");
+        let bad = Refusal { number: 6, detail: 1 };
+        assert_eq!(tray.slip(1).err(), filed.contains(&0).then_some(bad), "{typed:?}");
+    }
+    let tray = Tray::read(TYPED_FILE).expect("a whole file");
+    assert_eq!(tray, Tray::of(COMPOSE.slips));
+    assert_eq!(compose_tray(&tray).expect("a valid tray").text, COMPOSE.legend);
 }
 
 #[test]

@@ -1,7 +1,7 @@
 //! The built programs `compose` and `find` on made-up and damaged files, against the plain program's sheets.
-use plain::made::damage::BAD_BYTES;
 use plain::made::files::{damaged_file, tray_file, BLOTS};
 use plain::made::texts::{damaged_text, text};
+use plain::made::typed::{has_other_forms, many_forms, spoil, typed, typed_slips, BAD_IN_FILES};
 use plain::made::{valid, Chance};
 use plain::sheet::{compose_sheet, find_sheet};
 use std::fs;
@@ -9,19 +9,28 @@ use std::io::Write;
 use std::path::{Path, PathBuf};
 use std::process::{Command, Stdio};
 
-/// How often the two kinds of sheets were seen.
+/// How often the two kinds of sheets were seen, and how often a whole one of a file that is not typed as the die has it.
 #[derive(Default)]
 struct Sheets {
     whole: usize,
     refused: usize,
+    folded: usize,
 }
 
 impl Sheets {
-    fn count(&mut self, sheet: &[u8]) {
+    fn count(&mut self, sheet: &[u8], files: &[&[u8]]) {
         match sheet.starts_with(b"REFUSED") {
             true => self.refused += 1,
-            false => self.whole += 1,
+            false => {
+                self.whole += 1;
+                self.folded += usize::from(files.iter().any(|file| has_other_forms(file)));
+            }
         }
+    }
+
+    fn assert_from(&self, whole: usize, refused: usize, folded: usize) {
+        let met = [self.whole, self.refused, self.folded];
+        assert!(met[0] > whole && met[1] > refused && met[2] > folded, "{met:?}");
     }
 }
 
@@ -61,15 +70,22 @@ fn found(folder: &Path, file: &[u8], text: &[u8]) -> Vec<u8> {
     program("find").current_dir(folder).output().expect("find runs").stdout
 }
 
-/// A tray file: whole, damaged, of a tray that is turned back, or with bytes that are no signs.
+/// A tray file: whole, damaged, of a tray that is turned back, or with bytes that are no signs; two of five of each kind as
+/// readers type them.
 fn file(chance: &mut Chance, n: usize) -> Vec<u8> {
     let most = [12, 60, 200][n / 4 % 3];
-    let mut all = valid(chance, most, 40);
+    let mut all = match n % 5 {
+        0 | 1 => {
+            let signs = many_forms(chance, most, 40);
+            typed_slips(chance, &signs)
+        }
+        _ => valid(chance, most, 40),
+    };
     let (i, k) = (chance.below(all.len()), chance.below(2));
     match n % 4 {
         0 => return tray_file(&all),
         1 => all[i].extend(chance.word(b"AB.", 40 * k)),
-        2 => all[i][0] = chance.one(BAD_BYTES),
+        2 => all[i][0] = chance.one(BAD_IN_FILES),
         _ => return damaged_file(chance, &all, BLOTS[n / 4 % BLOTS.len()]),
     }
     tray_file(&all)
@@ -86,14 +102,9 @@ fn compose_prints_the_sheet() {
             "the sheet of {:?}",
             String::from_utf8_lossy(&file)
         );
-        sheets.count(&sheet);
+        sheets.count(&sheet, &[&file]);
     }
-    assert!(
-        sheets.whole > 300 && sheets.refused > 300,
-        "{} and {}",
-        sheets.whole,
-        sheets.refused
-    );
+    sheets.assert_from(300, 300, 200);
 }
 
 #[test]
@@ -106,33 +117,50 @@ fn compose_reads_long_files() {
     }
 }
 
+/// The n-th text for these slips: every fourth has a length near the limit or bytes that are no signs.
+fn text_for(chance: &mut Chance, n: usize, all: &[Vec<u8>], as_typed: bool) -> Vec<u8> {
+    let letters = [chance.below(100), chance.below(2_001)][n / 8 % 2];
+    let mut made = match n % 8 {
+        0 | 1 => damaged_text(chance, all, n % 16 < 8, 0),
+        _ => text(chance, all, letters),
+    };
+    if as_typed {
+        made = typed(chance, &made);
+    }
+    if n % 8 < 2 {
+        spoil(chance, &mut made, n % 3);
+    }
+    let ends: [&[u8]; 4] = [b"", b"\n", b"\n\n", b"\r\n"];
+    made.extend_from_slice(ends[[0, 1, 1, n % 4][n / 2 % 4]]);
+    made
+}
+
 #[test]
 fn find_prints_the_sheet() {
     let (mut chance, mut sheets, folder) = (Chance::new(202), Sheets::default(), folder("find"));
     for n in 0..1_000 {
-        let all = valid(&mut chance, 20, 20);
-        let letters = [chance.below(100), chance.below(2_001)][n / 8 % 2];
-        let mut text = match n % 8 {
-            0 | 1 => damaged_text(&mut chance, &all, n % 16 < 8, n % 3),
-            _ => text(&mut chance, &all, letters),
+        // Whether readers type the tray, and the text.
+        let (tray_typed, text_typed) = match n % 7 {
+            0 => (true, false),
+            1 => (false, true),
+            2 => (true, true),
+            _ => (false, false),
         };
-        let ends: [&[u8]; 4] = [b"", b"\n", b"\n\n", b"\r\n"];
-        text.extend_from_slice(ends[[0, 1, 1, n % 4][n / 2 % 4]]);
-        let file = if n % 5 == 0 {
-            file(&mut chance, n / 5)
-        } else {
-            tray_file(&all)
+        let all = match tray_typed || text_typed {
+            true => many_forms(&mut chance, 20, 20),
+            false => valid(&mut chance, 20, 20),
+        };
+        let text = text_for(&mut chance, n, &all, text_typed);
+        let file = match n % 5 {
+            0 => file(&mut chance, n / 5),
+            _ if tray_typed => tray_file(&typed_slips(&mut chance, &all)),
+            _ => tray_file(&all),
         };
         let sheet = find_sheet(&file, &text);
         let told = String::from_utf8_lossy(&file);
         assert!(found(&folder, &file, &text) == sheet, "the sheet of {told:?}");
-        sheets.count(&sheet);
+        sheets.count(&sheet, &[&file, &text]);
     }
     fs::remove_dir_all(folder).expect("the folder goes");
-    assert!(
-        sheets.whole > 300 && sheets.refused > 200,
-        "{} and {}",
-        sheets.whole,
-        sheets.refused
-    );
+    sheets.assert_from(300, 200, 200);
 }

@@ -6,6 +6,7 @@ use crate::made::damage::{damaged, DAMAGES};
 use crate::made::files::{damaged_file, tray_file, BLOTS};
 use crate::made::stops::many_stops;
 use crate::made::texts::{damaged_text, text};
+use crate::made::typed::{many_forms, spoil, typed_slips};
 use crate::made::{near, slips, valid, Chance, SHAPES};
 use crate::tray::Tray;
 use crate::{FILE_ENDS, MAX_FILE, MAX_SLIP, WORK_CELLS};
@@ -133,6 +134,12 @@ const KINDS: &[Kind] = &[
         count: 300,
         make: with_stops,
     },
+    Kind {
+        name: "Tray files as readers type them",
+        seed: 115,
+        count: 200,
+        make: typed_file,
+    },
 ];
 
 /// 200 slips of 10 letters.
@@ -172,7 +179,10 @@ fn small_list(chance: &mut Chance, _: usize) -> Case {
 
 /// Mostly small trays. They are composed, but for every fifth: finding takes a stop as a letter like the rest.
 fn with_stops(chance: &mut Chance, n: usize) -> Case {
-    let most = if n % 10 == 0 { 60 } else { 10 };
+    let most = match n % 10 {
+        0 => 60,
+        _ => 10,
+    };
     let all = many_stops(chance, most, 12);
     let tray = Tray::of(&all);
     if n % 5 < 4 {
@@ -180,6 +190,26 @@ fn with_stops(chance: &mut Chance, n: usize) -> Case {
     }
     let letters = chance.below(60);
     Case::Find(tray, text(chance, &all, letters), WORK_CELLS, WHOLE_LIST)
+}
+
+/// Half of them are whole; a fourth have bytes that are no signs, and a fourth are damaged anywhere.
+fn typed_file(chance: &mut Chance, n: usize) -> Case {
+    let die = match n % 3 {
+        0 => valid(chance, 15, 20),
+        _ => many_forms(chance, 15, 20),
+    };
+    let mut all = typed_slips(chance, &die);
+    let file = match n % 4 {
+        0 => {
+            let at = chance.below(all.len());
+            let times = chance.between(1, 2);
+            spoil(chance, &mut all[at], times);
+            tray_file(&all)
+        }
+        1 => damaged_file(chance, &all, BLOTS[n / 4 % BLOTS.len()]),
+        _ => tray_file(&all),
+    };
+    Case::Read(file, MAX_FILE, FILE_ENDS)
 }
 
 pub fn all() -> Vec<Case> {

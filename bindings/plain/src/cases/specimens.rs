@@ -1,6 +1,6 @@
 //! The specimen trays of the rules, trays that tell a misreading from the rule, and each limit with its neighbour.
 use super::{lending, Case, Lending, WHOLE, WHOLE_LIST};
-use crate::by_hand::{COMPOSE, COMPOSE_FILE, SEARCHES, SPECIMENS};
+use crate::by_hand::{COMPOSE, COMPOSE_FILE, SEARCHES, SPECIMENS, TYPED_FILE};
 use crate::made::files::tray_file;
 use crate::tray::Tray;
 use crate::{FILE_ENDS, MAX_FILE, WORK_CELLS};
@@ -82,6 +82,24 @@ fn files() -> Vec<(&'static str, Vec<u8>)> {
         ("1,638 slips without letters", tray_file(&vec![b""; 1_638])),
         ("a file of 16,384 bytes", filled(16_384)),
         ("a file of 16,385 bytes", filled(16_385)),
+        ("small letters", b"   1   3 avg\n".to_vec()),
+        ("small u and j", b"   1   2 uj\n".to_vec()),
+        ("U beside V", b"   1   3 UVA\n".to_vec()),
+        ("letters of both cases and a stop", b"   1   8 AvGuStj.\n".to_vec()),
+        ("the compose file as readers may type it", TYPED_FILE.into()),
+        ("slips that are equal as filed", tray_file(&["AVG", "aug"])),
+        ("a digit in a slip", tray_file(&["AVG", "a9s"])),
+        ("CR that the length does not count", b"   1   3 avg\r\n".to_vec()),
+        ("CR that the length counts", b"   1   4 avg\r\n".to_vec()),
+        ("a small letter for a slip number", b"   a   3 AVG\n".to_vec()),
+        ("a small letter for a length", b"   1   c AVG\n".to_vec()),
+        ("a small letter in column 9", b"   1   3aAVG\n".to_vec()),
+        ("the bytes beside the letters", tray_file(&["@", "[", "`", "{"])),
+        ("the bytes beside the stop", tray_file(&["-.", "./"])),
+        (
+            "every byte but LF",
+            tray_file(&[(0..=255).filter(|&x| x != b'\n').collect::<Vec<u8>>()]),
+        ),
     ]
 }
 

@@ -42,7 +42,8 @@ pub const DAMAGES: [Damage; 10] = [
     Damage::AnyEnds,
 ];
 
-/// Bytes that are no signs, those beside the signs among them.
+/// Bytes that are no signs of a tray or text that is lent, those beside the signs among them. In files small letters are
+/// signs: [`BAD_IN_FILES`](super::typed::BAD_IN_FILES).
 pub const BAD_BYTES: &[u8] = b"a@[/-\0\xff\n0z";
 
 /// A tray of up to `most` slips with one of the faults; where it does not apply, the tray as it is.

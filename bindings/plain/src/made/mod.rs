@@ -7,6 +7,7 @@ pub mod files;
 pub mod full;
 pub mod stops;
 pub mod texts;
+pub mod typed;
 
 /// A generator of numbers (splitmix64): the same seed gives the same cases.
 pub struct Chance(u64);
