@@ -1,4 +1,4 @@
-// Works the table of folding out from the rule and prints it, as it stands in the source of folding.
+// Works the table of folding out from the rule and prints it, as it stands in the source of filing.
 ghost use mathlib.Core.Path.{_≡_};
 ghost use Rattle.folding.specs.Folding as F;
 

@@ -1,5 +1,4 @@
 -- Laws of folding.
 pub mod AllSpecimens
-pub mod WholeTable
+pub mod Bytes
 pub mod Signs
-pub mod Filing

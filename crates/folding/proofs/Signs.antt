@@ -11,7 +11,7 @@ use lib.Dec.{eqb, leb}
 use Rattle.words.proofs.Tests.{by-test, both, either}
 use Rattle.trays.specs.Slips.{stop, isLetter}
 use Rattle.folding.specs.Folding.{upper, dieSign, fold}
-use Rattle.folding.proofs.WholeTable.{at-byte}
+use Rattle.folding.proofs.Bytes.{at-byte}
 
 -- where the signs stand among the bytes
 sign-range : (b : ℕ) → isLetter b ≡ true → (stop ≤ b) × (b ≤ 90)

@@ -38,7 +38,7 @@ fn copy_file(file: &[u8], letters: &mut [u8], ends: &mut [u16]) -> Read
         // a good line has its letters behind 9 columns, and an LF behind them
         let start = at + 9;
         let end = next - 1;
-        folding::file_letters(&file[start..end], &mut letters[count..]);
+        filing::file_letters(&file[start..end], &mut letters[count..]);
         count += end - start;
         ends[slips] = count as u16;
         slips += 1;

@@ -1,11 +1,11 @@
 -- The text of a text file: one final LF is not counted, and the letters are folded.
 --   trim-..        == the three ways through text_length
---   trimmed-count  == the text is the first part of the file
---   filed-..       == that part, folded where it stands
+--   filed-text     == the text, folded where it stands, is the first part of the file
+--   take-count     == a part has as many bytes as it says
 use mathlib.Core.Path.{_≡_, refl, sym, _∙_, ap}
 use mathlib.Core.Bool.{Bool, true, false}
 use mathlib.Core.List.{List, [], _∷_, _++_, map}
-use Prim.Native.Nat.{ℕ, _-_}
+use Prim.Native.Nat.{ℕ, _-_, _≤_}
 use borrow.Author.Tests.{eq-eqb, ne-eqb}
 use native.Mathlib.Omega.{arith}
 use lib.ListN.{length, getD, take, drop, length-append, length-map}
@@ -34,13 +34,10 @@ module _ (x : List ℕ) (some : length x ≡ 0 → ⊥) where
   pub trim-open : (getD x (length x - 1) 0 ≡ lf → ⊥) → Trimmed x (length x)
   trim-open e = record { within = omega arith; is = take-length x ∙ sym (ap (told x) (ne-eqb (lastOr 0 x) lf (λ q. e (last ∙ q)))) }
 
-pub trimmed-count : (x : List ℕ) (m : ℕ) → Trimmed x m → m ≡ length (take m x)
-trimmed-count x m q = sym (length-take-le m x (q .within))
-
 pub filed-text : (x p : List ℕ) (m : ℕ) → Trimmed x m → p ≡ map fold (take m x) → Filed x (p ++ drop m x) m
 filed-text x p m q e =
     let n : length p ≡ m = rw (e, length-map) (length-take-le m x (q .within)) in
     record { within = rw (length-append p (drop m x)) (omega arith); is = take-at p (drop m x) m n ∙ e ∙ ap (map fold) (q .is) }
 
-pub filed-count : (x x′ : List ℕ) (m : ℕ) → Filed x x′ m → m ≡ length (take m x′)
-filed-count x x′ m q = sym (length-take-le m x′ (q .within))
+pub take-count : (m : ℕ) (x : List ℕ) → m ≤ length x → m ≡ length (take m x)
+take-count m x h = sym (length-take-le m x h)

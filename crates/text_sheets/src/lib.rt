@@ -24,7 +24,7 @@ pub fn file_text(text: &mut [u8]) -> usize
     ensures { λ r. ⌜ Filed (now (text .entry)) (now (text .exit)) r ⌝ }
 {
     let n = text_length(text);
-    folding::fold_in_place(&mut text[..n]);
+    filing::fold_in_place(&mut text[..n]);
     n
 }
 

@@ -9,7 +9,7 @@ use Rattle.printing.proofs.FileSteps.{
   ends-within,
   find-printed,
 }
-use Rattle.text_sheets.proofs.Trims.{filed-count}
+use Rattle.text_sheets.proofs.Trims.{take-count}
 use borrow.Author.Needs.{needs}
 use Rattle.printing.proofs.find_sheet.Statement.{statement}
 use Rattle.printing.proofs.find_sheet.Tie as tie
@@ -58,7 +58,7 @@ slice-aggregate-text-sheet-2 c =
     ends-count _ _ _ (start (reading filed) .pre .file) _ _ _ (reading filed .read-tray .ensures) (accepted filed .if1 .left)
 
 slice-aggregate-text-sheet-3 : tie.Need-slice-aggregate-text-sheet-3
-slice-aggregate-text-sheet-3 c = search filed-count
+slice-aggregate-text-sheet-3 c = search take-count
 
 slice-aggregate-text-sheet-4 : tie.Need-slice-aggregate-text-sheet-4
 slice-aggregate-text-sheet-4 c = found-lent _ _ _ _ _ (start (reading (c .before .before .before .before .before)) .pre)

@@ -1,10 +1,10 @@
-use Rattle.text_sheets.proofs.Trims.{trimmed-count, filed-text}
+use Rattle.text_sheets.proofs.Trims.{filed-text, take-count}
 use borrow.Author.Needs.{needs}
 use Rattle.text_sheets.proofs.file_text.Statement.{statement}
 use Rattle.text_sheets.proofs.file_text.Tie as tie
 
 slice-aggregate-fold-in-place : tie.Need-slice-aggregate-fold-in-place
-slice-aggregate-fold-in-place c = search trimmed-count
+slice-aggregate-fold-in-place c = search take-count
 
 returns : tie.Need-returns
 returns c = search filed-text

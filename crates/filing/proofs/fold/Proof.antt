@@ -1,9 +1,9 @@
 -- The premise of fold-table is the test over the whole table, which stands in the goal: it is computed here.
 use borrow.Author.Needs.{needs}
 use Rattle.folding.specs.Folding.{fold}
-use Rattle.folding.proofs.WholeTable.{fold-table}
-use Rattle.folding.proofs.fold.Statement.{statement}
-use Rattle.folding.proofs.fold.Tie as tie
+use Rattle.folding.proofs.Bytes.{fold-table}
+use Rattle.filing.proofs.fold.Statement.{statement}
+use Rattle.filing.proofs.fold.Tie as tie
 
 returns : tie.Need-returns
 unfolding fold

@@ -1,15 +1,15 @@
 -- Invariant: the first i letters of `from` stand, folded, at the start of `to`, and the rest of `to` is as it was.
-use Rattle.folding.proofs.Filing.{filed-more, filed-all}
+use Rattle.filing.proofs.Loops.{filed-more, filed-all}
 use lib.ListN.{length-set}
 use mathlib.Core.Path.{_≡_}
 use mathlib.Core.List.{map}
 use Prim.Native.Nat.{_-_, _≤_}
 use lib.ListN.{length, take}
 use Rattle.folding.specs.Folding.{fold}
 use Rattle.words.specs.Lists.{over}
 use borrow.Author.Needs.{needs}
-use Rattle.folding.proofs.file_letters.Statement.{statement}
-use Rattle.folding.proofs.file_letters.Tie as tie
+use Rattle.filing.proofs.file_letters.Statement.{statement}
+use Rattle.filing.proofs.file_letters.Tie as tie
 
 abbrev Inv-loop : tie.InvT-loop
 Inv-loop from to₀ i₀ to i = (i ≤ length from) × (length to ≡ length to₀) × (to ≡ over (map fold (take i from)) to₀)

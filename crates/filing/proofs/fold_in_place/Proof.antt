@@ -4,11 +4,11 @@ use mathlib.Core.List.{map}
 use Prim.Native.Nat.{_-_, _≤_}
 use lib.ListN.{length, take, length-set}
 use Rattle.words.specs.Lists.{over}
 use Rattle.folding.specs.Folding.{fold}
-use Rattle.folding.proofs.Filing.{placed-more, placed-all}
+use Rattle.filing.proofs.Loops.{placed-more, placed-all}
 use borrow.Author.Needs.{needs}
-use Rattle.folding.proofs.fold_in_place.Statement.{statement}
-use Rattle.folding.proofs.fold_in_place.Tie as tie
+use Rattle.filing.proofs.fold_in_place.Statement.{statement}
+use Rattle.filing.proofs.fold_in_place.Tie as tie
 
 abbrev Inv-loop : tie.InvT-loop
 Inv-loop text₀ i₀ text i = (i ≤ length text₀) × (length text ≡ length text₀) × (text ≡ over (map fold (take i text₀)) text₀)

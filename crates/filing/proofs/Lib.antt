@@ -1,0 +1,2 @@
+-- Laws behind the loops that file letters.
+pub mod Loops
