@@ -1,6 +1,7 @@
-//! `steps CALL FAMILY SLIPS TIMES`: makes the exported call `compose` or `find` so many times on one tray of a family, of so
-//! many slips of ten letters. `run` beside it counts the instructions of one call more.
-use kotsghane::{compose, find, Found, Join, Place, WORK_CELLS};
+//! `steps CALL FAMILY SLIPS TIMES`: makes the exported call `compose`, `find` or `read` so many times on one tray of a family, of
+//! so many slips of ten letters. `run` beside it counts the instructions of one call more.
+use kotsghane::{compose, find, read_tray, Found, Join, Place, FILE_ENDS, MAX_FILE, WORK_CELLS};
+use plain::made::files::tray_file;
 use plain::made::{slips, Chance, Shape, Slips};
 use plain::tray::Tray;
 use plain::SIGNS;
@@ -32,18 +33,20 @@ fn main() {
     let words: Vec<String> = std::env::args().collect();
     let number = |i: usize| words[i].parse::<usize>().expect("a number");
     let all = family(&words[2], number(3));
-    let (tray, text) = (Tray::of(&all), text_of(&all));
+    let (tray, text, file) = (Tray::of(&all), text_of(&all), tray_file(&all));
     let (mut work, mut legend) = (vec![0; WORK_CELLS], vec![0; 2_000]);
     let (mut joins, mut places) = (vec![Join::default(); 200], vec![Place::default(); 200]);
     let mut found = vec![Found::default(); 8_000];
+    let (mut read_letters, mut read_ends) = (vec![0; MAX_FILE], vec![0; FILE_ENDS]);
     for _ in 0..number(4) {
         let (letters, ends) = (black_box(&tray.letters), black_box(&tray.ends));
         let refused = match words[1].as_str() {
             "compose" => compose(letters, ends, &mut work, &mut legend, &mut joins, &mut places).number,
             "find" => find(letters, ends, black_box(&text), &mut work, &mut found).number,
+            "read" => read_tray(black_box(&file), &mut read_letters, &mut read_ends).number,
             call => panic!("no call {call}"),
         };
         assert_eq!(refused, 0);
     }
-    black_box((legend, joins, places, found));
+    black_box((legend, joins, places, found, read_letters, read_ends));
 }

@@ -11,29 +11,32 @@ use lib.Seq.{drop-cons, getD-at, take-suc, take-all, length-take-le}
 use Rattle.words.specs.Lists.{over}
 use Rattle.words.proofs.Buffers.{over-set}
 use Rattle.folding.specs.Folding.{fold}
+use Rattle.filing.specs.steps.Entries.{Folds}
 
 many : (from : List ℕ) (i : ℕ) → i ≤ length from → length (map fold (take i from)) ≡ i
 many from i h = length-map (take i from) fold ∙ length-take-le i from h
 
-pub filed-more : (from old to : List ℕ) (i x : ℕ) → i < length from → length from ≤ length old
-    → to ≡ over (map fold (take i from)) old → x ≡ fold (getD from i 0) → set to i x ≡ over (map fold (take (i + 1) from)) old
-filed-more from old to i x h l e w =
-    rw (add-one i, take-suc from i 0, map-append, e, w)
-    (over-set 0 (map fold (take i from)) old i _ (many from i (omega arith)) (omega arith))
+-- x is the place in the table t of the letter to be filed
+module _ (t : List ℕ) (f : Folds t) where
+  pub filed-more : (from old to : List ℕ) (i x : ℕ) → i < length from → length from ≤ length old → x ≡ getD from i 0 → x < 256
+      → to ≡ over (map fold (take i from)) old → set to i (getD t x 0) ≡ over (map fold (take (i + 1) from)) old
+  filed-more from old to i x h l w b e =
+      rw (f x b, w, add-one i, take-suc from i 0, map-append, e)
+      (over-set 0 (map fold (take i from)) old i _ (many from i (omega arith)) (omega arith))
 
-pub filed-all : (from old to : List ℕ) (i : ℕ) → length from ≤ i → to ≡ over (map fold (take i from)) old → to ≡ over (map fold from) old
-filed-all from old to i h e = e ∙ rw (take-all i from)
-
-module _ (old text : List ℕ) (i : ℕ) (n : length text ≡ length old) (e : text ≡ over (map fold (take i old)) old) where
-  pub placed-more : (x : ℕ) → i < length text → x ≡ fold (getD text i 0) → set text i x ≡ over (map fold (take (i + 1) old)) old
-  placed-more x h w = filed-more old old text i x (omega arith) (omega arith) e (w ∙ rw ahead)
+  pub placed-more : (old text : List ℕ) (i x : ℕ) → length text ≡ length old → text ≡ over (map fold (take i old)) old → i < length text
+      → x ≡ getD text i 0 → x < 256 → set text i (getD t x 0) ≡ over (map fold (take (i + 1) old)) old
+  placed-more old text i x n e h w b = filed-more old old text i x (omega arith) (omega arith) (w ∙ ahead) b e
     where
       ahead : getD text i 0 ≡ getD old i 0
       ahead =
           let m : length (map fold (take i old)) ≡ i = many old i (omega arith) in
           rw (e, m, drop-cons old i 0 (omega arith)) (getD-at (map fold (take i old)) (getD old i 0) _ 0 i m)
 
-  pub placed-all : length text ≤ i → text ≡ map fold old
-  placed-all h =
-      filed-all old old text i (omega arith) e
-      ∙ rw (length-map old fold, drop-of-length-le old {i = length old} (omega arith)) (append-nil (map fold old))
+pub filed-all : (from old to : List ℕ) (i : ℕ) → length from ≤ i → to ≡ over (map fold (take i from)) old → to ≡ over (map fold from) old
+filed-all from old to i h e = e ∙ rw (take-all i from)
+
+pub placed-all : (old text : List ℕ) (i : ℕ) → length text ≡ length old → text ≡ over (map fold (take i old)) old → length text ≤ i → text ≡ map fold old
+placed-all old text i n e h =
+    filed-all old old text i (omega arith) e
+    ∙ rw (length-map old fold, drop-of-length-le old {i = length old} (omega arith)) (append-nil (map fold old))

@@ -1,39 +1,50 @@
 // Letters of tray files and text files, filed by the table of folding.
 ghost use mathlib.Core.Path.{_≡_};
 ghost use mathlib.Core.List.{map};
-ghost use Prim.Native.Nat.{_≤_};
+ghost use Prim.Native.Nat.{_≤_, _<_};
 ghost use lib.ListN.{length};
 ghost use Rattle.words.specs.Lists.{over};
-ghost use Rattle.folding.specs.Folding as F;
+ghost use Rattle.folding.specs.Folding.{fold};
+ghost use Rattle.filing.specs.steps.Entries.{Folds};
 use table::FOLD;
 
 mod table;
 
-fn fold(b: u8) -> u8
-    ensures { λ r. ⌜ r ≡ F.fold b ⌝ }
+// The whole table. A loop takes it once: the compiler would lay out a constant anew for every letter.
+fn entries() -> [u8; 256]
+    ensures { λ r. ⌜ Folds r ⌝ }
 {
-    FOLD[b as usize]
+    FOLD
+}
+
+// A byte as a place in the table.
+fn place(b: u8) -> usize
+    ensures { λ r. ⌜ (r ≡ b) × (r < 256) ⌝ }
+{
+    b as usize
 }
 
 // Letters are filed into the first part of a buffer.
 pub fn file_letters(from: &[u8], to: &mut [u8])
     requires { ⌜ length (now from) ≤ length (now to) ⌝ }
-    ensures { λ r. ⌜ now (to .exit) ≡ over (map F.fold (now (from .entry))) (now (to .entry)) ⌝ }
+    ensures { λ r. ⌜ now (to .exit) ≡ over (map fold (now (from .entry))) (now (to .entry)) ⌝ }
 {
+    let signs = entries();
     let mut i: usize = 0;
     while i < from.len() {
-        to[i] = fold(from[i]);
+        to[i] = signs[place(from[i])];
         i += 1;
     }
 }
 
 // Letters are filed where they stand.
 pub fn fold_in_place(text: &mut [u8])
-    ensures { λ r. ⌜ now (text .exit) ≡ map F.fold (now (text .entry)) ⌝ }
+    ensures { λ r. ⌜ now (text .exit) ≡ map fold (now (text .entry)) ⌝ }
 {
+    let signs = entries();
     let mut i: usize = 0;
     while i < text.len() {
-        text[i] = fold(text[i]);
+        text[i] = signs[place(text[i])];
         i += 1;
     }
 }

@@ -12,10 +12,10 @@ use Rattle.filing.proofs.file_letters.Statement.{statement}
 use Rattle.filing.proofs.file_letters.Tie as tie
 
 abbrev Inv-loop : tie.InvT-loop
-Inv-loop from to₀ i₀ to i = (i ≤ length from) × (length to ≡ length to₀) × (to ≡ over (map fold (take i from)) to₀)
+Inv-loop from to₀ signs i₀ to i = (i ≤ length from) × (length to ≡ length to₀) × (to ≡ over (map fold (take i from)) to₀)
 
 abbrev μ-loop : tie.MeasureT-loop
-μ-loop from to₀ i₀ to i = length from - i
+μ-loop from to₀ signs i₀ to i = length from - i
 
 loop-again : tie.Need-loop-again Inv-loop μ-loop
 loop-again c = (search needs, simp length-set (search needs), search filed-more)
@@ -24,5 +24,5 @@ returns : tie.Need-returns Inv-loop μ-loop
 returns c = search filed-all
 
 pub file-letters-spec : {M : Type 1} → statement M
-file-letters-spec = tie.close (tie.spec Inv-loop μ-loop (λ c. search needs) (λ c. search needs) (λ c κs. search needs) (λ c. search needs)
-    (λ c. search needs) (λ c. search needs) loop-again (λ c. search needs) returns)
+file-letters-spec = tie.close (tie.spec Inv-loop μ-loop (λ c κs. search needs) (λ c. search needs) (λ c. search needs) (λ c κs. search needs)
+    (λ c. search needs) (λ c. search needs) (λ c. search needs) (λ c. search needs) loop-again (λ c. search needs) returns)

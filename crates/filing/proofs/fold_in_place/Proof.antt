@@ -11,10 +11,10 @@ use Rattle.filing.proofs.fold_in_place.Statement.{statement}
 use Rattle.filing.proofs.fold_in_place.Tie as tie
 
 abbrev Inv-loop : tie.InvT-loop
-Inv-loop text₀ i₀ text i = (i ≤ length text₀) × (length text ≡ length text₀) × (text ≡ over (map fold (take i text₀)) text₀)
+Inv-loop text₀ signs i₀ text i = (i ≤ length text₀) × (length text ≡ length text₀) × (text ≡ over (map fold (take i text₀)) text₀)
 
 abbrev μ-loop : tie.MeasureT-loop
-μ-loop text₀ i₀ text i = length text₀ - i
+μ-loop text₀ signs i₀ text i = length text₀ - i
 
 loop-again : tie.Need-loop-again Inv-loop μ-loop
 loop-again c = (search needs, simp length-set (search needs), search placed-more)
@@ -23,5 +23,5 @@ returns : tie.Need-returns Inv-loop μ-loop
 returns c = search placed-all
 
 pub fold-in-place-spec : {M : Type 1} → statement M
-fold-in-place-spec = tie.close (tie.spec Inv-loop μ-loop (λ c. search needs) (λ c. search needs) (λ c κs. search needs) (λ c. search needs)
-    (λ c. search needs) (λ c. search needs) loop-again (λ c. search needs) returns)
+fold-in-place-spec = tie.close (tie.spec Inv-loop μ-loop (λ c κs. search needs) (λ c. search needs) (λ c. search needs) (λ c κs. search needs)
+    (λ c. search needs) (λ c. search needs) (λ c. search needs) (λ c. search needs) loop-again (λ c. search needs) returns)

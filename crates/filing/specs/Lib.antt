@@ -1,0 +1,2 @@
+-- filing
+pub mod steps
