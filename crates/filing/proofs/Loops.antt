@@ -16,7 +16,7 @@ use Rattle.filing.specs.steps.Entries.{Folds}
 many : (from : List ℕ) (i : ℕ) → i ≤ length from → length (map fold (take i from)) ≡ i
 many from i h = length-map (take i from) fold ∙ length-take-le i from h
 
--- x is the place in the table t of the letter to be filed
+-- x is the index into the table t of the letter to be filed
 module _ (t : List ℕ) (f : Folds t) where
   pub filed-more : (from old to : List ℕ) (i x : ℕ) → i < length from → length from ≤ length old → x ≡ getD from i 0 → x < 256
       → to ≡ over (map fold (take i from)) old → set to i (getD t x 0) ≡ over (map fold (take (i + 1) from)) old

@@ -17,8 +17,8 @@ fn entries() -> [u8; 256]
     FOLD
 }
 
-// A byte as a place in the table.
-fn place(b: u8) -> usize
+// A byte as an index into the table.
+fn index(b: u8) -> usize
     ensures { λ r. ⌜ (r ≡ b) × (r < 256) ⌝ }
 {
     b as usize
@@ -32,7 +32,7 @@ pub fn file_letters(from: &[u8], to: &mut [u8])
     let signs = entries();
     let mut i: usize = 0;
     while i < from.len() {
-        to[i] = signs[place(from[i])];
+        to[i] = signs[index(from[i])];
         i += 1;
     }
 }
@@ -44,7 +44,7 @@ pub fn fold_in_place(text: &mut [u8])
     let signs = entries();
     let mut i: usize = 0;
     while i < text.len() {
-        text[i] = signs[place(text[i])];
+        text[i] = signs[index(text[i])];
         i += 1;
     }
 }
