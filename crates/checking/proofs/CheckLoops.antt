@@ -78,18 +78,19 @@ first-assoc zero b c = refl
 first-assoc (suc a) b c = refl
 
 pub ends-long : (es : List ℕ) (i k here e long long′ : ℕ) → i < length es → k ≡ i + 1 → e ≡ getD es i 0 → long′ ≡ noteLong long k here e →
-    tooLong 1 0 es ≡ firstOf long (tooLong k here (drop i es)) → tooLong 1 0 es ≡ firstOf long′ (tooLong (k + 1) e (drop (i + 1) es))
+    tooLong maxSlip 1 0 es ≡ firstOf long (tooLong maxSlip k here (drop i es)) →
+    tooLong maxSlip 1 0 es ≡ firstOf long′ (tooLong maxSlip (k + 1) e (drop (i + 1) es))
 ends-long es i k here e long long′ h p v w l =
-    let g : tooLong k here (drop i es) ≡ firstOf (cond (ltb (here + maxSlip) e) k 0) (tooLong (suc k) e (drop (suc i) es)) =
+    let g : tooLong maxSlip k here (drop i es) ≡ firstOf (cond (ltb (here + maxSlip) e) k 0) (tooLong maxSlip (suc k) e (drop (suc i) es)) =
     rw (drop-cons es i 0, ← v) (by-test (ltb (here + maxSlip) e) (λ t. rw (t, tooLong) (sym (first-some k (omega arith) _))) (λ t. rw (t, tooLong))) in
     rw (add-one k, add-one i, w, ← first-assoc, ← g) l
 
 module _ (es : List ℕ) (i k here long : ℕ) (h : length es ≤ i) (n : notAbove 1 0 es ≡ notAbove k here (drop i es))
-    (l : tooLong 1 0 es ≡ firstOf long (tooLong k here (drop i es))) where
+    (l : tooLong maxSlip 1 0 es ≡ firstOf long (tooLong maxSlip k here (drop i es))) where
   no-fall : notAbove 1 0 es ≡ 0
   no-fall = n ∙ rw (drop-of-length-le es h)
 
-  first-long : tooLong 1 0 es ≡ long
+  first-long : tooLong maxSlip 1 0 es ≡ long
   first-long = l ∙ rw (drop-of-length-le es h) (elim long [ zero ↦ refl | suc m ↦ refl ])
 
   pub ends-too-long : (r : Refusal) → r ≡ refusal 3 long → (long ≡ 0 → ⊥) → r ≡ endsFault es

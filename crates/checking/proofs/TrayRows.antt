@@ -9,7 +9,7 @@ use lib.Dec.{ltb, eqb}
 use lib.ListN.{length}
 use Rattle.words.specs.Lists.{lastOr}
 use Rattle.trays.specs.declared.Refusal.{Refusal}
-use Rattle.trays.specs.Limits.{maxSlips, maxLetters}
+use Rattle.trays.specs.Limits.{maxSlips, maxSlip, maxLetters}
 use Rattle.trays.specs.Slips.{slipsOf}
 use Rattle.trays.specs.Faults.{refusal, accepted, orElse, firstRow, trayFault, notAbove, tooLong, badSlip, badPlace, slipAt, row}
 use Rattle.checking.specs.steps.Checks.{endsFault, slipHolding}
@@ -20,7 +20,7 @@ pub ends-rise : (es : List ℕ) → endsFault es .number ≡ 0 → notAbove 1 0 
 ends-rise es h =
     slip-zero 1 (notAbove 1 0 es)
     (by-number (slipAt 2 (notAbove 1 0 es)) (λ z. z)
-    (λ p. rw (or-some (slipAt 2 (notAbove 1 0 es)) (firstRow (slipAt 3 (tooLong 1 0 es) ∷ [])) p) at h))
+    (λ p. rw (or-some (slipAt 2 (notAbove 1 0 es)) (firstRow (slipAt 3 (tooLong maxSlip 1 0 es) ∷ [])) p) at h))
 
 module _ (s es : List ℕ) where
   -- rows 4 to 6
@@ -37,7 +37,7 @@ module _ (s es : List ℕ) where
   unfolding trayFault
   few h =
       rw (le-ltb maxSlips (length es) h)
-      (rows-append (slipAt 2 (notAbove 1 0 es) ∷ (slipAt 3 (tooLong 1 0 es) ∷ []))
+      (rows-append (slipAt 2 (notAbove 1 0 es) ∷ (slipAt 3 (tooLong maxSlip 1 0 es) ∷ []))
       (row 4 (ltb maxLetters (length s)) 0 ∷ (row 5 (not (eqb (lastOr 0 es) (length s))) 0 ∷ (slipAt 6 (badSlip 1 (slipsOf s es)) ∷ []))))
 
   pub check-order : (f : Refusal) → length es ≤ maxSlips → f ≡ endsFault es → (f .number ≡ 0 → ⊥) → f ≡ trayFault s es

@@ -1,9 +1,9 @@
 -- Where the slips of an accepted tray stand.
---   Spanned ss es     == the slips ss stand one behind the other at the ends es: each at most 40 long, all within 2,000 letters
+--   Spanned ss es     == the slips ss stand one behind the other at the ends es: each within the limit of a slip, all within that of a tray
 --   accepted-spanned  == those of an accepted tray do
 --   span-place        == a letter's place is below the limit
 --   span-one          == a place is that of one letter of one slip
---   letters-most      == ascending slips have together at most 2,000 letters
+--   letters-most      == ascending slips have together no more letters than a tray may have
 -- Ends rise, so that each slip starts where the one before it ends, and later ones further on.
 use mathlib.Core.Path.{_≡_, refl, ap}
 use mathlib.Core.Logic.{inl, inr}
@@ -28,17 +28,18 @@ pub record Spanned (ss : List (List ℕ)) (es : List ℕ) : Type 0 where
   pub apart : (i k : ℕ) → i < k → k ≤ length es → endOf es i ≤ startOf es k
   pub fits : (i : ℕ) → i ≤ length es → endOf es i ≤ maxLetters
 
-short-rest : (i here e : ℕ) (es : List ℕ) → 1 ≤ i → tooLong i here (e ∷ es) ≡ 0 → (e ≤ here + maxSlip) × (tooLong (suc i) e es ≡ 0)
-short-rest i here e es p h =
-    elim (tell (ltb (here + maxSlip) e)) [
-      | inl t ↦ absurd (omega (arith, rw (t, tooLong) at h))
-      | inr t ↦ (ltb-false (here + maxSlip) e t, rw (t, tooLong) at h)
-    ]
+module _ (m : ℕ) where
+  short-rest : (i here e : ℕ) (es : List ℕ) → 1 ≤ i → tooLong m i here (e ∷ es) ≡ 0 → (e ≤ here + m) × (tooLong m (suc i) e es ≡ 0)
+  short-rest i here e es p h =
+      elim (tell (ltb (here + m) e)) [
+        | inl t ↦ absurd (omega (arith, rw (t, tooLong) at h))
+        | inr t ↦ (ltb-false (here + m) e t, rw (t, tooLong) at h)
+      ]
 
-short-at : (i here : ℕ) (es : List ℕ) → 1 ≤ i → tooLong i here es ≡ 0 → (k : ℕ) → k < length es → getD es k 0 ≤ getD (here ∷ es) k 0 + maxSlip
-short-at i here [] p h k l = absurd (omega arith)
-short-at i here (e ∷ es) p h zero l = short-rest i here e es p h .0
-short-at i here (e ∷ es) p h (suc k) l = short-at (suc i) e es (omega arith) (short-rest i here e es p h .1) k (omega arith)
+  short-at : (i here : ℕ) (es : List ℕ) → 1 ≤ i → tooLong m i here es ≡ 0 → (k : ℕ) → k < length es → getD es k 0 ≤ getD (here ∷ es) k 0 + m
+  short-at i here [] p h k l = absurd (omega arith)
+  short-at i here (e ∷ es) p h zero l = short-rest i here e es p h .0
+  short-at i here (e ∷ es) p h (suc k) l = short-at (suc i) e es (omega arith) (short-rest i here e es p h .1) k (omega arith)
 
 module _ (s es : List ℕ) (acc : trayFault s es .number ≡ 0) where
   long : (i : ℕ) → 1 ≤ i → i ≤ length es → startOf es i + length (slip (slipsOf s es) i) ≡ endOf es i
@@ -46,7 +47,7 @@ module _ (s es : List ℕ) (acc : trayFault s es .number ≡ 0) where
 
   short : (i : ℕ) → 1 ≤ i → i ≤ length es → length (slip (slipsOf s es) i) ≤ maxSlip
   short zero p l = absurd (omega arith)
-  short (suc k) p l = omega (arith, long (suc k) p l, end-at es k, short-at 1 0 es (omega arith) (accepted-tells s es acc .short) k l)
+  short (suc k) p l = omega (arith, long (suc k) p l, end-at es k, short-at maxSlip 1 0 es (omega arith) (accepted-tells s es acc .short) k l)
 
   apart : (i k : ℕ) → i < k → k ≤ length es → endOf es i ≤ startOf es k
   apart i zero h l = absurd (omega arith)

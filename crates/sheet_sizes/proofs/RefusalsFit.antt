@@ -46,12 +46,12 @@ notAbove-most i here (e ∷ es) =
     (λ t. rw (t, notAbove) (omega arith))
     (λ t. rw (t, notAbove) (omega (arith, notAbove-most (suc i) e es)))
 
-tooLong-most : (i here : ℕ) (es : List ℕ) → tooLong (suc i) here es ≤ i + length es
-tooLong-most i here [] = omega arith
-tooLong-most i here (e ∷ es) =
-    by-test (ltb (here + maxSlip) e)
+tooLong-most : (m i here : ℕ) (es : List ℕ) → tooLong m (suc i) here es ≤ i + length es
+tooLong-most m i here [] = omega arith
+tooLong-most m i here (e ∷ es) =
+    by-test (ltb (here + m) e)
     (λ t. rw (t, tooLong) (omega arith))
-    (λ t. rw (t, tooLong) (omega (arith, tooLong-most (suc i) e es)))
+    (λ t. rw (t, tooLong) (omega (arith, tooLong-most m (suc i) e es)))
 
 badSlip-most : (i : ℕ) (xs : List (List ℕ)) → badSlip (suc i) xs ≤ i + length xs
 badSlip-most i [] = omega arith
@@ -81,7 +81,7 @@ tray-refusal-fits s es =
     rows-fit (tailOf (trayRows s es)) (
       row-fits 2 (leb 1 (notAbove 1 0 es)) (notAbove 1 0 es) (omega arith) (omega (arith, notAbove-most 0 0 es)),
       (
-        row-fits 3 (leb 1 (tooLong 1 0 es)) (tooLong 1 0 es) (omega arith) (omega (arith, tooLong-most 0 0 es)),
+        row-fits 3 (leb 1 (tooLong maxSlip 1 0 es)) (tooLong maxSlip 1 0 es) (omega arith) (omega (arith, tooLong-most maxSlip 0 0 es)),
         (
           row-fits 4 (ltb maxLetters (length s)) 0 (omega arith) (omega arith),
           (

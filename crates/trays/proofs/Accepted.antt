@@ -1,6 +1,7 @@
 -- What is known of an accepted tray, and where its slips stand.
---   Accepted s es  == no row of 1 to 6 turns the tray back
---   Signs x        == x is made of the 27 signs
+--   Accepted m s es  == no row of 1 to 6 turns the tray back, where a slip may have m letters
+--   rows-tell        == so where the rows for m are silent; accepted-tells, for the limit that holds
+--   Signs x          == x is made of the 27 signs
 use mathlib.Core.Path.{_≡_, refl, _∙_, ap}
 use mathlib.Core.Bool.{Bool, true, false, not}
 use mathlib.Core.List.{List, [], _∷_}
@@ -14,9 +15,9 @@ use Rattle.words.specs.Lists.{any, lastOr}
 use Rattle.words.proofs.Tests.{by-test}
 use Rattle.words.proofs.Sums.{All}
 use Rattle.trays.specs.declared.Refusal.{Refusal}
-use Rattle.trays.specs.Limits.{maxSlips, maxLetters}
+use Rattle.trays.specs.Limits.{maxSlips, maxSlip, maxLetters}
 use Rattle.trays.specs.Slips.{slipsFrom, slipsOf, slip, isLetter, startOf, endOf}
-use Rattle.trays.specs.Faults.{row, firstRow, trayRows, trayFault, notAbove, tooLong, badSlip}
+use Rattle.trays.specs.Faults.{row, firstRow, trayRowsFor, trayFault, notAbove, tooLong, badSlip}
 use Rattle.trays.proofs.Rising.{above-rest}
 use Rattle.trays.proofs.Rows.{both-silent, slip-zero}
 
@@ -32,28 +33,31 @@ row-silent n true d h = absurd (no h)
     no q = omega arith
 row-silent n false d h = refl
 
-pub record Accepted (s es : List ℕ) : Type 0 where
+pub record Accepted (m : ℕ) (s es : List ℕ) : Type 0 where
   pub few : length es ≤ maxSlips
   pub rise : notAbove 1 0 es ≡ 0
-  pub short : tooLong 1 0 es ≡ 0
+  pub short : tooLong m 1 0 es ≡ 0
   pub small : length s ≤ maxLetters
   pub reach : lastOr 0 es ≡ length s
   pub signs : badSlip 1 (slipsOf s es) ≡ 0
 
-pub accepted-tells : (s es : List ℕ) → trayFault s es .number ≡ 0 → Accepted s es
-unfolding trayFault
-accepted-tells s es h =
-    let r = rows-silent (trayRows s es) h in
+pub rows-tell : (m : ℕ) (s es : List ℕ) → firstRow (trayRowsFor m s es) .number ≡ 0 → Accepted m s es
+rows-tell m s es h =
+    let r = rows-silent (trayRowsFor m s es) h in
     record {
       few = ltb-false maxSlips (length es) (row-silent 0 (ltb maxSlips (length es)) 0 (r .0));
       rise = slip-zero 1 (notAbove 1 0 es) (r .1 .0);
-      short = slip-zero 2 (tooLong 1 0 es) (r .1 .1 .0);
+      short = slip-zero 2 (tooLong m 1 0 es) (r .1 .1 .0);
       small = ltb-false maxLetters (length s) (row-silent 3 (ltb maxLetters (length s)) 0 (r .1 .1 .1 .0));
       reach =
           eqb-true (lastOr 0 es) (length s)
           (not-false (eqb (lastOr 0 es) (length s)) (row-silent 4 (not (eqb (lastOr 0 es) (length s))) 0 (r .1 .1 .1 .1 .0)));
       signs = slip-zero 5 (badSlip 1 (slipsOf s es)) (r .1 .1 .1 .1 .1 .0);
     }
+
+pub accepted-tells : (s es : List ℕ) → trayFault s es .number ≡ 0 → Accepted maxSlip s es
+unfolding trayFault
+accepted-tells s es h = rows-tell maxSlip s es h
 
 -- ends rise: each is above those before it
 rise-at : (i here : ℕ) (es : List ℕ) → 1 ≤ i → notAbove i here es ≡ 0 → (k : ℕ) → k ≤ length es → here ≤ getD (here ∷ es) k 0

@@ -3,7 +3,9 @@
 --   firstRow rs   == the first refusal of the rows, which are taken top to bottom
 --   written f xs old == a lent buffer afterwards: xs written over its first part, unless f turns the call back
 --   badPlace i s  == the place, counted from i, of the first byte outside the signs; 0 for none
---   trayRows      == place B, tray: 1 to 6
+--   tooLong m ..  == the lowest slip of more than m letters; 0 for none
+--   trayRowsFor m == place B, tray: 1 to 6, where a slip may have m letters
+--   trayRows      == the same for the limit that holds
 --   trayFault     == the tray itself is turned back, or 0
 --   slipRow       == place B, request: 10
 --   pairRow       == place B, request: 11
@@ -41,10 +43,10 @@ abbrev pub notAbove : ℕ → ℕ → List ℕ → ℕ
 notAbove i here [] = 0
 notAbove i here (e ∷ es) = elim (leb e here) [ true ↦ i | false ↦ notAbove (suc i) e es ]
 
--- the lowest slip over the limit; 0 for none
-abbrev pub tooLong : ℕ → ℕ → List ℕ → ℕ
-tooLong i here [] = 0
-tooLong i here (e ∷ es) = elim (ltb (here + maxSlip) e) [ true ↦ i | false ↦ tooLong (suc i) e es ]
+-- the lowest slip, counted from i, of more than m letters; 0 for none
+abbrev pub tooLong : ℕ → ℕ → ℕ → List ℕ → ℕ
+tooLong m i here [] = 0
+tooLong m i here (e ∷ es) = elim (ltb (here + m) e) [ true ↦ i | false ↦ tooLong m (suc i) e es ]
 
 -- the lowest slip with a byte outside the signs; 0 for none
 abbrev pub badSlip : ℕ → List (List ℕ) → ℕ
@@ -59,14 +61,17 @@ badPlace i (b ∷ bs) = elim (isLetter b) [ true ↦ badPlace (suc i) bs | false
 abbrev pub slipAt : ℕ → ℕ → Refusal
 slipAt n d = row n (leb 1 d) d
 
-abbrev pub trayRows : List ℕ → List ℕ → List Refusal
-trayRows s es =
+abbrev pub trayRowsFor : ℕ → List ℕ → List ℕ → List Refusal
+trayRowsFor m s es =
     row 1 (ltb maxSlips (length es)) 0
     ∷ (slipAt 2 (notAbove 1 0 es)
-    ∷ (slipAt 3 (tooLong 1 0 es)
+    ∷ (slipAt 3 (tooLong m 1 0 es)
     ∷ (row 4 (ltb maxLetters (length s)) 0
     ∷ (row 5 (not (eqb (lastOr 0 es) (length s))) 0
     ∷ (slipAt 6 (badSlip 1 (slipsOf s es)) ∷ [])))))
+
+abbrev pub trayRows : List ℕ → List ℕ → List Refusal
+trayRows s es = trayRowsFor maxSlip s es
 
 unfoldable pub trayFault : List ℕ → List ℕ → Refusal
 trayFault s es = firstRow (trayRows s es)

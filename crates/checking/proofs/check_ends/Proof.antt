@@ -3,6 +3,7 @@
 use mathlib.Core.Path.{_≡_}
 use Prim.Native.Nat.{_+_, _-_, _≤_, _<_}
 use lib.ListN.{length, drop}
+use Rattle.trays.specs.Limits.{maxSlip}
 use Rattle.trays.specs.Faults.{notAbove, tooLong}
 use Rattle.checking.specs.steps.Checks.{firstOf}
 use Rattle.checking.proofs.CheckLoops.{ends-fall, ends-above, ends-long, ends-too-long, ends-good}
@@ -13,7 +14,7 @@ use Rattle.checking.proofs.check_ends.Tie as tie
 abbrev Inv-loop : tie.InvT-loop
 Inv-loop ends here₀ long₀ slip₀ i₀ here long slip i =
     (i ≤ length ends) × (slip ≡ i + 1) × (here < 65536) × (notAbove 1 0 ends ≡ notAbove slip here (drop i ends)) ×
-    (tooLong 1 0 ends ≡ firstOf long (tooLong slip here (drop i ends)))
+    (tooLong maxSlip 1 0 ends ≡ firstOf long (tooLong maxSlip slip here (drop i ends)))
 
 abbrev μ-loop : tie.MeasureT-loop
 μ-loop ends here₀ long₀ slip₀ i₀ here long slip i = length ends - i

@@ -18,7 +18,7 @@ abbrev pub noteLong : ℕ → ℕ → ℕ → ℕ → ℕ
 noteLong long i here e = firstOf long (cond (ltb (here + maxSlip) e) i 0)
 
 abbrev pub endsFault : List ℕ → Refusal
-endsFault es = firstRow (slipAt 2 (notAbove 1 0 es) ∷ (slipAt 3 (tooLong 1 0 es) ∷ []))
+endsFault es = firstRow (slipAt 2 (notAbove 1 0 es) ∷ (slipAt 3 (tooLong maxSlip 1 0 es) ∷ []))
 
 abbrev pub slipHolding : ℕ → ℕ → List ℕ → ℕ
 slipHolding i p [] = 0
