@@ -13,7 +13,7 @@ ORDER = 200
 abbrev pub COMMON : ℕ
 COMMON = 400
 
--- 42 cells: for each length its first node
+-- 42 cells: for each length its first node, and the number behind the last; enough where a slip has at most 40 letters
 abbrev pub LEVEL : ℕ
 LEVEL = 600
 

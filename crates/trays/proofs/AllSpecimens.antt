@@ -3,17 +3,20 @@
 --   Specimen A B   == an input of type A and its value of type B
 --   keptOf ws      == the kept slips of a tray that is written as words
 --   rows n k       == a tray of n slips of k letters
+--   filled n       == a tray of n letters in as few slips as the limit allows: all but the last have as many letters as a slip may have
 --   faultOf t      == the refusal of a tray
 use mathlib.Core.Path.{_≡_, refl}
 use mathlib.Core.Bool.{true, false}
-use mathlib.Core.List.{List, [], _∷_, map}
-use Prim.Native.Nat.{ℕ, _*_}
+use mathlib.Core.List.{List, [], _∷_, _++_, map}
+use Prim.Native.Nat.{ℕ, suc, _*_}
 use Prim.Native.String.{String}
-use Rattle.words.specs.Lists.{upFrom}
+use lib.Dec.{ltb}
+use Rattle.words.specs.Lists.{those, upFrom}
 use Rattle.words.specs.Words.{overlapFor}
 use Rattle.words.specs.Quoted.{word}
 use Rattle.trays.specs.declared.Refusal.{Refusal}
 use Rattle.trays.specs.declared.Pair.{Pair}
+use Rattle.trays.specs.Limits.{maxSlips, maxSlip}
 use Rattle.trays.specs.Slips.{numbers}
 use Rattle.trays.specs.Aside.{kept, counted}
 use Rattle.trays.specs.Faults.{trayFault, slipFault, pairFault, refusal}
@@ -75,8 +78,15 @@ pub record Tray : Type 0 where
 abbrev tray : String → List ℕ → Tray
 tray s es = record { letters = word s; ends = es }
 
+-- of A alone
+abbrev plain : ℕ → List ℕ → Tray
+plain n es = record { letters = map (λ i. 65) (upFrom 1 n); ends = es }
+
 abbrev rows : ℕ → ℕ → Tray
-rows n k = record { letters = map (λ i. 65) (upFrom 1 (n * k)); ends = map (λ i. i * k) (upFrom 1 n) }
+rows n k = plain (n * k) (map (λ i. i * k) (upFrom 1 n))
+
+abbrev filled : ℕ → Tray
+filled n = plain n (those (λ e. ltb e n) (map (λ i. i * maxSlip) (upFrom 1 maxSlips)) ++ (n ∷ []))
 
 abbrev pub faultOf : Tray → Refusal
 faultOf t = trayFault (t .letters) (t .ends)
@@ -86,13 +96,16 @@ pub fault-specimens : List (Specimen Tray Refusal)
 fault-specimens =
     specimen (tray "" []) (refusal 0 0)
     ∷ specimen (tray "A.Z" (1 ∷ 3 ∷ [])) (refusal 0 0)
-    ∷ specimen (rows 50 40) (refusal 0 0)
     ∷ specimen (rows 200 1) (refusal 0 0)
     ∷ specimen (rows 201 1) (refusal 1 0)
+    ∷ specimen (rows 1 maxSlip) (refusal 0 0)
+    ∷ specimen (rows 1 (suc maxSlip)) (refusal 3 1)
+    ∷ specimen (filled 2000) (refusal 0 0)
+    ∷ specimen (filled 2001) (refusal 4 0)
     ∷ specimen (tray "" (0 ∷ [])) (refusal 2 1)
     ∷ specimen (tray "ab" (2 ∷ 1 ∷ [])) (refusal 2 2)
-    ∷ specimen (rows 60 41) (refusal 3 1)
-    ∷ specimen (rows 51 40) (refusal 4 0)
+    -- over the limit of a tray too
+    ∷ specimen (rows 200 (suc maxSlip)) (refusal 3 1)
     ∷ specimen (tray "ab" (1 ∷ [])) (refusal 5 0)
     ∷ specimen (tray "AbC[" (1 ∷ 3 ∷ 4 ∷ [])) (refusal 6 2)
     ∷ []

@@ -3,7 +3,7 @@
 --   letters, bounds  == the letters and the ends of the sample tray, whose slips are `slips`
 use mathlib.Core.Path.{_≡_, refl}
 use mathlib.Core.List.{List, [], _∷_, map}
-use Prim.Native.Nat.{ℕ}
+use Prim.Native.Nat.{ℕ, suc, _+_, _*_}
 use Rattle.words.specs.Lists.{those, upFrom}
 use Rattle.words.specs.Quoted.{word}
 use Rattle.trays.specs.Limits.{maxSlips, maxSlip, maxLetters, maxText, workNeed, maxFile, endsNeed}
@@ -11,10 +11,11 @@ use Rattle.trays.specs.Slips.{slipsOf, slip, numbers, isLetter, spanOf, 
 use Rattle.trays.specs.Faults.{refusal, written, trayFault, slipFault, pairFault}
 use Rattle.trays.specs.Answers.{Stretch}
 
+-- all but the longest slip, whose number the specimens take from its definition
 limits :
     _≡_ {A = List ℕ}
-    (maxSlips ∷ maxSlip ∷ maxLetters ∷ maxText ∷ workNeed ∷ maxFile ∷ endsNeed ∷ [])
-    (200 ∷ 40 ∷ 2000 ∷ 2000 ∷ 32000 ∷ 16384 ∷ 1700 ∷ [])
+    (maxSlips ∷ maxLetters ∷ maxText ∷ workNeed ∷ maxFile ∷ endsNeed ∷ [])
+    (200 ∷ 2000 ∷ 2000 ∷ 32000 ∷ 16384 ∷ 1700 ∷ [])
 limits = refl
 
 -- 27 signs: the full stop, and A to Z
@@ -47,10 +48,10 @@ spans = refl
 -- bad letters, and one row fewer at fault each time: the first row wins; its detail is the lowest slip at fault
 first-rows :
     (trayFault (upFrom 1 2001) (upFrom 0 201)
-    ∷ trayFault (upFrom 1 2001) (41 ∷ 50 ∷ 49 ∷ 48 ∷ [])
-    ∷ trayFault (upFrom 1 2001) (40 ∷ 81 ∷ 122 ∷ [])
-    ∷ trayFault (upFrom 1 2001) (40 ∷ [])
-    ∷ trayFault (upFrom 1 2000) (40 ∷ [])
+    ∷ trayFault (upFrom 1 2001) (suc maxSlip ∷ 100 ∷ 99 ∷ 98 ∷ [])
+    ∷ trayFault (upFrom 1 2001) (maxSlip ∷ (2 * maxSlip + 1) ∷ (3 * maxSlip + 2) ∷ [])
+    ∷ trayFault (upFrom 1 2001) (maxSlip ∷ [])
+    ∷ trayFault (upFrom 1 2000) (maxSlip ∷ [])
     ∷ trayFault (word "AB--E") (3 ∷ 5 ∷ [])
     ∷ trayFault (word "ABC-E") (3 ∷ 5 ∷ [])
     ∷ [])
