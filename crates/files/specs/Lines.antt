@@ -7,7 +7,8 @@
 --   slipField l    == the slip number of the line l
 --   lengthField l  == its stated length
 --   isLaidOut l    == l has the layout of a tray line
---   letters l      == the letters of l, as they are filed
+--   typed l        == the letters of l, as they stand
+--   letters l      == the same as they are filed
 use mathlib.Core.Bool.{Bool, true, false, _&&_}
 use mathlib.Core.List.{List, [], _∷_, map}
 use Prim.Native.Nat.{ℕ, suc, _+_, _-_, _*_}
@@ -58,6 +59,9 @@ abbrev pub isLaidOut : List ℕ → Bool
 isLaidOut l =
     leb 10 (length l) && (eqb (lastOr 0 l) lf && (leb 1 (slipField l) && (leb 1 (lengthField l) && eqb (getD l 8 0) blank)))
 
+abbrev pub typed : List ℕ → List ℕ
+typed l = take (length l - 10) (drop 9 l)
+
 -- Folding comes before the tray checks; columns 1 to 9 and the count of letters are those of the line as it stands.
 abbrev pub letters : List ℕ → List ℕ
-letters l = map fold (take (length l - 10) (drop 9 l))
+letters l = map fold (typed l)
