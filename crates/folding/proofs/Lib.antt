@@ -2,3 +2,4 @@
 pub mod AllSpecimens
 pub mod Bytes
 pub mod Signs
+pub mod FoldedTrays

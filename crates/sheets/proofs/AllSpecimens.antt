@@ -2,14 +2,16 @@
 -- Modules are checked in the order of their names: an edited layout is refused here first.
 use mathlib.Core.Path.{_≡_, refl}
 use mathlib.Core.List.{List, [], _∷_, _++_, map}
-use Prim.Native.Nat.{ℕ}
+use Prim.Native.Nat.{ℕ, _+_}
 use lib.ListN.{replicate}
 use Rattle.words.specs.Quoted.{word}
+use Rattle.trays.specs.Limits.{maxSlip}
 use Rattle.trays.specs.Faults.{refusal, trayFault}
 use Rattle.folding.specs.Folding.{fold}
 use Rattle.files.specs.Faults.{readFault}
 use Rattle.sheets.specs.Sheets.{decimal, column, composeSheetOf, findSheetOf, refusedLine}
-use Rattle.sheets.specs.Programs.{composeSheetFault, composeSheet, textFault, findSheetFault, findSheet}
+use Rattle.sheets.specs.Programs.{lettersIn, composeSheetFault, composeSheet, textFault, findSheetFault, findSheet}
+use Rattle.sheets.specs.Stored.{typedIn, storedFault}
 
 abbrev tray : List (List ℕ)
 tray = map word ("IMPCAES" ∷ "AES" ∷ "CAESAVG" ∷ "VGPIVS" ∷ "SIMP" ∷ [])
@@ -62,6 +64,21 @@ pub compose-file-specimens :
     ∷ word "TRAY   2   1    3    0    3\n   1   3    1 K\n   2   2    2 S\nAVG\n" ∷ [])
 unfolding decimal column composeSheetOf trayFault fold readFault composeSheetFault composeSheet
 compose-file-specimens = refl
+
+-- files stored where a slip could have 8 letters more, with slips of maxSlip letters, of 1 and of 8 more: in capitals, which were composed
+-- unfolded too, and in small letters, which were not; both give 3 with the lowest too long slip now
+abbrev line : ℕ → ℕ → ℕ → List ℕ
+line letter i n = column 4 i ++ column 4 n ++ word " " ++ replicate n letter ++ word "\n"
+
+abbrev stored : ℕ → List ℕ
+stored letter = line letter 1 maxSlip ++ line letter 2 (maxSlip + 1) ++ line letter 3 (maxSlip + 8)
+
+pub stored-specimens :
+    map (λ (file : List ℕ). storedFault (maxSlip + 8) (lettersIn file) file ∷ storedFault (maxSlip + 8) (typedIn file) file ∷ composeSheetFault file ∷ [])
+    (stored 65 ∷ stored 97 ∷ [])
+    ≡ ((refusal 0 0 ∷ refusal 0 0 ∷ refusal 3 2 ∷ []) ∷ (refusal 0 0 ∷ refusal 6 1 ∷ refusal 3 2 ∷ []) ∷ [])
+unfolding decimal column trayFault fold readFault composeSheetFault
+stored-specimens = refl
 
 -- from both files' bytes: the rules' text with and without LF and in small letters, no text, and what is turned back, the tray before the text
 abbrev sample : List ℕ

@@ -3,3 +3,4 @@ pub mod AllSpecimens
 pub mod Columns
 pub mod ReadBack
 pub mod LongFiles
+pub mod Stored

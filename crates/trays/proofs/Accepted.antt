@@ -119,7 +119,7 @@ module _ (s es : List ℕ) (acc : trayFault s es .number ≡ 0) where
 abbrev pub Signs : List ℕ → Type 0
 Signs x = any (λ b. not (isLetter b)) x ≡ false
 
-signs-rest : (i : ℕ) (x : List ℕ) (xs : List (List ℕ)) → 1 ≤ i → badSlip i (x ∷ xs) ≡ 0 → Signs x × (badSlip (suc i) xs ≡ 0)
+pub signs-rest : (i : ℕ) (x : List ℕ) (xs : List (List ℕ)) → 1 ≤ i → badSlip i (x ∷ xs) ≡ 0 → Signs x × (badSlip (suc i) xs ≡ 0)
 signs-rest i x xs p h =
     by-test (any (λ b. not (isLetter b)) x)
     (λ t. absurd (omega (arith, rw (t, badSlip) at h)))

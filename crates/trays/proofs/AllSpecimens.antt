@@ -8,7 +8,7 @@
 use mathlib.Core.Path.{_≡_, refl}
 use mathlib.Core.Bool.{true, false}
 use mathlib.Core.List.{List, [], _∷_, _++_, map}
-use Prim.Native.Nat.{ℕ, suc, _*_}
+use Prim.Native.Nat.{ℕ, suc, _+_, _*_}
 use Prim.Native.String.{String}
 use lib.Dec.{ltb}
 use Rattle.words.specs.Lists.{those, upFrom}
@@ -19,7 +19,7 @@ use Rattle.trays.specs.declared.Pair.{Pair}
 use Rattle.trays.specs.Limits.{maxSlips, maxSlip}
 use Rattle.trays.specs.Slips.{numbers}
 use Rattle.trays.specs.Aside.{kept, counted}
-use Rattle.trays.specs.Faults.{trayFault, slipFault, pairFault, refusal}
+use Rattle.trays.specs.Faults.{firstRow, trayRowsFor, trayFault, slipFault, pairFault, refusal}
 use Rattle.trays.specs.Answers.{stretchOf, pairOf}
 
 pub record Specimen (A B : Type 0) : Type 0 where
@@ -113,6 +113,15 @@ fault-specimens =
 pub faults-computed : map (λ s. faultOf (s .given)) fault-specimens ≡ map (λ s. s .value) fault-specimens
 unfolding fault-specimens trayFault
 faults-computed = refl
+
+-- a tray stored where a slip could have 8 letters more: slips of maxSlip letters, of 1 and of 8 more; 3 names the lowest too long one, not the longest
+abbrev stored : Tray
+stored = plain (3 * maxSlip + 9) (maxSlip ∷ (2 * maxSlip + 1) ∷ (3 * maxSlip + 9) ∷ [])
+
+pub stored-specimen :
+    (firstRow (trayRowsFor (maxSlip + 8) (stored .letters) (stored .ends)) ∷ faultOf stored ∷ []) ≡ (refusal 0 0 ∷ refusal 3 2 ∷ [])
+unfolding trayFault
+stored-specimen = refl
 
 -- requests on the tray AVG, CAESAVG
 abbrev pub stretchAt : ℕ → List ℕ

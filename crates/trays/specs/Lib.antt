@@ -4,3 +4,4 @@ pub mod Slips
 pub mod Aside
 pub mod Faults
 pub mod Answers
+pub mod Stored

@@ -6,6 +6,8 @@
 use mathlib.Core.Path.{_≡_, refl, sym, ap, ap₂, _∙_}
 use mathlib.Core.Bool.{Bool, _||_}
 use mathlib.Core.List.{List, [], _∷_, _++_, map, map-append}
+use Prim.Native.Nat.{ℕ, zero, suc}
+use lib.ListN.{take, drop}
 use Rattle.words.specs.Lists.{each, those, any, insert, inOrder, tailOf}
 use Rattle.words.proofs.Tests.{by-test}
 use Rattle.words.proofs.Sums.{All, all-append}
@@ -64,3 +66,13 @@ module _ {A B : Type 0} (f : A → B) (P : A → Type 0) where
 pub tailOf-map : {A B : Type 0} (f : A → B) (xs : List A) → tailOf (map f xs) ≡ map f (tailOf xs)
 tailOf-map f [] = refl
 tailOf-map f (x ∷ xs) = refl
+
+pub take-map : {A B : Type 0} (f : A → B) (n : ℕ) (xs : List A) → take n (map f xs) ≡ map f (take n xs)
+take-map f zero xs = refl
+take-map f (suc n) [] = refl
+take-map f (suc n) (x ∷ xs) = ap (λ l. f x ∷ l) (take-map f n xs)
+
+pub drop-map : {A B : Type 0} (f : A → B) (n : ℕ) (xs : List A) → drop n (map f xs) ≡ map f (drop n xs)
+drop-map f zero xs = refl
+drop-map f (suc n) [] = refl
+drop-map f (suc n) (x ∷ xs) = drop-map f n xs
