@@ -1,5 +1,6 @@
 //! What is right, said once more and in another way than the library says it: a plain program that compares all pairs of
-//! slips, written only from the sentences of the rules. It shares no table, no loop and no order of work with the library.
+//! slips, written only from the sentences of the rules. It shares no table, no loop and no order of work with the library; the numbers
+//! of the limits are those of the Rust crate.
 //!
 //! - [`tray`], [`fold`], [`mod@file`], [`compose`], [`find`], [`sheet`]: the plain program.
 //! - [`by_hand`]: what was worked out by hand.
@@ -13,30 +14,13 @@ pub mod compose;
 pub mod file;
 pub mod find;
 pub mod fold;
+#[path = "../../rust/src/limits.rs"]
+mod limits;
 pub mod made;
 pub mod sheet;
 pub mod tray;
 
-/// The most slips that a tray has.
-pub const MAX_SLIPS: usize = 200;
-
-/// The most letters that a slip has.
-pub const MAX_SLIP: usize = 40;
-
-/// The most letters that a tray has.
-pub const MAX_LETTERS: usize = 2_000;
-
-/// The most letters that a text has.
-pub const MAX_TEXT: usize = 2_000;
-
-/// So many cells of the work area are asked for.
-pub const WORK_CELLS: usize = 32_000;
-
-/// The most bytes that a tray file has, and the letters that reading one asks for.
-pub const MAX_FILE: usize = 16_384;
-
-/// The ends that reading a tray file asks for.
-pub const FILE_ENDS: usize = 1_700;
+pub use limits::{FILE_ENDS, MAX_FILE, MAX_LETTERS, MAX_SLIP, MAX_SLIPS, MAX_TEXT, WORK_CELLS};
 
 /// The occurrences that the list of the program `find` takes.
 pub const MAX_FOUND: usize = 8_000;

@@ -24,34 +24,15 @@
 
 mod asking;
 mod finding;
+mod limits;
 mod refusal;
 mod tray;
 
 pub use asking::{read_tray, Read};
 pub use finding::{find, find_slips, Finding, Found, Search};
+pub use limits::{FILE_ENDS, MAX_FILE, MAX_LETTERS, MAX_SLIP, MAX_SLIPS, MAX_TEXT, WORK_CELLS};
 pub use refusal::Refusal;
 pub use tray::{compose_tray, Legend, Tray};
-
-/// So many cells of the work area are asked for (refusal 7).
-pub const WORK_CELLS: usize = 32_000;
-
-/// The most slips that a tray has (refusal 1).
-pub const MAX_SLIPS: usize = 200;
-
-/// The most letters that a slip has (refusal 3).
-pub const MAX_SLIP: usize = 40;
-
-/// The most letters that a tray has (refusal 4).
-pub const MAX_LETTERS: usize = 2_000;
-
-/// The most letters that a text has (refusal 12).
-pub const MAX_TEXT: usize = 2_000;
-
-/// The most bytes that a tray file has (refusal 16), and so many letters are lent for one (refusal 15).
-pub const MAX_FILE: usize = 16_384;
-
-/// So many ends are lent for a tray file (refusal 15).
-pub const FILE_ENDS: usize = 1_700;
 
 /// Two slips joined: the right one is laid behind the left one and shares `overlap` letters with it.
 #[repr(C)]

@@ -1,4 +1,5 @@
 //! What turns a call back.
+use crate::MAX_SLIP;
 use std::error::Error;
 use std::fmt;
 
@@ -24,7 +25,7 @@ impl fmt::Display for Refusal {
         match self.number {
             1 => write!(f, "the tray has over 200 slips"),
             2 => write!(f, "the end of slip {d} is not above the one before"),
-            3 => write!(f, "slip {d} has over 40 letters"),
+            3 => write!(f, "slip {d} has over {MAX_SLIP} letters"),
             4 => write!(f, "the tray has over 2,000 letters"),
             5 => write!(f, "the last end is not the count of letters"),
             6 => write!(
