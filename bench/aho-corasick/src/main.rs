@@ -4,7 +4,7 @@ mod families;
 
 use aho_corasick::{AhoCorasick, AhoCorasickBuilder};
 use families::{Family, FAMILIES};
-use kotsghane::{find, find_slips, Found, Search, Tray, WORK_CELLS};
+use kotsghane::{find, find_slips, Found, Search, Tray, MAX_SLIP, WORK_CELLS};
 use plain::made::texts::text;
 use plain::made::{valid, Chance};
 use plain::tray;
@@ -55,7 +55,7 @@ fn compare(slips: &[Vec<u8>], text: &[u8]) -> Vec<Found> {
 fn compare_made_up() -> usize {
     let mut chance = Chance::new(77);
     let mut one = |n: usize| {
-        let slips = valid(&mut chance, [8, 40, 200][n % 3], 40);
+        let slips = valid(&mut chance, [8, 40, 200][n % 3], MAX_SLIP);
         let letters = chance.below([80, 400, 2_001][n % 3]);
         let text = text(&mut chance, &slips, letters);
         compare(&slips, &text).len()

@@ -13,6 +13,7 @@ use plain::made::{valid, Chance};
 use plain::refusal;
 use plain::sheet::{compose_sheet, find_sheet};
 use plain::tray::{overlap, Tray};
+use plain::MAX_SLIP;
 use std::collections::BTreeSet;
 
 #[test]
@@ -117,20 +118,20 @@ fn lent_letters_are_not_folded() {
 /// The rows of the edge trays, and all bytes as signs.
 #[test]
 fn edge_trays() {
-    let mut expected = edges::EXPECTED.lines();
-    for row in edges::ROWS.lines() {
-        let told = match edges::asked(row) {
-            None => row.to_string(),
+    let mut expected = edges::expected().into_iter();
+    for row in edges::rows() {
+        let told = match edges::asked(&row) {
+            None => row,
             Some(asked) => {
                 let answer = Case::Ask(asked.tray, asked.left, asked.right).answer();
                 answer.replacen('A', &format!("{}:", asked.name), 1)
             }
         };
-        assert_eq!(Some(told.as_str()), expected.next());
+        assert_eq!(Some(told), expected.next());
     }
     let signs = Case::Signs.answer();
     let accepted = signs.trim_start_matches("S [").trim_end_matches(']');
-    assert_eq!(Some(accepted), expected.next());
+    assert_eq!(Some(accepted.to_string()), expected.next());
     assert_eq!(None, expected.next());
 }
 
@@ -160,7 +161,7 @@ fn overlaps() {
 fn both_sentences_of_the_state() {
     let mut chance = Chance::new(38);
     for _ in 0..1_000 {
-        let all = valid(&mut chance, 6, 40);
+        let all = valid(&mut chance, 6, MAX_SLIP);
         let n = chance.below(60);
         let text = text(&mut chance, &all, n);
         let slips: Vec<&[u8]> = all.iter().map(Vec::as_slice).collect();

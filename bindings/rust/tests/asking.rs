@@ -1,7 +1,7 @@
 //! One slip, pairs and tray files through the exported calls, against the plain program.
 mod tally;
 
-use kotsghane::{compose_tray, read_tray, Read, Refusal, Tray, FILE_ENDS, MAX_FILE};
+use kotsghane::{compose_tray, read_tray, Read, Refusal, Tray, FILE_ENDS, MAX_FILE, MAX_SLIP};
 use plain::by_hand::{COMPOSE, FILED, TYPED_FILE};
 use plain::made::damage::{damaged, DAMAGES};
 use plain::made::files::{damaged_file, tray_file, BLOTS};
@@ -49,7 +49,7 @@ fn slips_and_pairs_agree() {
     for n in 0..8_000 {
         let tray = match n % 4 {
             0 => damaged(&mut chance, DAMAGES[n / 4 % DAMAGES.len()], 12),
-            _ => tray::Tray::of(&valid(&mut chance, 12, 40)),
+            _ => tray::Tray::of(&valid(&mut chance, 12, MAX_SLIP)),
         };
         if tray.ends.len() <= 12 {
             pairs += try_tray(&tray, &mut tally);
@@ -64,7 +64,7 @@ fn slips_and_pairs_agree() {
 fn pairs_with_many_stops_agree() {
     let (mut chance, mut tally, mut met) = (Chance::new(45), Tally::default(), 0);
     for n in 0..4_000 {
-        let tray = tray::Tray::of(&many_stops(&mut chance, 12, [12, 40][n % 2]));
+        let tray = tray::Tray::of(&many_stops(&mut chance, 12, [12, MAX_SLIP][n % 2]));
         met += usize::from(share_stops_alone(&tray));
         try_tray(&tray, &mut tally);
     }
@@ -120,7 +120,7 @@ fn try_file(chance: &mut Chance, made: &[u8], letters: usize, ends: usize, tally
 fn tray_files_agree() {
     let (mut chance, mut tally) = (Chance::new(42), Tally::default());
     for n in 0..3_000 {
-        let all = valid(&mut chance, [6, 40, 200][n % 3], 40);
+        let all = valid(&mut chance, [6, 40, 200][n % 3], MAX_SLIP);
         let made = match n % 4 {
             0 => tray_file(&all),
             _ => damaged_file(&mut chance, &all, BLOTS[n / 4 % BLOTS.len()]),
@@ -138,7 +138,7 @@ fn tray_files_agree() {
 fn typed_files_agree() {
     let (mut chance, mut tally, mut met) = (Chance::new(46), Tally::default(), 0);
     for n in 0..3_000 {
-        let signs = many_forms(&mut chance, [6, 40, 200][n % 3], 40);
+        let signs = many_forms(&mut chance, [6, 40, 200][n % 3], MAX_SLIP);
         let mut all = typed_slips(&mut chance, &signs);
         met += usize::from(has_other_forms(&all.concat()));
         let made = match n % 4 {
@@ -194,7 +194,7 @@ fn long_files_agree() {
 fn owned_trays_agree() {
     let mut chance = Chance::new(44);
     for n in 0..500 {
-        let all = valid(&mut chance, 20, 40);
+        let all = valid(&mut chance, 20, MAX_SLIP);
         let made = match n % 2 {
             0 => tray_file(&all),
             _ => damaged_file(&mut chance, &all, BLOTS[n / 2 % BLOTS.len()]),

@@ -2,7 +2,7 @@
 mod searches;
 mod tally;
 
-use kotsghane::{find_slips, Search, Tray};
+use kotsghane::{find_slips, Search, Tray, MAX_SLIP};
 use plain::made::damage::{damaged, DAMAGES};
 use plain::made::texts::{damaged_text, text};
 use plain::made::{near, slips, valid, Chance, SHAPES};
@@ -33,7 +33,7 @@ fn try_search(chance: &mut Chance, tray: &tray::Tray, text: &[u8], tally: &mut T
 fn short_texts_agree() {
     let (mut chance, mut tally) = (Chance::new(31), Tally::default());
     for _ in 0..6_000 {
-        let all = valid(&mut chance, 8, 40);
+        let all = valid(&mut chance, 8, MAX_SLIP);
         let n = chance.below(80);
         let text = text(&mut chance, &all, n);
         try_search(&mut chance, &tray::Tray::of(&all), &text, &mut tally);
@@ -45,7 +45,7 @@ fn short_texts_agree() {
 fn long_texts_agree() {
     let (mut chance, mut tally) = (Chance::new(32), Tally::default());
     for _ in 0..400 {
-        let all = valid(&mut chance, 200, 40);
+        let all = valid(&mut chance, 200, MAX_SLIP);
         let n = chance.below(2_001);
         let text = text(&mut chance, &all, n);
         try_search(&mut chance, &tray::Tray::of(&all), &text, &mut tally);
@@ -87,7 +87,7 @@ fn damaged_trays_agree() {
 fn damaged_texts_agree() {
     let (mut chance, mut tally) = (Chance::new(35), Tally::default());
     for n in 0..3_000 {
-        let all = valid(&mut chance, 20, 40);
+        let all = valid(&mut chance, 20, MAX_SLIP);
         let text = damaged_text(&mut chance, &all, n % 4 < 2, n % 4);
         try_search(&mut chance, &tray::Tray::of(&all), &text, &mut tally);
     }
@@ -99,7 +99,7 @@ fn damaged_texts_agree() {
 fn each_buffer_one_short() {
     let (mut chance, mut met) = (Chance::new(36), 0);
     for _ in 0..1_000 {
-        let all = valid(&mut chance, 30, 40);
+        let all = valid(&mut chance, 30, MAX_SLIP);
         let n = chance.below(200);
         let text = text(&mut chance, &all, n);
         let tray = tray::Tray::of(&all);
@@ -125,7 +125,7 @@ fn each_buffer_one_short() {
 fn owned_trays_agree() {
     let (mut chance, mut tally) = (Chance::new(37), Tally::default());
     for n in 0..2_000 {
-        let all = valid(&mut chance, 40, 40);
+        let all = valid(&mut chance, 40, MAX_SLIP);
         let letters = chance.below(300);
         let mut text = text(&mut chance, &all, letters);
         let tray = match n % 4 {

@@ -1,7 +1,7 @@
 //! Finding: the specimen of document 01 and its edges, as tables of named cases.
 mod searches;
 
-use kotsghane::{find_slips, Found, Refusal, Tray};
+use kotsghane::{find_slips, Found, Refusal, Tray, MAX_SLIP};
 use plain::by_hand::{FIND, SEARCHES};
 use plain::made::Chance;
 use plain::tray;
@@ -108,11 +108,17 @@ fn the_tray_is_judged_first() {
     let cases: [Turned; 6] = [
         ("201 slips", &ones, (1..=201).collect(), 1, 0),
         ("an end equals the one before", b"AB", vec![1, 1, 2], 2, 2),
-        ("41 letters", &ones[..41], vec![41], 3, 1),
+        (
+            "a slip one letter too long",
+            &ones[..MAX_SLIP + 1],
+            vec![MAX_SLIP as u16 + 1],
+            3,
+            1,
+        ),
         (
             "2,001 letters",
             &[b'A'; 2_001],
-            (1..=69).map(|i| 29 * i).collect(),
+            (1..=87).map(|i| 23 * i).collect(),
             4,
             0,
         ),
@@ -149,12 +155,12 @@ fn four_hundred_thousand_occurrences() {
     assert_eq!(finding.found[399_999], occurrence(2_000, 200));
 }
 
-/// The longest slips: 40 letters that differ in the last, met and just missed.
+/// The longest slips, which differ in the last letter, met and just missed.
 #[test]
-fn slips_of_forty_letters() {
-    let slip = |last: &str| "AB".repeat(19) + "A" + last;
+fn the_longest_slips() {
+    let slip = |last: &str| "AB".repeat(MAX_SLIP)[..MAX_SLIP - 1].to_string() + last;
     let (x, y) = (slip("C"), slip("D"));
     let text = x.clone() + &slip("B") + &slip("A") + &y;
     let finding = find_slips(&Tray::of(&[&x, &y]), &text).unwrap();
-    assert_eq!(finding.found, [occurrence(40, 1), occurrence(160, 2)]);
+    assert_eq!(finding.found, [occurrence(MAX_SLIP, 1), occurrence(4 * MAX_SLIP, 2)]);
 }

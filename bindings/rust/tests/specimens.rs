@@ -2,7 +2,7 @@
 mod buffers;
 
 use buffers::{join, place, trial, Buffers, AMPLE};
-use kotsghane::{compose_tray, Join, Place, Refusal, Tray};
+use kotsghane::{compose_tray, Join, Place, Refusal, Tray, MAX_SLIP};
 use plain::by_hand::{COMPOSE, SPECIMENS};
 use plain::compose::Rooms;
 use plain::made::Chance;
@@ -127,26 +127,52 @@ fn tens(n: u16) -> Vec<u16> {
     (1..=n).map(|i| 10 * i).collect()
 }
 
+/// The ends of so many letters in as few slips as the limit allows.
+fn fewest(letters: u16) -> Vec<u16> {
+    let whole = (1..letters).filter(|end| end % MAX_SLIP as u16 == 0);
+    whole.chain([letters]).collect()
+}
+
 fn edges() -> Vec<Edge> {
-    let many = "ABCDEFGHI.".repeat(201);
+    let (many, longest) = ("ABCDEFGHI.".repeat(201), MAX_SLIP as u16);
     let ones: Vec<u16> = (1..=201).collect();
     vec![
         edge("200 slips", &many[..200], &ones[..200], 0, 0),
         edge("201 slips", &many[..201], &ones[..], 1, 0),
         edge("201 slips with equal ends", &many[..1], [1; 201], 1, 0),
         edge("200 slips and 2,000 letters", &many[..2_000], tens(200), 0, 0),
+        edge(
+            "2,000 letters in the longest slips",
+            &many[..2_000],
+            fewest(2_000),
+            0,
+            0,
+        ),
         edge("the first end is 0", "AB", [0, 2], 2, 1),
         edge("an end equals the one before", "AB", [1, 1, 2], 2, 2),
         edge("an end falls", "ABCD", [3, 2, 4], 2, 2),
         edge("2 before 3", &many[..60], [50, 50, 60], 2, 2),
-        edge("40 letters", &many[..40], [40], 0, 0),
-        edge("41 letters", &many[..41], [41], 3, 1),
-        edge("41 letters in the second", &many[..43], [2, 43], 3, 2),
+        edge("the longest slip", &many[..MAX_SLIP], [longest], 0, 0),
+        edge("one letter more", &many[..MAX_SLIP + 1], [longest + 1], 3, 1),
+        edge(
+            "one letter more in the second",
+            &many[..MAX_SLIP + 3],
+            [2, longest + 3],
+            3,
+            2,
+        ),
         edge("3 before 4", &many[..2_001], [2_001], 3, 1),
         edge(
             "2,001 letters",
             &many[..2_001],
             [&tens(199)[..], &[2_001]].concat(),
+            4,
+            0,
+        ),
+        edge(
+            "2,001 letters in the longest slips",
+            &many[..2_001],
+            fewest(2_001),
             4,
             0,
         ),

@@ -1,18 +1,58 @@
 //! The edge trays, worked out by hand: rows `NAME: LEFT RIGHT LETTERS END END ..`, where 12A among the letters is twelve
 //! times A, and 12x3 among the ends is the twelve ends 3, 6, .. 36. A row without a colon is a heading.
+//!
+//! L is the most letters that a slip has. In braces stands a number that goes with it, as `{2L+1}` or `{1999/L}`, where a
+//! part is cut off, or `{1999%L}`, which is that part; with a letter behind it, as `{L A}`, that letter so many times.
 use crate::tray::Tray;
+use crate::MAX_SLIP;
 
-/// The rows, and what is expected of each. Nobody generates these two files.
-pub const ROWS: &str = include_str!("../../fixtures/edges.in");
+/// The rows. Nobody generates them, nor what is expected.
+pub fn rows() -> Vec<String> {
+    include_str!("../../fixtures/edges.in").lines().map(filled).collect()
+}
 
-/// What is expected: the name, then the refusal of the tray; of slip LEFT, and its letters; of the pair, and its overlap.
-/// At the end the bytes that are accepted as the one letter of a tray.
-pub const EXPECTED: &str = include_str!("../../fixtures/edges.out");
+/// What is expected of each row: the name, then the refusal of the tray; of slip LEFT, and its letters; of the pair, and its
+/// overlap. At the end the bytes that are accepted as the one letter of a tray.
+pub fn expected() -> Vec<String> {
+    include_str!("../../fixtures/edges.out").lines().map(filled).collect()
+}
+
+/// The row with what its braces stand for.
+fn filled(row: &str) -> String {
+    let mut parts = row.split('{');
+    let mut made = parts.next().unwrap_or_default().to_string();
+    for part in parts {
+        let (inside, rest) = part.split_once('}').expect("a brace that is closed");
+        made += &match inside.split_once(' ') {
+            Some((sum, letter)) => letter.repeat(value(sum)),
+            None => value(inside).to_string(),
+        };
+        made += rest;
+    }
+    made
+}
+
+/// What stands in braces, without a letter.
+fn value(sum: &str) -> usize {
+    let (first, second) = sum.split_at(sum.find(['+', '-']).unwrap_or(sum.len()));
+    let part = |end: &str| first.strip_suffix(end);
+    let first = match (part("/L"), part("%L"), part("L")) {
+        (Some(n), _, _) => number(n) / MAX_SLIP,
+        (_, Some(n), _) => number(n) % MAX_SLIP,
+        (_, _, Some("")) => MAX_SLIP,
+        (_, _, Some(n)) => number(n) * MAX_SLIP,
+        _ => panic!("{sum} does not go with L"),
+    };
+    match second {
+        "" => first,
+        _ => first.wrapping_add_signed(second.parse().expect("a number with its sign")),
+    }
+}
 
 /// What a row asks.
 pub struct Asked {
     /// Its name.
-    pub name: &'static str,
+    pub name: String,
     /// The left slip.
     pub left: usize,
     /// The right slip.
@@ -48,7 +88,7 @@ fn ends(entry: &str) -> Vec<u16> {
 }
 
 /// The row, unless it is a heading.
-pub fn asked(row: &'static str) -> Option<Asked> {
+pub fn asked(row: &str) -> Option<Asked> {
     let (name, rest) = row.split_once(": ")?;
     let fields: Vec<&str> = rest.split(' ').collect();
     let tray = Tray {
@@ -60,7 +100,7 @@ pub fn asked(row: &'static str) -> Option<Asked> {
             .collect(),
     };
     Some(Asked {
-        name,
+        name: name.to_string(),
         left: number(fields[0]),
         right: number(fields[1]),
         tray,

@@ -105,14 +105,14 @@ pub fn all() -> Vec<Case> {
 }
 
 fn edge_trays() -> Vec<Case> {
-    let case = |row| match edges::asked(row) {
+    let case = |row: String| match edges::asked(&row) {
         Some(asked) => vec![
-            Case::Heading(asked.name.to_string()),
+            Case::Heading(asked.name),
             Case::Ask(asked.tray, asked.left, asked.right),
         ],
-        None => vec![Case::Heading(row.to_string())],
+        None => vec![Case::Heading(row)],
     };
-    let rows = edges::ROWS.lines().flat_map(case);
+    let rows = edges::rows().into_iter().flat_map(case);
     rows.chain([Case::Signs]).collect()
 }
 

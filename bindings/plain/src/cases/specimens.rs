@@ -3,7 +3,7 @@ use super::{lending, Case, Lending, WHOLE, WHOLE_LIST};
 use crate::by_hand::{COMPOSE, COMPOSE_FILE, SEARCHES, SPECIMENS, TYPED_FILE};
 use crate::made::files::tray_file;
 use crate::tray::Tray;
-use crate::{FILE_ENDS, MAX_FILE, WORK_CELLS};
+use crate::{FILE_ENDS, MAX_FILE, MAX_SLIP, WORK_CELLS};
 
 /// What is lent for the compose tray.
 const LENDINGS: &[(&str, Lending)] = &[
@@ -34,22 +34,32 @@ const TEXTS: &[(&str, &str, usize, usize)] = &[
     ("13 before 7 and 14", "IMPCAESAVGa", 31_999, 0),
 ];
 
-/// So many slips of so many letters, no two of the first 26 beginning alike.
-fn even(slips: usize, letters: usize) -> Tray {
-    let slip = |i: usize| (i..i + letters).map(|k| b'A' + ((k * k + i) % 26) as u8).collect();
-    Tray::of(&(0..slips).map(slip).collect::<Vec<Vec<u8>>>())
+/// So many letters in slips of `most` letters, of which the last may have fewer; no two of the first 26 begin alike.
+fn cut(letters: usize, most: usize) -> Tray {
+    let slip = |(i, start): (usize, usize)| {
+        let long = most.min(letters - start);
+        (i..i + long).map(|k| b'A' + ((k * k + i) % 26) as u8).collect()
+    };
+    let starts = (0..letters).step_by(most).enumerate();
+    Tray::of(&starts.map(slip).collect::<Vec<Vec<u8>>>())
 }
 
 /// Each limit of a tray, and one more.
-fn limits() -> Vec<(&'static str, Tray)> {
+fn limits() -> Vec<(String, Tray)> {
+    let slips = |n: usize, letters: usize| (format!("{n} slips"), cut(n * letters, letters));
+    let slip = |letters: usize| (format!("a slip of {letters} letters"), cut(letters, letters));
+    let full = |name: &str, letters: usize, most: usize| {
+        let tray = cut(letters, most);
+        (format!("{name} letters in {} slips", tray.ends.len()), tray)
+    };
     vec![
-        ("200 slips", even(200, 7)),
-        ("201 slips", even(201, 7)),
-        ("a slip of 40 letters", even(1, 40)),
-        ("a slip of 41 letters", even(1, 41)),
-        ("2,000 letters in 200 slips", even(200, 10)),
-        ("2,000 letters in 50 slips", even(50, 40)),
-        ("2,001 letters in 69 slips", even(69, 29)),
+        slips(200, 7),
+        slips(201, 7),
+        slip(MAX_SLIP),
+        slip(MAX_SLIP + 1),
+        full("2,000", 2_000, 10),
+        full("2,000", 2_000, MAX_SLIP),
+        full("2,001", 2_001, MAX_SLIP),
     ]
 }
 
@@ -122,7 +132,7 @@ pub fn all() -> Vec<Case> {
         Case::Compose(Tray::default(), lending(WORK_CELLS, 0, 0, 0)),
     ));
     for (name, tray) in limits() {
-        cases.extend(named(name, Case::Compose(tray.clone(), WHOLE)));
+        cases.extend(named(&name, Case::Compose(tray.clone(), WHOLE)));
         cases.push(Case::Compose(tray, lending(WORK_CELLS, 0, 600, 400)));
     }
     for case in SEARCHES {
