@@ -3,9 +3,9 @@ mod buffers;
 mod tally;
 
 use buffers::{trial, Buffers, AMPLE};
-use kotsghane::{compose_tray, Refusal, Tray};
+use kotsghane::{compose_tray, Refusal, Tray, MAX_SLIP};
 use plain::compose::Rooms;
-use plain::made::damage::{damaged, DAMAGES};
+use plain::made::damage::{damaged, stored, DAMAGES};
 use plain::made::stops::{many_stops, share_stops_alone};
 use plain::made::{near, slips, valid, Chance, SHAPES};
 use plain::tray;
@@ -31,7 +31,7 @@ fn try_tray(chance: &mut Chance, tray: &tray::Tray, tally: &mut Tally) {
 fn short_trays_agree() {
     let (mut chance, mut tally) = (Chance::new(1), Tally::default());
     for _ in 0..6_000 {
-        let tray = tray::Tray::of(&valid(&mut chance, 8, 40));
+        let tray = tray::Tray::of(&valid(&mut chance, 8, MAX_SLIP));
         try_tray(&mut chance, &tray, &mut tally);
     }
     tally.assert_all_from(&[0, 7, 8, 9], 500);
@@ -41,7 +41,7 @@ fn short_trays_agree() {
 fn long_trays_agree() {
     let (mut chance, mut tally) = (Chance::new(2), Tally::default());
     for _ in 0..1_000 {
-        let tray = tray::Tray::of(&valid(&mut chance, 200, 40));
+        let tray = tray::Tray::of(&valid(&mut chance, 200, MAX_SLIP));
         try_tray(&mut chance, &tray, &mut tally);
     }
     tally.assert_all_from(&[0, 7, 8, 9], 100);
@@ -65,7 +65,7 @@ fn full_trays_agree() {
 fn trays_with_many_stops_agree() {
     let (mut chance, mut tally, mut met) = (Chance::new(10), Tally::default(), 0);
     for n in 0..3_000 {
-        let tray = tray::Tray::of(&many_stops(&mut chance, [8, 30, 200][n % 3], 40));
+        let tray = tray::Tray::of(&many_stops(&mut chance, [8, 30, 200][n % 3], MAX_SLIP));
         met += usize::from(share_stops_alone(&tray));
         try_tray(&mut chance, &tray, &mut tally);
     }
@@ -83,12 +83,27 @@ fn damaged_trays_agree() {
     tally.assert_all_from(&[1, 2, 3, 4, 5, 6], 400);
 }
 
+/// Trays stored where a slip could have more letters: the lowest slip over the limit is named, and without one all is as ever.
+#[test]
+fn stored_trays_agree() {
+    let (mut chance, mut tally) = (Chance::new(11), Tally::default());
+    for n in 0..2_000 {
+        let all = stored(&mut chance, [4, 12, 200][n % 3]);
+        let (answer, _) = trial(&tray::Tray::of(&all), &Buffers::of(AMPLE, &mut chance));
+        let too_long = all.iter().position(|slip| slip.len() > MAX_SLIP);
+        let expected = too_long.map_or((0, 0), |i| (3, i as u32 + 1));
+        assert_eq!((answer.number, answer.detail), expected);
+        tally.count(answer.number);
+    }
+    tally.assert_all_from(&[0, 3], 700);
+}
+
 /// Each buffer just long enough, then one short of it, all else ample.
 #[test]
 fn each_buffer_one_short() {
     let (mut chance, mut met) = (Chance::new(5), 0);
     for _ in 0..400 {
-        let tray = tray::Tray::of(&valid(&mut chance, 30, 40));
+        let tray = tray::Tray::of(&valid(&mut chance, 30, MAX_SLIP));
         let slips = tray.ends.len();
         let before = Buffers::of(AMPLE, &mut chance);
         let (answer, _) = trial(&tray, &before);
@@ -130,7 +145,7 @@ fn owned_trays_agree() {
     let mut chance = Chance::new(6);
     for n in 0..1_000 {
         let tray = match n % 2 {
-            0 => tray::Tray::of(&valid(&mut chance, 40, 40)),
+            0 => tray::Tray::of(&valid(&mut chance, 40, MAX_SLIP)),
             _ => damaged(&mut chance, DAMAGES[n / 2 % DAMAGES.len()], 60),
         };
         let slips = tray.ends.len();

@@ -1,4 +1,6 @@
 //! The built programs `compose` and `find` on made-up and damaged files, against the plain program's sheets.
+use kotsghane::MAX_SLIP;
+use plain::made::damage::stored;
 use plain::made::files::{damaged_file, tray_file, BLOTS};
 use plain::made::texts::{damaged_text, text};
 use plain::made::typed::{has_other_forms, many_forms, spoil, typed, typed_slips, BAD_IN_FILES};
@@ -76,15 +78,15 @@ fn file(chance: &mut Chance, n: usize) -> Vec<u8> {
     let most = [12, 60, 200][n / 4 % 3];
     let mut all = match n % 5 {
         0 | 1 => {
-            let signs = many_forms(chance, most, 40);
+            let signs = many_forms(chance, most, MAX_SLIP);
             typed_slips(chance, &signs)
         }
-        _ => valid(chance, most, 40),
+        _ => valid(chance, most, MAX_SLIP),
     };
     let (i, k) = (chance.below(all.len()), chance.below(2));
     match n % 4 {
         0 => return tray_file(&all),
-        1 => all[i].extend(chance.word(b"AB.", 40 * k)),
+        1 => all[i].extend(chance.word(b"AB.", MAX_SLIP * k)),
         2 => all[i][0] = chance.one(BAD_IN_FILES),
         _ => return damaged_file(chance, &all, BLOTS[n / 4 % BLOTS.len()]),
     }
@@ -105,6 +107,27 @@ fn compose_prints_the_sheet() {
         sheets.count(&sheet, &[&file]);
     }
     sheets.assert_from(300, 300, 200);
+}
+
+/// Files stored where a slip could have more letters, as the die has them or as readers type them: those with a slip over
+/// the limit give 3 with the lowest, and the others are composed.
+#[test]
+fn compose_reads_stored_files() {
+    let (mut chance, mut sheets) = (Chance::new(203), Sheets::default());
+    for n in 0..400 {
+        let mut all = stored(&mut chance, [4, 12, 200][n % 3]);
+        if n % 2 == 0 {
+            all = typed_slips(&mut chance, &all);
+        }
+        let (file, too_long) = (tray_file(&all), all.iter().position(|slip| slip.len() > MAX_SLIP));
+        let sheet = composed(&file);
+        match too_long {
+            Some(i) => assert_eq!(sheet, format!("REFUSED   3{:6}\n", i + 1).as_bytes()),
+            None => assert!(sheet == compose_sheet(&file), "the sheet of {all:?}"),
+        }
+        sheets.count(&sheet, &[&file]);
+    }
+    sheets.assert_from(150, 150, 50);
 }
 
 #[test]

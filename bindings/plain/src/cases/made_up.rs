@@ -2,7 +2,7 @@
 use super::{lending, Case, Lending, WHOLE, WHOLE_LIST};
 use crate::compose::compose;
 use crate::find::occurrences;
-use crate::made::damage::{damaged, DAMAGES};
+use crate::made::damage::{damaged, stored, DAMAGES};
 use crate::made::files::{damaged_file, tray_file, BLOTS};
 use crate::made::stops::many_stops;
 use crate::made::texts::{damaged_text, text};
@@ -139,6 +139,12 @@ const KINDS: &[Kind] = &[
         seed: 115,
         count: 200,
         make: typed_file,
+    },
+    Kind {
+        name: "Trays stored where a slip could have 8 letters more",
+        seed: 116,
+        count: 200,
+        make: |chance, n| Case::Compose(Tray::of(&stored(chance, [4, 12, 60][n % 3])), WHOLE),
     },
 ];
 

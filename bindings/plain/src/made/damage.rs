@@ -1,7 +1,7 @@
 //! Trays that are turned back, and bytes that are no signs.
-use super::{valid, Chance};
+use super::{valid, within_limit, Chance, Slips};
 use crate::tray::Tray;
-use crate::{MAX_LETTERS, MAX_SLIP, MAX_SLIPS};
+use crate::{MAX_LETTERS, MAX_SLIP, MAX_SLIPS, SIGNS};
 
 /// What is done to a tray before it is lent.
 #[derive(Clone, Copy, Debug)]
@@ -75,4 +75,15 @@ pub fn damaged(chance: &mut Chance, damage: Damage, most: usize) -> Tray {
         _ => {}
     }
     tray
+}
+
+/// A tray of up to `most` slips, valid where a slip could have 8 letters more than now; about half have a slip that is too
+/// long now.
+pub fn stored(chance: &mut Chance, most: usize) -> Slips {
+    let mut all = valid(chance, most, MAX_SLIP + 8);
+    if chance.below(2) == 0 {
+        let (at, letters) = (chance.below(all.len()), chance.between(MAX_SLIP + 1, MAX_SLIP + 8));
+        all[at] = chance.word(SIGNS, letters);
+    }
+    within_limit(all)
 }
