@@ -1,9 +1,4 @@
-//! The files of the program `trials` are what generator and plain program make today. To write them anew, in `bindings/plain`:
-//!
-//! ```text
-//! cargo run --release -- cases > ../../crates/trials/stdin
-//! cargo run --release -- answers > ../../crates/trials/stdout
-//! ```
+//! The files of the program `trials` are what generator and plain program make today. `bindings/made` writes them anew.
 use plain::cases;
 
 /// The file of the program, compared line by line, so that a difference is short.

@@ -1,0 +1,41 @@
+//! The limits stand in other places too, for other readers. There they are the same numbers.
+use kotsghane::{FILE_ENDS, MAX_FILE, MAX_LETTERS, MAX_SLIP, MAX_SLIPS, MAX_TEXT, WORK_CELLS};
+
+/// Each with its names in the definitions and in the C header.
+const LIMITS: [(&str, &str, usize); 7] = [
+    ("maxSlips", "MAX_SLIPS", MAX_SLIPS),
+    ("maxSlip", "MAX_SLIP", MAX_SLIP),
+    ("maxLetters", "MAX_LETTERS", MAX_LETTERS),
+    ("maxText", "MAX_TEXT", MAX_TEXT),
+    ("workNeed", "WORK", WORK_CELLS),
+    ("maxFile", "MAX_FILE", MAX_FILE),
+    ("endsNeed", "FILE_ENDS", FILE_ENDS),
+];
+
+/// Each of these stands in that file of the repository.
+fn assert_stand<const N: usize>(path: &str, all: [String; N]) {
+    let whole = format!("{}/../../{path}", env!("CARGO_MANIFEST_DIR"));
+    let file = std::fs::read_to_string(whole).expect("a file of the repository");
+    for text in all {
+        assert!(file.contains(&text), "{path} has not: {}", text.trim());
+    }
+}
+
+#[test]
+fn the_definitions_have_them() {
+    let line = |(name, _, number)| format!("\n{name} = {number}\n");
+    assert_stand("crates/trays/specs/Limits.antt", LIMITS.map(line));
+}
+
+/// `bindings/made` writes them there.
+#[test]
+fn the_c_header_has_them() {
+    let part = |(_, name, number)| format!(" KOTSGHANE_{name} = {number}");
+    assert_stand("bindings/c/kotsghane.h", LIMITS.map(part));
+}
+
+#[test]
+fn the_rules_have_the_longest_slip() {
+    assert_stand("docs/RULES.md", [format!("A slip has 1 to {MAX_SLIP} letters")]);
+    assert_stand("docs/REFUSALS.md", [format!("| 3 | a slip over {MAX_SLIP} letters |")]);
+}
