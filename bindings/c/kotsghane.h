@@ -22,7 +22,7 @@ extern "C" {
 /* Limits, and what must be lent. */
 enum {
     KOTSGHANE_MAX_SLIPS = 200,     /* slips of a tray (1) */
-    KOTSGHANE_MAX_SLIP = 40,       /* letters of a slip (3) */
+    KOTSGHANE_MAX_SLIP = 32,       /* letters of a slip (3) */
     KOTSGHANE_MAX_LETTERS = 2000,  /* letters of a tray (4), and so of a legend */
     KOTSGHANE_MAX_TEXT = 2000,     /* letters of a text (12) */
     KOTSGHANE_WORK = 32000,        /* cells of the work area (7) */

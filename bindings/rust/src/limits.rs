@@ -7,7 +7,7 @@ pub const WORK_CELLS: usize = 32_000;
 pub const MAX_SLIPS: usize = 200;
 
 /// The most letters that a slip has (refusal 3).
-pub const MAX_SLIP: usize = 40;
+pub const MAX_SLIP: usize = 32;
 
 /// The most letters that a tray has (refusal 4).
 pub const MAX_LETTERS: usize = 2_000;

@@ -7,7 +7,7 @@ maxSlips = 200
 
 -- 3: a slip has at most so many letters
 abbrev pub maxSlip : ℕ
-maxSlip = 40
+maxSlip = 32
 
 -- 4: a tray has at most so many letters
 abbrev pub maxLetters : ℕ

@@ -5,7 +5,7 @@ ghost use Rattle.trays.specs.Faults.{refusal};
 
 pub const MAX_SLIPS: usize = 200;
 
-pub const MAX_SLIP: usize = 40;
+pub const MAX_SLIP: usize = 32;
 
 pub const MAX_LETTERS: usize = 2000;
 
