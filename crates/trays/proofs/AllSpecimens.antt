@@ -91,15 +91,20 @@ filled n = plain n (those (λ e. ltb e n) (map (λ i. i * maxSlip) (upFrom 1 max
 abbrev pub faultOf : Tray → Refusal
 faultOf t = trayFault (t .letters) (t .ends)
 
--- the limits, each row, and several faults at once
+-- the longest slip, and one letter more: alone, and behind the longest
+pub longest-slips :
+    map faultOf (rows 1 maxSlip ∷ rows 1 (suc maxSlip) ∷ plain (2 * maxSlip + 1) (maxSlip ∷ (2 * maxSlip + 1) ∷ []) ∷ [])
+    ≡ (refusal 0 0 ∷ refusal 3 1 ∷ refusal 3 2 ∷ [])
+unfolding trayFault
+longest-slips = refl
+
+-- the other limits, each row, and several faults at once
 pub fault-specimens : List (Specimen Tray Refusal)
 fault-specimens =
     specimen (tray "" []) (refusal 0 0)
     ∷ specimen (tray "A.Z" (1 ∷ 3 ∷ [])) (refusal 0 0)
     ∷ specimen (rows 200 1) (refusal 0 0)
     ∷ specimen (rows 201 1) (refusal 1 0)
-    ∷ specimen (rows 1 maxSlip) (refusal 0 0)
-    ∷ specimen (rows 1 (suc maxSlip)) (refusal 3 1)
     ∷ specimen (filled 2000) (refusal 0 0)
     ∷ specimen (filled 2001) (refusal 4 0)
     ∷ specimen (tray "" (0 ∷ [])) (refusal 2 1)
