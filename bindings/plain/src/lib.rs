@@ -1,6 +1,6 @@
 //! What is right, said once more and in another way than the library says it: a plain program that compares all pairs of
-//! slips, written only from the sentences of the rules. It shares no table, no loop and no order of work with the library; the numbers
-//! of the limits are those of the Rust crate.
+//! slips, written only from the sentences of the rules. It shares no table, no loop and no order of work with the library.
+//! The numbers of the limits are those of the Rust crate.
 //!
 //! - [`tray`], [`fold`], [`mod@file`], [`compose`], [`find`], [`sheet`]: the plain program.
 //! - [`by_hand`]: what was worked out by hand.

@@ -12,12 +12,14 @@ const LIMITS: [(&str, &str, usize); 7] = [
     ("endsNeed", "FILE_ENDS", FILE_ENDS),
 ];
 
-/// Each of these stands in that file of the repository.
+/// Each of these stands in that file of the repository, and no digit behind it.
 fn assert_stand<const N: usize>(path: &str, all: [String; N]) {
     let whole = format!("{}/../../{path}", env!("CARGO_MANIFEST_DIR"));
     let file = std::fs::read_to_string(whole).expect("a file of the repository");
     for text in all {
-        assert!(file.contains(&text), "{path} has not: {}", text.trim());
+        let behind = file.split(&text).nth(1);
+        let whole = behind.is_some_and(|rest| !rest.starts_with(|c: char| c.is_ascii_digit()));
+        assert!(whole, "{path} has not: {}", text.trim());
     }
 }
 

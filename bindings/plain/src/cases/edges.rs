@@ -1,8 +1,8 @@
 //! The edge trays, worked out by hand: rows `NAME: LEFT RIGHT LETTERS END END ..`, where 12A among the letters is twelve
 //! times A, and 12x3 among the ends is the twelve ends 3, 6, .. 36. A row without a colon is a heading.
 //!
-//! L is the most letters that a slip has. In braces stands a number that goes with it, as `{2L+1}` or `{1999/L}`, where a
-//! part is cut off, or `{1999%L}`, which is that part; with a letter behind it, as `{L A}`, that letter so many times.
+//! L is the most letters that a slip has. In braces stands a number that goes with it: `{2L+1}`, the quotient `{1999/L}`, the
+//! remainder `{1999%L}`; with a letter behind it, as in `{L A}`, that letter so many times.
 use crate::tray::Tray;
 use crate::MAX_SLIP;
 

@@ -1,4 +1,4 @@
-//! Trays that are turned back, and bytes that are no signs.
+//! Trays that are turned back, or may be, and bytes that are no signs.
 use super::{valid, within_limit, Chance, Slips};
 use crate::tray::Tray;
 use crate::{MAX_LETTERS, MAX_SLIP, MAX_SLIPS, SIGNS};
