@@ -1,4 +1,4 @@
--- Rules, refusals: tray files that `compose` composed while the longest slip was another one.
+-- Rules, stored trays: tray files that `compose` composed while the longest slip was another one.
 --   typedIn file          == the letters of a tray file as they stand in it
 --   storedFault m s file  == what turned a tray file back where a slip could have m letters and s was taken for its letters
 --   Stored m s file       == what becomes of the file if it was composed so
@@ -20,7 +20,7 @@ typedIn file = each typed (linesOf file)
 abbrev pub storedFault : ℕ → List ℕ → List ℕ → Refusal
 storedFault m s file = orElse (readFault file maxFile endsNeed) (firstRow (trayRowsFor m s (endsIn file)))
 
--- A file with a longer slip than now gives 3 with the lowest such slip, and every other one stays valid.
+-- One with a slip over the limit gives 3 with the lowest such slip, and every other one stays valid.
 abbrev pub Stored : ℕ → List ℕ → List ℕ → Type 0
 Stored m s file = storedFault m s file .number ≡ 0 → composeSheetFault file ≡ slipAt 3 (tooLong maxSlip 1 0 (endsIn file))
 
