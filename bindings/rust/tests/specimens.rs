@@ -129,8 +129,8 @@ fn tens(n: u16) -> Vec<u16> {
 
 /// The ends of so many letters in as few slips as the limit allows.
 fn fewest(letters: u16) -> Vec<u16> {
-    let whole = (1..letters).filter(|end| end % MAX_SLIP as u16 == 0);
-    whole.chain([letters]).collect()
+    let ends = |end: &u16| *end % MAX_SLIP as u16 == 0 || *end == letters;
+    (1..=letters).filter(ends).collect()
 }
 
 fn edges() -> Vec<Edge> {
