@@ -1,4 +1,4 @@
 -- Laws.
 pub mod AllComposed
 pub mod AllFound
-pub mod FlatPlaces
+pub mod FlatLists

@@ -2,8 +2,10 @@
 --   beforeC s es w        == what turns composing back before place C
 --   composeFault          == what turns composing back: legend room l, room for j joins and p places
 --   composedOf            == the answer
---   flatJoins js          == the joins as numbers: left slip, right slip, overlap
---   flatPlaces c          == the places as numbers: for each slip its place, and 1 if it is kept
+--   joinNumbers j         == a join as numbers: left slip, right slip, overlap; flatJoins js == the joins as numbers
+--   placeCells            == so many numbers a place has
+--   placeNumbers c i      == the place of slip i as numbers: its place, and 1 if it is kept
+--   flatPlaces c          == the places of all slips as numbers
 use mathlib.Core.Bool.{cond, _||_}
 use mathlib.Core.List.{List, [], _∷_, _++_}
 use Prim.Native.Nat.{ℕ, zero, suc}
@@ -53,9 +55,18 @@ composedOf s es w l j p =
     let f = composeFault s es w l j p in
     elim (f .number) [ zero ↦ outcomeOf (whole (slipsOf s es)) | suc n ↦ refusedBy f ]
 
-abbrev pub flatJoins : List Join → List ℕ
-flatJoins js = each (λ j. j .left ∷ (j .right ∷ (j .overlap ∷ []))) js
+abbrev pub joinNumbers : Join → List ℕ
+joinNumbers j = j .left ∷ (j .right ∷ (j .overlap ∷ []))
 
--- a place, and a mark, for every slip, a member or not
+abbrev pub flatJoins : List Join → List ℕ
+flatJoins js = each joinNumbers js
+
+abbrev pub placeCells : ℕ
+placeCells = 2
+
+abbrev pub placeNumbers : Composing → ℕ → List ℕ
+placeNumbers c i = placeOf c i ∷ (cond (isAside (c .slips) (c .members) i) 0 1 ∷ [])
+
+-- for every slip, a member or not
 abbrev pub flatPlaces : Composing → List ℕ
-flatPlaces c = each (λ i. placeOf c i ∷ (cond (isAside (c .slips) (c .members) i) 0 1 ∷ [])) (numbers (c .slips))
+flatPlaces c = each (placeNumbers c) (numbers (c .slips))

@@ -6,7 +6,7 @@
 --   findFault .. k        == what turns finding back
 --   searchOf .. k         == the answer
 --   foundRecord f            == an occurrence as a record of the lent list
---   flatFound fs          == occurrences as numbers: end place, slip
+--   foundNumbers f        == an occurrence as numbers: end place, slip; flatFound fs == occurrences as numbers
 --   Answered .. w w′ k r  == r is the answer, and the work area is as it may be
 --   FindSays, FindFlat    == what finding promises, with a lent list of records and with one of numbers
 use mathlib.Core.Path.{_≡_}
@@ -57,8 +57,11 @@ searchOf s es t w k =
 abbrev pub foundRecord : O.Occurrence → Found
 foundRecord f = record { end = f .end; slip = f .which }
 
+abbrev pub foundNumbers : O.Occurrence → List ℕ
+foundNumbers f = f .end ∷ (f .which ∷ [])
+
 abbrev pub flatFound : List O.Occurrence → List ℕ
-flatFound fs = each (λ f. f .end ∷ (f .which ∷ [])) fs
+flatFound fs = each foundNumbers fs
 
 pub record Answered (s es t w w′ : List ℕ) (k : ℕ) (r : Search) : Type 0 where
   pub answer-is : r ≡ searchOf s es t (length w) k

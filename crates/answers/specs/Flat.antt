@@ -1,4 +1,4 @@
--- Composing over slices of numbers, for every input: three numbers a join, two a place.
+-- Composing over slices of numbers, for every input: three numbers a join, `placeCells` a place.
 --   flatFault  == what turns it back, given the lengths of what was lent
 --   ComposeFlat == the answer, and what each lent buffer holds afterwards
 use mathlib.Core.Path.{_≡_}
@@ -11,14 +11,14 @@ use Rattle.trays.specs.Faults.{written}
 use Rattle.greedy.specs.Composing.{whole, joinsOf, legendOf}
 use Rattle.answers.specs.WorkArea.{WorkKept}
 use Rattle.answers.specs.declared.Composed.{Composed}
-use Rattle.answers.specs.Composing.{beforeC, composeFault, composedOf, flatJoins, flatPlaces}
+use Rattle.answers.specs.Composing.{beforeC, composeFault, composedOf, flatJoins, placeCells, flatPlaces}
 
--- a list of joins takes a third of its numbers, a list of places half of them
+-- so many records a list takes
 abbrev pub flatFault : List ℕ → List ℕ → List ℕ → List ℕ → List ℕ → List ℕ → Refusal
-flatFault s es w l j p = composeFault s es (length w) (length l) (length j / 3) (length p / 2)
+flatFault s es w l j p = composeFault s es (length w) (length l) (length j / 3) (length p / placeCells)
 
 pub record ComposeFlat (s es w w′ l l′ j j′ p p′ : List ℕ) (r : Composed) : Type 0 where
-  pub answer-is : r ≡ composedOf s es (length w) (length l) (length j / 3) (length p / 2)
+  pub answer-is : r ≡ composedOf s es (length w) (length l) (length j / 3) (length p / placeCells)
   pub legend-is : l′ ≡ written (flatFault s es w l j p) (legendOf (whole (slipsOf s es))) l
   pub joins-are : j′ ≡ written (flatFault s es w l j p) (flatJoins (joinsOf (whole (slipsOf s es)))) j
   pub places-are : p′ ≡ written (flatFault s es w l j p) (flatPlaces (whole (slipsOf s es))) p

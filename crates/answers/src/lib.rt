@@ -26,6 +26,9 @@ pub struct Place {
     pub kept: bool,
 }
 
+// So many numbers a place has where it is told in numbers.
+pub const PLACE_CELLS: usize = 2;
+
 // 12: a text has at most so many letters.
 pub const MAX_TEXT: usize = 2000;
 

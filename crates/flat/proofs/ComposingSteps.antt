@@ -15,6 +15,7 @@ use Rattle.layout.specs.Layout.{JOINS, PLACES}
 use Rattle.answers.specs.declared.Composed.{Composed}
 use Rattle.composing.specs.steps.Composing.{Staged}
 use Rattle.composing.proofs.StagedTells.{staged-tells, staged-room}
+use Rattle.answers.specs.Composing.{placeCells}
 use Rattle.answers.specs.Flat.{ComposeFlat}
 use Rattle.flat.specs.steps.Copying.{CanCopy}
 
@@ -38,15 +39,15 @@ module _ (s es w w₁ l l′ : List ℕ) (jr pr : ℕ) (r : Composed) (st : Stag
       (λ a. let d = staged-room s es w w₁ l l′ jr pr r st a in record { there = omega (arith, d); room = omega (arith, a .joins-fit) })
       (λ b. let z = ap (λ (c : Composed). c .joins) (b .answer-is) in record { there = omega arith; room = omega arith })
 
-  pub places-can : (m : ℕ) (p : List ℕ) → m ≡ r .slips → pr ≡ length p / 2 → CanCopy w₁ PLACES (2 * m) p
+  pub places-can : (m : ℕ) (p : List ℕ) → m ≡ r .slips → pr ≡ length p / placeCells → CanCopy w₁ PLACES (placeCells * m) p
   places-can m p e q =
       staged-tells s es w (length l) jr pr r (st .answer-is)
       (λ a. record { there = omega (arith, a .room, a .few-slips, st .work-is .same); room = omega (arith, a .places-fit) })
       (λ b. let z = ap (λ (c : Composed). c .slips) (b .answer-is) in record { there = omega arith; room = omega arith })
 
   pub flat-says :
-      (j j′ p p′ : List ℕ) (m n : ℕ) → jr ≡ length j / 3 → pr ≡ length p / 2 → m ≡ r .joins → n ≡ r .slips
-      → j′ ≡ over (table w₁ JOINS (3 * m)) j → p′ ≡ over (table w₁ PLACES (2 * n)) p → ComposeFlat s es w w₁ l l′ j j′ p p′ r
+      (j j′ p p′ : List ℕ) (m n : ℕ) → jr ≡ length j / 3 → pr ≡ length p / placeCells → m ≡ r .joins → n ≡ r .slips
+      → j′ ≡ over (table w₁ JOINS (3 * m)) j → p′ ≡ over (table w₁ PLACES (placeCells * n)) p → ComposeFlat s es w w₁ l l′ j j′ p p′ r
   unfolding table
   flat-says j j′ p p′ m n ej ep em en hj hp =
       staged-tells s es w (length l) jr pr r (st .answer-is)

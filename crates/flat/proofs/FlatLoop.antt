@@ -1,6 +1,6 @@
 -- Occurrences stored as numbers, two each.
 --   over-two     == two numbers more behind those that are written
---   length-flat  == two numbers an occurrence; flat-suc == those of one occurrence more
+--   flat-suc     == the numbers of one occurrence more
 --   Flattening   == i of them are stored
 --   flat-..      == the turns of the loop
 use mathlib.Core.Path.{_≡_, refl, sym, ap, _∙_}
@@ -18,7 +18,8 @@ use Rattle.matching.specs.Occurrences as O
 use Rattle.matching.specs.Occurrences.{occurrences}
 use Rattle.scanning.proofs.Scans.{able-few}
 use Rattle.answers.specs.declared.Found.{Found}
-use Rattle.answers.specs.Finding.{flatFound}
+use Rattle.answers.specs.Finding.{foundNumbers, flatFound}
+use Rattle.answers.proofs.FlatLists.{found-length}
 use Rattle.searching.specs.steps.Searching.{Ready, Next}
 use Rattle.flat.specs.steps.Occurrences.{FlatTo, CanFlat, NumbersStored}
 use Rattle.searching.proofs.Telling.{Telling, telling-start, telling-ready, telling-more}
@@ -30,16 +31,12 @@ over-two xs old n a b e h =
     ∙ over-set 0 (xs ++ (a ∷ [])) old (n + 1) b l h
     ∙ ap (λ (z : List ℕ). over z old) (append-assoc xs (a ∷ []) (b ∷ []))
 
-length-flat : (fs : List O.Occurrence) → length (flatFound fs) ≡ 2 * length fs
-length-flat [] = refl
-length-flat (f ∷ fs) = omega (arith, length-flat fs)
-
 flat-suc : (fs : List O.Occurrence) (i : ℕ) → i < length fs
     → flatFound (take (i + 1) fs) ≡ flatFound (take i fs) ++ (getD fs i (O.occurrence 0 0) .end ∷ (getD fs i (O.occurrence 0 0) .which ∷ []))
 flat-suc fs i h =
     ap (λ (n : ℕ). flatFound (take n fs)) (add-one i)
     ∙ ap flatFound (take-suc fs i (O.occurrence 0 0) h)
-    ∙ each-append (λ (f : O.Occurrence). f .end ∷ (f .which ∷ [])) (take i fs) (getD fs i (O.occurrence 0 0) ∷ [])
+    ∙ each-append foundNumbers (take i fs) (getD fs i (O.occurrence 0 0) ∷ [])
 
 pub record Flattening (s es t : List ℕ) (count : ℕ) (w₀ w o₀ o : List ℕ) (i : ℕ) : Type 0 where
   pub room : 2 * count ≤ length o₀
@@ -56,7 +53,7 @@ module _ {s es t : List ℕ} {count : ℕ} {w₀ w o₀ o : List ℕ} {i : ℕ} 
   os = occurrences (slipsOf s es) t
 
   written-length : length (flatFound (take i os)) ≡ 2 * i
-  written-length = length-flat (take i os) ∙ ap (λ (n : ℕ). 2 * n) (length-take-le i os (omega (arith, F .upto, F .telling .upto)))
+  written-length = found-length (take i os) ∙ ap (λ (n : ℕ). 2 * n) (length-take-le i os (omega (arith, F .upto, F .telling .upto)))
 
   pub flat-all : count ≤ i → NumbersStored s es t count w₀ w o₀ o
   flat-all h =

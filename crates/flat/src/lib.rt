@@ -1,4 +1,4 @@
-// Composing and finding over slices of numbers: three numbers a join, two a place, two an occurrence.
+// Composing and finding over slices of numbers: three numbers a join, `PLACE_CELLS` a place, two an occurrence.
 ghost use mathlib.Core.Path.{_≡_};
 ghost use Rattle.words.specs.Lists.{over};
 ghost use Rattle.tables.specs.Tables.{table};
@@ -8,6 +8,7 @@ ghost use Prim.Native.Nat.{_+_, _<_};
 ghost use Rattle.answers.specs.Finding as F;
 ghost use Rattle.flat.specs.steps.Occurrences as N;
 use answers::Composed;
+use answers::PLACE_CELLS;
 use answers::Search;
 use layout::JOINS;
 use layout::PLACES;
@@ -38,10 +39,10 @@ pub fn compose_flat(
         (now (legend .entry)) (now (legend .exit)) (now (joins .entry)) (now (joins .exit)) (now (places .entry)) (now (places .exit)) r ⌝ }
 {
     let joins_room = joins.len() / 3;
-    let places_room = places.len() / 2;
+    let places_room = places.len() / PLACE_CELLS;
     let answer = composing::compose_staged(letters, ends, work, legend, joins_room, places_room);
     copy_cells(work, JOINS, 3 * whole(answer.joins), joins);
-    copy_cells(work, PLACES, 2 * whole(answer.slips), places);
+    copy_cells(work, PLACES, PLACE_CELLS * whole(answer.slips), places);
     answer
 }
 

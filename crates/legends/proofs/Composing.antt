@@ -16,7 +16,7 @@ use Rattle.greedy.specs.Composing.{whole, joinsOf}
 use Rattle.tables.specs.Tables.{table}
 use Rattle.layout.specs.Layout.{JOINS, PLACES}
 use Rattle.answers.specs.declared.Composed.{Composed}
-use Rattle.answers.specs.Composing.{flatJoins, flatPlaces}
+use Rattle.answers.specs.Composing.{flatJoins, placeCells, flatPlaces}
 use Rattle.composing.proofs.StagedTells.{Accepts, Refuses, staged-tells, staged-room}
 use Rattle.record_loops.specs.Firsts.{firsts}
 use Rattle.answers.specs.declared.Join.{Join}
@@ -50,8 +50,8 @@ module _ (s es w w′ l l′ : List ℕ) (js : List Join) (ps : List Place) (r :
     joins-staged : table w′ JOINS (3 * length (joinsOf (whole ss))) ≡ flatJoins (joinsOf (whole ss))
     joins-staged = ap (λ (n : ℕ). table w′ JOINS (3 * n)) (sym all-joins) ∙ c .stages .joins-are (ap (λ (x : Composed). x .number) (a .answer-is))
 
-    places-staged : table w′ PLACES (2 * length ss) ≡ flatPlaces (whole ss)
-    places-staged = ap (λ (n : ℕ). table w′ PLACES (2 * n)) (sym all-places) ∙ c .stages .places-are (ap (λ (x : Composed). x .number) (a .answer-is))
+    places-staged : table w′ PLACES (placeCells * length ss) ≡ flatPlaces (whole ss)
+    places-staged = ap (λ (n : ℕ). table w′ PLACES (placeCells * n)) (sym all-places) ∙ c .stages .places-are (ap (λ (x : Composed). x .number) (a .answer-is))
 
   module _ (a : Refuses s es w (length l) (length js) (length ps) (r .answer)) where
     no-joins : r .joins ≡ 0
@@ -69,7 +69,7 @@ module _ (s es w w′ l l′ : List ℕ) (js : List Join) (ps : List Place) (r :
       ))
       (λ a. let e = no-joins a in (omega arith, omega arith))
 
-  pub places-can : (r .places ≤ length ps) × ((2 * r .places ≤ length w′ - PLACES) × (r .places < 65536))
+  pub places-can : (r .places ≤ length ps) × ((placeCells * r .places ≤ length w′ - PLACES) × (r .places < 65536))
   places-can =
       by-answer
       (λ a. (

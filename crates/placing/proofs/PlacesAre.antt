@@ -15,6 +15,7 @@ use Rattle.words.specs.Lists.{any}
 use Rattle.words.proofs.Tests.{by-test, neither}
 use Rattle.trays.specs.Slips.{slip}
 use Rattle.greedy.specs.Legends.{Piece, added, placeIn, lowest}
+use Rattle.answers.specs.Composing.{placeCells}
 use Rattle.placing.specs.Places.{putPlace, placedBy, asideAt, asideBy}
 
 abbrev pub isLaid : ℕ → List Piece → Bool
@@ -28,25 +29,25 @@ pub put-length : (xs : List ℕ) (p : Piece) (here : ℕ) → length (putPlace x
 put-length xs p here = simp length-set
 
 pub aside-one-length : (ss : List (List ℕ)) (t xs : List ℕ) (i : ℕ) → length (asideAt ss t xs i) ≡ length xs
-aside-one-length ss t xs i = by-test (eqb (getD xs (2 * i + 1) 0) 0) (λ e. rw e (length-set xs (2 * i) _)) (λ e. rw e)
+aside-one-length ss t xs i = by-test (eqb (getD xs (placeCells * i + 1) 0) 0) (λ e. rw e (length-set xs (placeCells * i) _)) (λ e. rw e)
 
 module _ (ss : List (List ℕ)) where
   -- the cells of another slip are kept
-  put-other : (xs : List ℕ) (p : Piece) (here k j : ℕ) → 1 ≤ p .number → (p .number ≡ suc k → ⊥) → j ≡ 2 * k
+  put-other : (xs : List ℕ) (p : Piece) (here k j : ℕ) → 1 ≤ p .number → (p .number ≡ suc k → ⊥) → j ≡ placeCells * k
       → (getD (putPlace xs p here) j 0 ≡ getD xs j 0) × (getD (putPlace xs p here) (j + 1) 0 ≡ getD xs (j + 1) 0)
   put-other xs p here k j one ne e =
       let f : p .number - 1 ≡ k → ⊥ = λ q. ne (omega arith) in
-      let at : ℕ = 2 * (p .number - 1) in
+      let at : ℕ = placeCells * (p .number - 1) in
       let place : ℕ = here - p .overlap in
       let a : List ℕ = set xs at place in (
         getD-set-other a (at + 1) j 1 0 (λ q. omega arith) ∙ getD-set-other xs at j place 0 (λ q. f (omega arith)),
         getD-set-other a (at + 1) (j + 1) 1 0 (λ q. f (omega arith)) ∙ getD-set-other xs at (j + 1) place 0 (λ q. omega arith),
       )
 
-  put-same : (xs : List ℕ) (p : Piece) (here k j : ℕ) → p .number ≡ suc k → j ≡ 2 * k → j + 1 < length xs
+  put-same : (xs : List ℕ) (p : Piece) (here k j : ℕ) → p .number ≡ suc k → j ≡ placeCells * k → j + 1 < length xs
       → (getD (putPlace xs p here) j 0 ≡ here - p .overlap) × (getD (putPlace xs p here) (j + 1) 0 ≡ 1)
   put-same xs p here k j n e l =
-      let f : 2 * (p .number - 1) ≡ j = omega arith in
+      let f : placeCells * (p .number - 1) ≡ j = omega arith in
       rw f (
         getD-set-other (set xs j (here - p .overlap)) (j + 1) j 1 0 (λ q. omega arith)
             ∙ getD-set-same xs j (here - p .overlap) 0 (omega arith),
@@ -58,7 +59,7 @@ module _ (ss : List (List ℕ)) where
   placed-length (p ∷ ps) xs here = placed-length ps (putPlace xs p here) (here + length (added ss p)) ∙ put-length xs p here
 
   -- slip k + 1 is not among the pieces: its cells are kept
-  pub placed-other : (ps : List Piece) (xs : List ℕ) (here k j : ℕ) → LaidOnce ps → isLaid (suc k) ps ≡ false → j ≡ 2 * k
+  pub placed-other : (ps : List Piece) (xs : List ℕ) (here k j : ℕ) → LaidOnce ps → isLaid (suc k) ps ≡ false → j ≡ placeCells * k
       → (getD (placedBy ss xs here ps) j 0 ≡ getD xs j 0) × (getD (placedBy ss xs here ps) (j + 1) 0 ≡ getD xs (j + 1) 0)
   placed-other [] xs here k j o h e = (refl, refl)
   placed-other (p ∷ ps) xs here k j o h e =
@@ -68,7 +69,7 @@ module _ (ss : List (List ℕ)) where
       (r .0 ∙ a .0, r .1 ∙ a .1)
 
   -- it is: its place there, and the mark
-  pub placed-here : (ps : List Piece) (xs : List ℕ) (here k j : ℕ) → LaidOnce ps → isLaid (suc k) ps ≡ true → j ≡ 2 * k → j + 1 < length xs
+  pub placed-here : (ps : List Piece) (xs : List ℕ) (here k j : ℕ) → LaidOnce ps → isLaid (suc k) ps ≡ true → j ≡ placeCells * k → j + 1 < length xs
       → (getD (placedBy ss xs here ps) j 0 ≡ placeIn ss (suc k) here ps) × (getD (placedBy ss xs here ps) (j + 1) 0 ≡ 1)
   placed-here [] xs here k j o h e l = absurd (no h)
     where
@@ -91,23 +92,23 @@ module _ (ss : List (List ℕ)) where
     aside-length xs zero = refl
     aside-length xs (suc n) = aside-one-length ss t (asideBy ss t xs n) n ∙ aside-length xs n
 
-    at-other : (xs : List ℕ) (i j : ℕ) → (j ≡ 2 * i → ⊥) → getD (asideAt ss t xs i) j 0 ≡ getD xs j 0
-    at-other xs i j ne = by-test (eqb (getD xs (2 * i + 1) 0) 0) (λ e. rw e (getD-set-other xs (2 * i) j _ 0 ne)) (λ e. rw e)
+    at-other : (xs : List ℕ) (i j : ℕ) → (j ≡ placeCells * i → ⊥) → getD (asideAt ss t xs i) j 0 ≡ getD xs j 0
+    at-other xs i j ne = by-test (eqb (getD xs (placeCells * i + 1) 0) 0) (λ e. rw e (getD-set-other xs (placeCells * i) j _ 0 ne)) (λ e. rw e)
 
-    pub aside-mark : (xs : List ℕ) (n k : ℕ) → getD (asideBy ss t xs n) (2 * k + 1) 0 ≡ getD xs (2 * k + 1) 0
+    pub aside-mark : (xs : List ℕ) (n k : ℕ) → getD (asideBy ss t xs n) (placeCells * k + 1) 0 ≡ getD xs (placeCells * k + 1) 0
     aside-mark xs zero k = refl
-    aside-mark xs (suc n) k = at-other (asideBy ss t xs n) n (2 * k + 1) (λ q. omega arith) ∙ aside-mark xs n k
+    aside-mark xs (suc n) k = at-other (asideBy ss t xs n) n (placeCells * k + 1) (λ q. omega arith) ∙ aside-mark xs n k
 
-    not-yet : (xs : List ℕ) (n k : ℕ) → n ≤ k → getD (asideBy ss t xs n) (2 * k) 0 ≡ getD xs (2 * k) 0
+    not-yet : (xs : List ℕ) (n k : ℕ) → n ≤ k → getD (asideBy ss t xs n) (placeCells * k) 0 ≡ getD xs (placeCells * k) 0
     not-yet xs zero k h = refl
-    not-yet xs (suc n) k h = at-other (asideBy ss t xs n) n (2 * k) (λ q. omega arith) ∙ not-yet xs n k (omega arith)
+    not-yet xs (suc n) k h = at-other (asideBy ss t xs n) n (placeCells * k) (λ q. omega arith) ∙ not-yet xs n k (omega arith)
 
-    here-now : (xs : List ℕ) (k : ℕ) → 2 * k < length xs
-        → getD (asideAt ss t xs k) (2 * k) 0 ≡ cond (eqb (getD xs (2 * k + 1) 0) 0) (lowest 1 (slip ss (suc k)) t) (getD xs (2 * k) 0)
-    here-now xs k h = by-test (eqb (getD xs (2 * k + 1) 0) 0) (λ e. rw e (getD-set-same xs (2 * k) _ 0 h)) (λ e. rw e)
+    here-now : (xs : List ℕ) (k : ℕ) → placeCells * k < length xs
+        → getD (asideAt ss t xs k) (placeCells * k) 0 ≡ cond (eqb (getD xs (placeCells * k + 1) 0) 0) (lowest 1 (slip ss (suc k)) t) (getD xs (placeCells * k) 0)
+    here-now xs k h = by-test (eqb (getD xs (placeCells * k + 1) 0) 0) (λ e. rw e (getD-set-same xs (placeCells * k) _ 0 h)) (λ e. rw e)
 
-    pub aside-cell : (xs : List ℕ) (n k : ℕ) → k < n → 2 * k < length xs
-        → getD (asideBy ss t xs n) (2 * k) 0 ≡ cond (eqb (getD xs (2 * k + 1) 0) 0) (lowest 1 (slip ss (suc k)) t) (getD xs (2 * k) 0)
+    pub aside-cell : (xs : List ℕ) (n k : ℕ) → k < n → placeCells * k < length xs
+        → getD (asideBy ss t xs n) (placeCells * k) 0 ≡ cond (eqb (getD xs (placeCells * k + 1) 0) 0) (lowest 1 (slip ss (suc k)) t) (getD xs (placeCells * k) 0)
     aside-cell xs zero k h l = absurd (omega arith)
     aside-cell xs (suc n) k h l =
         elim (ℕ-discrete n k) [
@@ -115,5 +116,5 @@ module _ (ss : List (List ℕ)) where
               rw e
               (here-now (asideBy ss t xs k) k (rw aside-length l)
               ∙ rw (aside-mark xs k k, not-yet xs k k (omega arith)))
-          | no ne ↦ at-other (asideBy ss t xs n) n (2 * k) (λ q. ne (omega arith)) ∙ aside-cell xs n k (omega arith) l
+          | no ne ↦ at-other (asideBy ss t xs n) n (placeCells * k) (λ q. ne (omega arith)) ∙ aside-cell xs n k (omega arith) l
         ]

@@ -12,6 +12,7 @@ use Rattle.trays.specs.Faults.{trayFault}
 use Rattle.words.specs.Words.{begins}
 use Rattle.words.proofs.Tests.{by-test}
 use Rattle.greedy.specs.Legends.{added, lowest}
+use Rattle.answers.specs.Composing.{placeCells}
 use Rattle.chains.specs.Pieces.{pieceIn, piecesIn}
 use Rattle.placing.specs.Places.{putPlace, placedBy, asideAt, asideBy, Placeable, PlacesAsk}
 use Rattle.placing.specs.steps.OnePlace.{PutPlaceAsks, PlacedOne, AsidePlaceAsks}
@@ -23,7 +24,7 @@ module _ (s es ps : List ℕ) (q here : ℕ) (xs : List ℕ) (i o : ℕ) (part :
   pub place-within : PutPlaceAsks s es ps q here xs → o ≤ length part
   place-within a = rw (ho, hp, hi) (a .within)
 
-  pub place-put : (xs′ : List ℕ) → xs′ ≡ set (set xs (2 * (i - 1)) (here - o)) (2 * (i - 1) + 1) 1 → xs′ ≡ putPlace xs (pieceIn ps q) here
+  pub place-put : (xs′ : List ℕ) → xs′ ≡ set (set xs (placeCells * (i - 1)) (here - o)) (placeCells * (i - 1) + 1) 1 → xs′ ≡ putPlace xs (pieceIn ps q) here
   place-put xs′ e = e ∙ rw (hi, ho)
 
   pub next-letters : here + (length part - o) ≡ here + length (added (slipsOf s es) (pieceIn ps q))
@@ -84,18 +85,18 @@ lowest-most p x [] = omega arith
 lowest-most p x (y ∷ t) =
     by-test (begins x (y ∷ t)) (λ e. rw (e, lowest) (omega arith)) (λ e. rw (e, lowest) (omega (arith, lowest-most (suc p) x t)))
 
-module _ (s es t : List ℕ) (i : ℕ) (xs : List ℕ) (mark : ℕ) (e : mark ≡ getD xs (2 * i + 1) 0) where
+module _ (s es t : List ℕ) (i : ℕ) (xs : List ℕ) (mark : ℕ) (e : mark ≡ getD xs (placeCells * i + 1) 0) where
   pub aside-kept : (mark ≡ 0 → ⊥) → xs ≡ asideAt (slipsOf s es) t xs i
-  aside-kept z = rw (ne-eqb (getD xs (2 * i + 1) 0) 0 (λ q. z (e ∙ q)))
+  aside-kept z = rw (ne-eqb (getD xs (placeCells * i + 1) 0) 0 (λ q. z (e ∙ q)))
 
   pub aside-put : (part : List ℕ) (r : ℕ) → mark ≡ 0 → part ≡ slip (slipsOf s es) (i + 1) → r ≡ lowest 1 part t
-      → set xs (2 * i) r ≡ asideAt (slipsOf s es) t xs i
-  aside-put part r z h l = rw (eq-eqb (getD xs (2 * i + 1) 0) 0 (sym e ∙ z), l, h, add-one i)
+      → set xs (placeCells * i) r ≡ asideAt (slipsOf s es) t xs i
+  aside-put part r z h l = rw (eq-eqb (getD xs (placeCells * i + 1) 0) 0 (sym e ∙ z), l, h, add-one i)
 
 pub aside-small : (s es t : List ℕ) (i : ℕ) (xs part : List ℕ) (r : ℕ) → AsidePlaceAsks s es t i xs → r ≡ lowest 1 part t → r < 65536
 aside-small s es t i xs part r a l = omega (arith, lowest-most 1 part t, a .small)
 
-module _ (s es t : List ℕ) (xs₀ : List ℕ) (a : (trayFault s es .number ≡ 0) × (length t < 65535) × (2 * length es ≤ length xs₀)) where
+module _ (s es t : List ℕ) (xs₀ : List ℕ) (a : (trayFault s es .number ≡ 0) × (length t < 65535) × (placeCells * length es ≤ length xs₀)) where
   pub aside-asks : (i : ℕ) (xs : List ℕ) → i < length es → length xs ≡ length xs₀ → AsidePlaceAsks s es t i xs
   aside-asks i xs l e = record { tray = a .0; slips = l; places = omega (arith, a .2); small = a .1 }
 

@@ -14,17 +14,18 @@ use lib.ListN.{length, getD, set}
 use Rattle.trays.specs.Slips.{slipsOf, slip}
 use Rattle.trays.specs.Faults.{trayFault}
 use Rattle.greedy.specs.Legends.{Piece, added, lowest}
+use Rattle.answers.specs.Composing.{placeCells}
 use Rattle.chains.specs.Pieces.{piecesIn}
 
 abbrev pub putPlace : List ℕ → Piece → ℕ → List ℕ
-putPlace xs p here = set (set xs (2 * (p .number - 1)) (here - p .overlap)) (2 * (p .number - 1) + 1) 1
+putPlace xs p here = set (set xs (placeCells * (p .number - 1)) (here - p .overlap)) (placeCells * (p .number - 1) + 1) 1
 
 abbrev pub placedBy : List (List ℕ) → List ℕ → ℕ → List Piece → List ℕ
 placedBy ss xs here [] = xs
 placedBy ss xs here (p ∷ ps) = placedBy ss (putPlace xs p here) (here + length (added ss p)) ps
 
 abbrev pub asideAt : List (List ℕ) → List ℕ → List ℕ → ℕ → List ℕ
-asideAt ss t xs i = cond (eqb (getD xs (2 * i + 1) 0) 0) (set xs (2 * i) (lowest 1 (slip ss (suc i)) t)) xs
+asideAt ss t xs i = cond (eqb (getD xs (placeCells * i + 1) 0) 0) (set xs (placeCells * i) (lowest 1 (slip ss (suc i)) t)) xs
 
 abbrev pub asideBy : List (List ℕ) → List ℕ → List ℕ → ℕ → List ℕ
 asideBy ss t xs zero = xs
@@ -40,5 +41,5 @@ Placeable s es here (p ∷ ps) =
 pub record PlacesAsk (s es ps : List ℕ) (n : ℕ) (xs : List ℕ) : Type 0 where
   pub tray : trayFault s es .number ≡ 0
   pub pairs : 2 * n ≤ length ps
-  pub places : 2 * length es ≤ length xs
+  pub places : placeCells * length es ≤ length xs
   pub fits : Placeable s es 1 (piecesIn ps 0 n)

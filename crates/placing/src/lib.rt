@@ -5,9 +5,11 @@ ghost use lib.ListN.{length, set};
 ghost use Rattle.trays.specs.Slips.{slipsOf};
 ghost use Rattle.trays.specs.Faults.{trayFault};
 ghost use Rattle.greedy.specs.Legends.{lowest};
+ghost use Rattle.answers.specs.Composing.{placeCells};
 ghost use Rattle.chains.specs.Pieces.{pieceIn, piecesIn};
 ghost use Rattle.placing.specs.Places.{placedBy, asideAt, asideBy, PlacesAsk};
 ghost use Rattle.placing.specs.steps.OnePlace.{PutPlaceAsks, PlacedOne, AsidePlaceAsks};
+use answers::PLACE_CELLS;
 use tables::wide;
 
 // The lowest place, from 1, at which `x` stands in `t`; one past the letters if it stands nowhere.
@@ -61,7 +63,7 @@ fn put_place(
     let slip = wide(pieces[2 * q]);
     let shared = wide(pieces[2 * q + 1]);
     let part = spans::slip_part(letters, ends, slip);
-    put_two(places, 2 * (slip - 1), here - shared, 1);
+    put_two(places, PLACE_CELLS * (slip - 1), here - shared, 1);
     here + (part.len() - shared)
 }
 
@@ -85,18 +87,18 @@ fn aside_place(letters: &[u8], ends: &[u16], legend: &[u8], i: usize, places: &m
     ensures { λ _. ⌜ now (places .exit)
         ≡ asideAt (slipsOf (now (letters .entry)) (now (ends .entry))) (now (legend .entry)) (now (places .entry)) i ⌝ }
 {
-    let mark = wide(places[2 * i + 1]);
+    let mark = wide(places[PLACE_CELLS * i + 1]);
     if mark != 0 {
         return;
     }
     let part = spans::slip_part(letters, ends, i + 1);
-    places[2 * i] = lowest_place(part, legend) as u16;
+    places[PLACE_CELLS * i] = lowest_place(part, legend) as u16;
 }
 
 // Writes the places of the slips that are not marked as kept.
 pub fn aside_places(letters: &[u8], ends: &[u16], legend: &[u8], places: &mut [u16])
     requires { ⌜ (trayFault (now letters) (now ends) .number ≡ 0) × (length (now legend) < 65535)
-        × (2 * length (now ends) ≤ length (now places)) ⌝ }
+        × (placeCells * length (now ends) ≤ length (now places)) ⌝ }
     ensures { λ _. ⌜ now (places .exit)
         ≡ asideBy (slipsOf (now (letters .entry)) (now (ends .entry))) (now (legend .entry)) (now (places .entry)) (length (now (ends .entry))) ⌝ }
 {

@@ -1,5 +1,4 @@
 -- The records made of the staged numbers are those of the tray.
---   joins-flat   == the numbers of join i among the joins as numbers
 --   joins-made   == where the joins js are staged, their records are made
 --   places-made  == where the places of the slips ss are staged, their records are made
 -- A staged table is the list of the numbers, so that each cell is a number of the list; records are equal where their fields are.
@@ -19,8 +18,8 @@ use Rattle.tables.proofs.Tables.{table-at}
 use Rattle.layout.specs.Layout.{JOINS, PLACES}
 use Rattle.layout.specs.Tables.{cell}
 use Rattle.greedy.specs.Composing.{whole}
-use Rattle.answers.specs.Composing.{flatJoins, flatPlaces}
-use Rattle.answers.proofs.FlatPlaces.{flat-at}
+use Rattle.answers.specs.Composing.{joinNumbers, flatJoins, placeCells, placeNumbers, flatPlaces}
+use Rattle.answers.proofs.FlatLists.{joins-at, places-at}
 use Rattle.record_loops.specs.Firsts.{firsts}
 use Rattle.words.proofs.Runs.{length-upFrom}
 use Rattle.record_loops.proofs.Firsts.{getD-map-upFrom, firsts-are}
@@ -41,37 +40,30 @@ module _ (w : List ℕ) (base n : ℕ) (xs : List ℕ) (e : table w base n ≡ x
   cell-in : (k : ℕ) → k < n → cell w base k ≡ getD xs k 0
   cell-in k h = sym (table-at w base n k h) ∙ ap (λ (l : List ℕ). getD l k 0) e
 
--- the joins, three numbers each
+-- the joins
 abbrev none : Join
 none = record { left = 0; right = 0; overlap = 0 }
 
-joins-flat : (js : List G.Join) (i : ℕ) → i < length js
-    → (getD (flatJoins js) (3 * i) 0 ≡ getD (map joinRecord js) i none .left)
-    × ((getD (flatJoins js) (3 * i + 1) 0 ≡ getD (map joinRecord js) i none .right)
-    × (getD (flatJoins js) (3 * i + 2) 0 ≡ getD (map joinRecord js) i none .overlap))
-joins-flat [] i h = absurd (omega arith)
-joins-flat (j ∷ js) zero h = (refl, (refl, refl))
-joins-flat (j ∷ js) (suc i) h =
-    let a : 3 * suc i ≡ suc (suc (suc (3 * i))) = omega arith in
-    let b : 3 * suc i + 1 ≡ suc (suc (suc (3 * i + 1))) = omega arith in
-    let c : 3 * suc i + 2 ≡ suc (suc (suc (3 * i + 2))) = omega arith in
-    let r = joins-flat js i (omega arith) in
-    (rw a (r .0), (rw b (r .1 .0), rw c (r .1 .1)))
+map-at : (js : List G.Join) (i : ℕ) → i < length js → getD (map joinRecord js) i none ≡ joinRecord (getD js i (G.join 0 0 0))
+map-at [] i h = absurd (omega arith)
+map-at (j ∷ js) zero h = refl
+map-at (j ∷ js) (suc i) h = map-at js i (omega arith)
 
 module _ (w : List ℕ) (js : List G.Join) (e : table w JOINS (3 * length js) ≡ flatJoins js) where
   join-made : (i : ℕ) → i < length js → joinAt w i ≡ getD (map joinRecord js) i none
   join-made i h =
-      let is = cell-in w JOINS (3 * length js) (flatJoins js) e in
-      let r = joins-flat js i h in
-      join-by _ _ _ (getD (map joinRecord js) i none) (is (3 * i) (omega arith) ∙ r .0) (is (3 * i + 1) (omega arith) ∙ r .1 .0)
-      (is (3 * i + 2) (omega arith) ∙ r .1 .1)
+      let x = joinRecord (getD js i (G.join 0 0 0)) in
+      let is : (j at : ℕ) → j < 3 → at ≡ 3 * i + j → cell w JOINS at ≡ getD (joinNumbers (getD js i (G.join 0 0 0))) j 0 =
+      λ j at l q. cell-in w JOINS (3 * length js) (flatJoins js) e at (omega arith) ∙ joins-at js i j at h l q in
+      join-by _ _ _ x (is 0 (3 * i) (omega arith) (omega arith)) (is 1 (3 * i + 1) (omega arith) refl) (is 2 (3 * i + 2) (omega arith) refl)
+      ∙ sym (map-at js i h)
 
   pub joins-made : firsts (joinAt w) (length js) ≡ map joinRecord js
   joins-made =
       ap (firsts (joinAt w)) (sym (length-map js joinRecord))
       ∙ firsts-are (joinAt w) none (map joinRecord js) (λ i h. join-made i (omega (arith, length-map js joinRecord)))
 
--- the places, two numbers each
+-- the places
 mark-kept : (b : Bool) → eqb (cond b 0 1) 1 ≡ not b
 mark-kept true = refl
 mark-kept false = refl
@@ -79,13 +71,13 @@ mark-kept false = refl
 abbrev nowhere : Place
 nowhere = record { slip = 0; place = 0; kept = false }
 
-module _ (w : List ℕ) (ss : List (List ℕ)) (e : table w PLACES (2 * length ss) ≡ flatPlaces (whole ss)) where
+module _ (w : List ℕ) (ss : List (List ℕ)) (e : table w PLACES (placeCells * length ss) ≡ flatPlaces (whole ss)) where
   place-made : (i : ℕ) → i < length ss → placeAt w i ≡ placeRecord (whole ss) (suc i)
   place-made i h =
-      let is = cell-in w PLACES (2 * length ss) (flatPlaces (whole ss)) e in
-      let r = flat-at ss i h in
-      place-by _ _ _ (placeRecord (whole ss) (suc i)) (add-one i) (is (2 * i) (omega arith) ∙ r .0)
-      (ap (λ (m : ℕ). eqb m 1) (is (2 * i + 1) (omega arith) ∙ r .1) ∙ mark-kept (isAside ss (numbers ss) (suc i)))
+      let is : (j at : ℕ) → j < placeCells → at ≡ placeCells * i + j → cell w PLACES at ≡ getD (placeNumbers (whole ss) (suc i)) j 0 =
+      λ j at l q. cell-in w PLACES (placeCells * length ss) (flatPlaces (whole ss)) e at (omega arith) ∙ places-at ss i j at h l q in
+      place-by _ _ _ (placeRecord (whole ss) (suc i)) (add-one i) (is 0 (placeCells * i) (omega arith) (omega arith))
+      (ap (λ (m : ℕ). eqb m 1) (is 1 (placeCells * i + 1) (omega arith) refl) ∙ mark-kept (isAside ss (numbers ss) (suc i)))
 
   pub places-made : firsts (placeAt w) (length ss) ≡ map (placeRecord (whole ss)) (numbers ss)
   places-made =

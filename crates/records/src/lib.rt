@@ -5,8 +5,10 @@ ghost use lib.ListN.{length};
 ghost use Rattle.words.specs.Lists.{over};
 ghost use Rattle.record_loops.specs.Firsts.{firsts};
 ghost use Rattle.layout.specs.Layout as L;
+ghost use Rattle.answers.specs.Composing.{placeCells};
 ghost use Rattle.records.specs.steps.Made as M;
 use answers::Join;
+use answers::PLACE_CELLS;
 use answers::Place;
 use layout::JOINS;
 use layout::PLACES;
@@ -26,10 +28,10 @@ fn join_at(work: &[u16], i: usize) -> Join
 
 // The place of slip i + 1, of those staged in the work area.
 fn place_at(work: &[u16], i: usize) -> Place
-    requires { ⌜ (2 * (i + 1) ≤ length (now work) - L.PLACES) × (i + 1 < 65536) ⌝ }
+    requires { ⌜ (placeCells * (i + 1) ≤ length (now work) - L.PLACES) × (i + 1 < 65536) ⌝ }
     ensures { λ r. ⌜ r ≡ M.placeAt (now (work .entry)) i ⌝ }
 {
-    let at = 2 * i;
+    let at = PLACE_CELLS * i;
     let kept = work[PLACES + (at + 1)];
     Place {
         slip: (i + 1) as u16,
@@ -52,7 +54,7 @@ pub fn store_joins(work: &[u16], joins: &mut [Join], count: usize)
 
 // The first `count` staged places, stored from the start of the list.
 pub fn store_places(work: &[u16], places: &mut [Place], count: usize)
-    requires { ⌜ (count ≤ length (now places)) × ((2 * count ≤ length (now work) - L.PLACES) × (count < 65536)) ⌝ }
+    requires { ⌜ (count ≤ length (now places)) × ((placeCells * count ≤ length (now work) - L.PLACES) × (count < 65536)) ⌝ }
     ensures { λ _. ⌜ now (places .exit) ≡ over (firsts (M.placeAt (now (work .entry))) count) (now (places .entry)) ⌝ }
 {
     let mut i = 0;

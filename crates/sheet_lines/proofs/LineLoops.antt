@@ -12,6 +12,7 @@ use lib.ListN.{length, getD}
 use Rattle.words.specs.Lists.{each, upFrom}
 use Rattle.words.proofs.Members.{each-append}
 use Rattle.trays.specs.Slips.{endOf}
+use Rattle.answers.specs.Composing.{placeCells}
 use Rattle.sheets.specs.Sheets.{threeLine, slipLine, signOf, foundLine, lines}
 use Rattle.sheets.specs.Sheets.{slipLineAt, joinLineAt, foundLineAt, placeWidth, slipSize, joinSize, foundSize}
 use Rattle.columns.specs.steps.Wrote.{Wrote}
@@ -45,11 +46,11 @@ module _ (es ps : List ℕ) (i here end : ℕ) (h : i < length es) (b : here ≡
   pub slip-small : SlipsFit es ps → end - here < 10 ^ 4
   slip-small F = let l : end < 10 ^ 4 = rw e (F .small i h) in omega arith
 
-  pub slip-placed : (x : ℕ) → SlipsFit es ps → x ≡ getD ps (2 * i) 0 → x < 10 ^ 5
+  pub slip-placed : (x : ℕ) → SlipsFit es ps → x ≡ getD ps (placeCells * i) 0 → x < 10 ^ 5
   slip-placed x F q = rw q (F .placed i h)
 
 pub slip-turn : (es ps : List ℕ) (i here end place mark at next r : ℕ) (o o₁ o₂ : List ℕ) → here ≡ endOf es i → end ≡ getD es i 0 →
-    place ≡ getD ps (2 * i) 0 → mark ≡ getD ps (2 * i + 1) 0 → Wrote at (slipSize * i) (lines (slipLineAt es ps) i) o o₁ next →
+    place ≡ getD ps (placeCells * i) 0 → mark ≡ getD ps (placeCells * i + 1) 0 → Wrote at (slipSize * i) (lines (slipLineAt es ps) i) o o₁ next →
     Wrote next slipSize (slipLine (i + 1) (end - here) place (signOf mark)) o₁ o₂ r → Wrote at (slipSize * (i + 1)) (lines (slipLineAt es ps) (i + 1)) o o₂ r
 slip-turn es ps i here end place mark at next r o o₁ o₂ b e p m x y = lines-turn (slipLineAt es ps) slipSize at i next r o o₁ o₂ x (rw (b, e, p, m) at y)
 

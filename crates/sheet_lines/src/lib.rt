@@ -8,6 +8,7 @@ ghost use Rattle.sheets.specs.Sheets as S;
 ghost use Rattle.columns.specs.steps.Wrote as W;
 ghost use Rattle.sheet_lines.specs.steps.Lines as P;
 use answers::Composed;
+use answers::PLACE_CELLS;
 use files::BLANK;
 use files::LF;
 use tables::whole;
@@ -80,7 +81,7 @@ fn slip_line(
     columns::put_byte(out, e, LF)
 }
 
-// A line for each slip, from the ends and two numbers a slip: its place, and whether it is kept.
+// A line for each slip, from the ends and the places as numbers.
 fn slip_lines(out: &mut [u8], at: usize, ends: &[u16], places: &[u16]) -> usize
     requires { ⌜ P.SlipsFit (now ends) (now places) × (at + S.slipSize * length (now ends) ≤ length (now out)) ⌝ }
     ensures { λ r. ⌜ W.Wrote at (S.slipSize * length (now (ends .entry)))
@@ -92,7 +93,7 @@ fn slip_lines(out: &mut [u8], at: usize, ends: &[u16], places: &[u16]) -> usize
     let mut i: usize = 0;
     while i < ends.len() {
         let end = small(ends, i);
-        let k = 2 * i;
+        let k = PLACE_CELLS * i;
         let place = small(places, k);
         let mark = small(places, k + 1);
         next = slip_line(out, next, i + 1, end - here, place, mark);

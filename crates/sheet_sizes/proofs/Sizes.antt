@@ -3,7 +3,6 @@
 --   NAME-asks   == what the function asks, over the numbers of an accepted tray
 --   NAME-most   == the sheet fits the buffer that its program lends
 use mathlib.Core.Path.{_≡_, sym, ap}
-use mathlib.Core.Bool.{cond}
 use mathlib.Core.List.{List, [], _∷_}
 use Prim.Native.Nat.{ℕ, zero, suc, _+_, _*_, _^_, _≤_, _<_}
 use native.Mathlib.Nat.{mul-suc, mul-zero}
@@ -11,30 +10,28 @@ use native.Mathlib.Omega.{arith}
 use lib.ListN.{length, getD, length-append}
 use Rattle.words.specs.Lists.{each, upFrom}
 use Rattle.words.proofs.Sums.{All, all-at}
-use Rattle.words.proofs.Runs.{length-upFrom}
 use Rattle.words.proofs.Picks.{getD-in}
 use Rattle.words.proofs.Maps.{all-each}
 use Rattle.trays.specs.declared.Refusal.{Refusal}
 use Rattle.trays.specs.Limits.{maxText}
-use Rattle.trays.specs.Slips.{slipsOf, numbers}
-use Rattle.trays.specs.Aside.{isAside}
+use Rattle.trays.specs.Slips.{slipsOf}
 use Rattle.trays.specs.Faults.{trayFault}
 use Rattle.trays.proofs.Accepted.{slips-count, span-rises}
 use Rattle.numbering.proofs.Spans.{accepted-spanned}
-use Rattle.greedy.specs.Joins.{join}
-use Rattle.greedy.specs.Composing.{whole, joinsOf, legendOf, placeOf}
+use Rattle.greedy.specs.Composing.{whole, joinsOf, legendOf}
 use Rattle.matching.specs.Moves.{moves}
-use Rattle.matching.specs.Occurrences.{occurrence, occurrences}
+use Rattle.matching.specs.Occurrences.{occurrences}
 use Rattle.answers.specs.declared.Composed.{Composed}
-use Rattle.answers.specs.Composing.{outcomeOf, flatJoins, flatPlaces}
+use Rattle.answers.specs.Composing.{outcomeOf, joinNumbers, flatJoins, placeCells, flatPlaces}
 use Rattle.answers.specs.Finding.{flatFound}
+use Rattle.answers.proofs.FlatLists.{joins-length, found-length, places-length, places-at}
 use Rattle.sheets.specs.Sheets.{threeLine, trayLine, slipLine, findLine, foundLine, refusedLine, lines, slipLineAt, joinLineAt}
 use Rattle.sheets.specs.Sheets.{foundLineAt, composeLines, composeSheetOf, findLines, findSheetOf, composeRoom, maxFound, findRoom}
 use Rattle.sheets.specs.Sheets.{placeWidth, countWidth, detailWidth, traySize, slipSize, joinSize, findSize, foundSize, refusedSize}
 use Rattle.sheet_sizes.specs.Fits.{JoinFits, OccurrenceFits, RefusalFits}
 use Rattle.sheet_lines.specs.steps.Lines.{HeaderFits, SlipsFit, JoinsFit, ComposeAsks, FoundFit, FindAsks}
 use Rattle.sheets.proofs.Columns.{column-length}
-use Rattle.sheet_sizes.proofs.Flat.{two-length, three-length, place-at, compose-lines-are, find-lines-are}
+use Rattle.sheet_sizes.proofs.Flat.{compose-lines-are, find-lines-are}
 use Rattle.sheet_sizes.proofs.Fitting.{compose-fits, find-fits}
 
 -- lines
@@ -122,16 +119,16 @@ module _ (s es : List ℕ) (acc : trayFault s es .number ≡ 0) where
         few = omega (arith, F .slips);
         rise = λ i h. omega (arith, span-rises s es acc (suc i) (omega arith) h);
         small = λ i h. omega (arith, accepted-spanned s es acc .fits (suc i) h);
-        placed = λ i h. omega (arith, place-at ss i (omega arith) .0, F .places (suc i) (omega arith) (omega arith));
-        places = omega (arith, two-length 0 (placeOf (whole ss)) (λ k. cond (isAside ss (numbers ss) k) 0 1) (numbers ss), length-upFrom 1 (length ss));
+        placed = λ i h. omega (arith, places-at ss i 0 (placeCells * i) (omega arith) (omega arith) (omega arith), F .places (suc i) (omega arith) (omega arith));
+        places = omega (arith, places-length ss);
       }
 
   joins-fit : JoinsFit (flatJoins (joinsOf (whole ss))) (length (joinsOf (whole ss)))
   joins-fit =
       let js = joinsOf (whole ss) in
-      let n : length (flatJoins js) ≡ 3 * length js = three-length (join 0 0 0) (λ j. j .left) (λ j. j .right) (λ j. j .overlap) js in
+      let n : length (flatJoins js) ≡ 3 * length js = joins-length js in
       let a : All (λ x. x < 10 ^ 4) (flatJoins js) =
-      all-each JoinFits (λ x. x < 10 ^ 4) (λ j. j .left ∷ (j .right ∷ (j .overlap ∷ [])))
+      all-each JoinFits (λ x. x < 10 ^ 4) joinNumbers
       (λ j f. (omega (arith, f .0), (omega (arith, f .1), (omega (arith, f .2), tt)))) js (compose-fits s es acc .joins) in
       record { small = λ i h. all-getD (λ x. x < 10 ^ 4) (flatJoins js) a i (omega arith); numbers = omega arith }
 
@@ -162,7 +159,7 @@ module _ (s es : List ℕ) (acc : trayFault s es .number ≡ 0) where
     found-fit : FoundFit (flatFound (occurrences ss t)) (length (occurrences ss t))
     found-fit =
         let fs = occurrences ss t in
-        let n : length (flatFound fs) ≡ 2 * length fs = two-length (occurrence 0 0) (λ f. f .end) (λ f. f .which) fs in
+        let n : length (flatFound fs) ≡ 2 * length fs = found-length fs in
         let a : All (λ x. x < 10 ^ 4) (flatFound fs) =
         all-each OccurrenceFits (λ x. x < 10 ^ 4) (λ f. f .end ∷ (f .which ∷ [])) (λ f h. (omega (arith, h .0), (omega (arith, h .1), tt))) fs
         (find-fits s es t acc small .found) in

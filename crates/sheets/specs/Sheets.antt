@@ -28,6 +28,7 @@ use Rattle.greedy.specs.Composing.{whole, joinsOf, legendOf, placeOf, keptLette
 use Rattle.matching.specs.Moves.{moves}
 use Rattle.matching.specs.Occurrences.{occurrences}
 use Rattle.answers.specs.declared.Composed.{Composed}
+use Rattle.answers.specs.Composing.{placeCells}
 
 abbrev pub digit : ℕ → ℕ
 digit d = 48 + d
@@ -133,7 +134,7 @@ abbrev pub signOf : ℕ → ℕ
 signOf k = cond (eqb k 0) asideSign keptSign
 
 abbrev pub slipLineAt : List ℕ → List ℕ → ℕ → List ℕ
-slipLineAt es ps i = slipLine (i + 1) (endOf es (suc i) - startOf es (suc i)) (getD ps (2 * i) 0) (signOf (getD ps (2 * i + 1) 0))
+slipLineAt es ps i = slipLine (i + 1) (endOf es (suc i) - startOf es (suc i)) (getD ps (placeCells * i) 0) (signOf (getD ps (placeCells * i + 1) 0))
 
 abbrev pub joinLineAt : List ℕ → ℕ → List ℕ
 joinLineAt js i = joinLine (getD js (3 * i) 0) (getD js (3 * i + 1) 0) (getD js (3 * i + 2) 0)

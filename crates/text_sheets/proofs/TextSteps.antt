@@ -26,7 +26,7 @@ use Rattle.searching.proofs.Answering.{answer-found, answer-refused}
 use Rattle.sheets.specs.Sheets.{detailWidth, refusedLine, refusedSize, findLines, findSheetOf, maxFound}
 use Rattle.sheet_lines.specs.steps.Lines.{Printed, FindAsks}
 use Rattle.sheets.specs.Programs.{textFault, textSheet}
-use Rattle.sheet_sizes.proofs.Flat.{two-length}
+use Rattle.answers.proofs.FlatLists.{found-length}
 use Rattle.sheet_sizes.proofs.Printing.{printed-is, find-ready, find-printed}
 use Rattle.sheet_sizes.proofs.TextRows.{TextAccepted, text-tells, text-refusal-fits}
 use Rattle.text_sheets.specs.steps.Lent.{TextRoom}
@@ -111,7 +111,7 @@ module _ (s es t w f o : List ℕ) (room : TextRoom w f o) where
       count-is = ap (λ (c : Search). c .count) answer
 
       flat-long : length (flatFound (occurrences ss t)) ≡ 2 * r .count
-      flat-long = rw count-is (two-length (occurrence 0 0) (λ g. g .end) (λ g. g .which) (occurrences ss t))
+      flat-long = rw count-is (found-length (occurrences ss t))
 
       found-here : take (2 * r .count) f′ ≡ flatFound (occurrences ss t)
       found-here = rw stored (take-at (flatFound (occurrences ss t)) _ (2 * r .count) flat-long)

@@ -25,7 +25,7 @@ use Rattle.greedy.specs.Composing.{whole, joinsOf, legendOf}
 use Rattle.layout.specs.Layout.{JOINS, PLACES}
 use Rattle.answers.specs.declared.Composed.{Composed}
 use Rattle.answers.specs.WorkArea.{workRow}
-use Rattle.answers.specs.Composing.{composeFault, composedOf, outcomeOf, refusedBy, flatJoins, flatPlaces}
+use Rattle.answers.specs.Composing.{composeFault, composedOf, outcomeOf, refusedBy, flatJoins, placeCells, flatPlaces}
 use Rattle.composing.specs.steps.Composing.{Staged}
 use Rattle.sheets.specs.Sheets.{detailWidth, refusedLine, refusedSize, composeLines, composeSheetOf}
 use Rattle.sheet_lines.specs.steps.Lines.{Printed, ComposeAsks}
@@ -153,10 +153,10 @@ module _ (s es w l o : List ℕ) (room : TrayRoom w l o) where
           let e : JOINS + 3 * r .joins - JOINS ≡ 3 * r .joins = omega arith in
           rw e (st .joins-are z)
 
-      places-here : take (PLACES + 2 * r .slips - PLACES) (drop PLACES w′) ≡ flatPlaces (whole ss)
+      places-here : take (PLACES + placeCells * r .slips - PLACES) (drop PLACES w′) ≡ flatPlaces (whole ss)
       unfolding table
       places-here =
-          let e : PLACES + 2 * r .slips - PLACES ≡ 2 * r .slips = omega arith in
+          let e : PLACES + placeCells * r .slips - PLACES ≡ placeCells * r .slips = omega arith in
           rw e (st .places-are z)
 
       legend-here : take (r .legend) l′ ≡ legendOf (whole ss)
@@ -166,13 +166,13 @@ module _ (s es w l o : List ℕ) (room : TrayRoom w l o) where
       legend-count = rw legend-here (ap (λ (c : Composed). c .legend) answer)
 
       pub lines-can : ComposeAsks r es (take (JOINS + 3 * r .joins - JOINS) (drop JOINS w′))
-          (take (PLACES + 2 * r .slips - PLACES) (drop PLACES w′)) (take (r .legend) l′) (length o)
+          (take (PLACES + placeCells * r .slips - PLACES) (drop PLACES w′)) (take (r .legend) l′) (length o)
       lines-can = rw (joins-here, places-here, legend-here, answer) (compose-asks s es tray (length o) (room .sheet))
 
       pub tray-printed : (o′ : List ℕ) (k : ℕ) →
-          Printed (composeLines r es (take (JOINS + 3 * r .joins - JOINS) (drop JOINS w′)) (take (PLACES + 2 * r .slips - PLACES) (drop PLACES w′))
+          Printed (composeLines r es (take (JOINS + 3 * r .joins - JOINS) (drop JOINS w′)) (take (PLACES + placeCells * r .slips - PLACES) (drop PLACES w′))
           (take (r .legend) l′)) o o′ k → Printed (traySheet s es) o o′ k
       tray-printed o′ k p =
           printed-is (composeLines r es (take (JOINS + 3 * r .joins - JOINS) (drop JOINS w′))
-          (take (PLACES + 2 * r .slips - PLACES) (drop PLACES w′)) (take (r .legend) l′)) (traySheet s es) o o′ k
+          (take (PLACES + placeCells * r .slips - PLACES) (drop PLACES w′)) (take (r .legend) l′)) (traySheet s es) o o′ k
           (rw (joins-here, places-here, legend-here, answer) (compose-lines-are s es tray) ∙ sym (sheet-silent s es tray)) p

@@ -2,6 +2,7 @@
 ghost use Rattle.sheet_lines.specs.steps.Lines.{Printed};
 ghost use Rattle.sheets.specs.Programs.{traySheet};
 ghost use Rattle.tray_sheets.specs.steps.Lent.{TrayRoom};
+use answers::PLACE_CELLS;
 use layout::JOINS;
 use layout::PLACES;
 
@@ -24,7 +25,7 @@ pub fn tray_sheet(
         return sheet_lines::refused_line(c.number, c.detail, out);
     }
     let joins = 3 * c.joins as usize;
-    let places = 2 * c.slips as usize;
+    let places = PLACE_CELLS * c.slips as usize;
     let text = c.legend as usize;
     sheet_lines::compose_lines(
         c,

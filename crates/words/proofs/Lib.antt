@@ -13,3 +13,4 @@ pub mod OverlapLoop
 pub mod Picks
 pub mod Buffers
 pub mod Runs
+pub mod FlatLists

@@ -21,7 +21,7 @@ use Rattle.chains.specs.Pieces.{PiecesBehind}
 use Rattle.placing.specs.Places.{placedBy, asideBy, PlacesAsk}
 use Rattle.placing.proofs.PlacesAre.{placed-length, aside-length}
 use Rattle.layout.specs.Layout.{KEPT, PLACES}
-use Rattle.answers.specs.Composing.{flatPlaces}
+use Rattle.answers.specs.Composing.{placeCells, flatPlaces}
 use Rattle.writing.specs.steps.Writing.{piecesHere, StageAsks, PiecesStaged, PlacingAsks, PlacesWritten}
 use Rattle.writing.proofs.PiecesFit.{pieces-once, pieces-which, pieces-places}
 use Rattle.writing.proofs.PlacesFlat.{places-flat}
@@ -45,7 +45,7 @@ module _ (w : List ℕ) (k j : ℕ) (left right overs : List ℕ) where
 
 -- the part `&mut work[PLACES..PLACES + 400]`, lent and come back
 abbrev size : ℕ
-size = 2 * maxSlips
+size = placeCells * maxSlips
 
 abbrev mine : List ℕ → List ℕ
 mine w = take (PLACES + size - PLACES) (drop PLACES w)
@@ -63,7 +63,7 @@ module _ (s es w t xs : List ℕ) (k : ℕ) (a : PlacingAsks s es w t xs k) (w�
   abbrev ss : List (List ℕ)
   ss = slipsOf s es
 
-  few : 2 * length es ≤ size
+  few : placeCells * length es ≤ size
   few = omega (arith, accepted-tells s es (a .tray) .few)
 
   long : length w₁ ≡ length w
@@ -94,7 +94,7 @@ module _ (s es w t xs : List ℕ) (k : ℕ) (a : PlacingAsks s es w t xs k) (w�
     again : mine (back w₁ p₁) ≡ p₁
     again = mine-is (back w₁ p₁) ∙ first .cells
 
-    pub aside-asks : (trayFault s es .number ≡ 0) × (length t < 65535) × (2 * length es ≤ length (mine (back w₁ p₁)))
+    pub aside-asks : (trayFault s es .number ≡ 0) × (length t < 65535) × (placeCells * length es ≤ length (mine (back w₁ p₁)))
     aside-asks = (
       a .tray,
       omega (arith, ap length (a .legend-is), legend-small s es (a .tray)),
@@ -114,18 +114,18 @@ module _ (s es w t xs : List ℕ) (k : ℕ) (a : PlacingAsks s es w t xs k) (w�
       pub places-same : length (back (back w₁ p₁) p₂) ≡ length w
       places-same = second .only .same ∙ first .only .same ∙ long
 
-      all-flat : take (2 * length ss) p₂ ≡ flatPlaces (whole ss)
+      all-flat : take (placeCells * length ss) p₂ ≡ flatPlaces (whole ss)
       all-flat =
           rw second-is
           (places-flat ss (replicate size 0) room zeros (pieces-once s es (a .tray)) (pieces-which s es (a .tray))
           (placed-length ss (piecesFor counted ss (numbers ss)) (replicate size 0) 1)
           (rw (← second-is) (omega (arith, second-length, few, slips-count s es))))
         where
-          room : 2 * length ss ≤ length {A = ℕ} (replicate size 0)
+          room : placeCells * length ss ≤ length {A = ℕ} (replicate size 0)
           room = rw (length-replicate {A = ℕ} size 0) (omega (arith, few, slips-count s es))
 
-          zeros : (i : ℕ) → i < length ss → getD {A = ℕ} (replicate size 0) (2 * i + 1) 0 ≡ 0
-          zeros i h = getD-replicate size (2 * i + 1) 0 0 (omega (arith, few, slips-count s es))
+          zeros : (i : ℕ) → i < length ss → getD {A = ℕ} (replicate size 0) (placeCells * i + 1) 0 ≡ 0
+          zeros i h = getD-replicate size (placeCells * i + 1) 0 0 (omega (arith, few, slips-count s es))
 
       pub places-given : PlacesWritten s es w (back (back w₁ p₁) p₂)
       places-given =
@@ -139,6 +139,6 @@ module _ (s es w t xs : List ℕ) (k : ℕ) (a : PlacingAsks s es w t xs k) (w�
                       ∙ f .only .kept p (λ q. absurd (omega (arith, q .from)));
                 };
             places-are =
-                sym (table-take (back (back w₁ p₁) p₂) PLACES (2 * length es) size few)
+                sym (table-take (back (back w₁ p₁) p₂) PLACES (placeCells * length es) size few)
                 ∙ rw (second .cells, ← (slips-count s es)) all-flat;
           }

@@ -1,7 +1,11 @@
 // What composing writes: the legend into its buffer, the places into the work area.
 ghost use Rattle.writing.specs.steps.Writing.{StageAsks, PiecesStaged, PlacingAsks, PlacesWritten, WritingAsks, Written};
+use answers::PLACE_CELLS;
 use layout::KEPT;
 use layout::PLACES;
+
+// The places of 200 slips have so many cells.
+const CELLS: usize = 200 * PLACE_CELLS;
 
 // The pieces of the legend, slip and overlap of each.
 pub fn pieces_of(
@@ -40,9 +44,9 @@ fn write_places(
     requires { ⌜ PlacingAsks (now letters) (now ends) (now work) (now legend) (now pieces) k ⌝ }
     ensures { λ _. ⌜ PlacesWritten (now (letters .entry)) (now (ends .entry)) (now (work .entry)) (now (work .exit)) ⌝ }
 {
-    tables::clear(work, PLACES, 400);
-    placing::kept_places(letters, ends, pieces, k, &mut work[PLACES..PLACES + 400]);
-    placing::aside_places(letters, ends, legend, &mut work[PLACES..PLACES + 400]);
+    tables::clear(work, PLACES, CELLS);
+    placing::kept_places(letters, ends, pieces, k, &mut work[PLACES..PLACES + CELLS]);
+    placing::aside_places(letters, ends, legend, &mut work[PLACES..PLACES + CELLS]);
 }
 
 // The legend, then the places.

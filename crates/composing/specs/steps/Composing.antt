@@ -10,11 +10,11 @@ use Rattle.greedy.specs.Composing.{whole, joinsOf, legendOf}
 use Rattle.layout.specs.Layout.{JOINS, PLACES}
 use Rattle.answers.specs.WorkArea.{WorkKept}
 use Rattle.answers.specs.declared.Composed.{Composed}
-use Rattle.answers.specs.Composing.{beforeC, composeFault, composedOf, flatJoins, flatPlaces}
+use Rattle.answers.specs.Composing.{beforeC, composeFault, composedOf, flatJoins, placeCells, flatPlaces}
 
 pub record Staged (s es w w′ l l′ : List ℕ) (j p : ℕ) (r : Composed) : Type 0 where
   pub answer-is : r ≡ composedOf s es (length w) (length l) j p
   pub legend-is : l′ ≡ written (composeFault s es (length w) (length l) j p) (legendOf (whole (slipsOf s es))) l
   pub work-is : WorkKept (beforeC s es (length w)) w w′
   pub joins-are : r .number ≡ 0 → table w′ JOINS (3 * r .joins) ≡ flatJoins (joinsOf (whole (slipsOf s es)))
-  pub places-are : r .number ≡ 0 → table w′ PLACES (2 * r .slips) ≡ flatPlaces (whole (slipsOf s es))
+  pub places-are : r .number ≡ 0 → table w′ PLACES (placeCells * r .slips) ≡ flatPlaces (whole (slipsOf s es))

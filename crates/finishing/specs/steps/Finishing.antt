@@ -13,7 +13,7 @@ use Rattle.greedy.specs.Composing.{whole, joinsOf, legendOf}
 use Rattle.layout.specs.Layout.{JOINS, PLACES}
 use Rattle.layout.specs.Staging.{joinsIn, Neighbours}
 use Rattle.answers.specs.declared.Composed.{Composed}
-use Rattle.answers.specs.Composing.{composeFault, composedOf, flatJoins, flatPlaces}
+use Rattle.answers.specs.Composing.{composeFault, composedOf, flatJoins, placeCells, flatPlaces}
 use Rattle.counting.specs.declared.LetterCounts.{LetterCounts}
 use Rattle.counting.specs.steps.Counting.{AfterWalk}
 
@@ -39,4 +39,4 @@ pub record Finished (s es w w′ l l′ : List ℕ) (j p : ℕ) (r : Composed) :
   pub legend-is : l′ ≡ written (composeFault s es (length w) (length l) j p) (legendOf (whole (slipsOf s es))) l
   pub same : length w′ ≡ length w
   pub joins-are : r .number ≡ 0 → table w′ JOINS (3 * r .joins) ≡ flatJoins (joinsOf (whole (slipsOf s es)))
-  pub places-are : r .number ≡ 0 → table w′ PLACES (2 * r .slips) ≡ flatPlaces (whole (slipsOf s es))
+  pub places-are : r .number ≡ 0 → table w′ PLACES (placeCells * r .slips) ≡ flatPlaces (whole (slipsOf s es))

@@ -9,13 +9,14 @@ use lib.ListN.{length}
 use Rattle.trays.specs.Slips.{slipsOf, slip}
 use Rattle.trays.specs.Faults.{trayFault}
 use Rattle.greedy.specs.Legends.{Piece, added}
+use Rattle.answers.specs.Composing.{placeCells}
 use Rattle.chains.specs.Pieces.{pieceIn}
 use Rattle.placing.specs.Places.{putPlace}
 
 pub record PutPlaceAsks (s es ps : List ℕ) (q here : ℕ) (xs : List ℕ) : Type 0 where
   pub tray : trayFault s es .number ≡ 0
   pub pairs : 2 * q + 1 < length ps
-  pub places : 2 * length es ≤ length xs
+  pub places : placeCells * length es ≤ length xs
   pub some : 1 ≤ pieceIn ps q .number
   pub most : pieceIn ps q .number ≤ length es
   pub reach : pieceIn ps q .overlap ≤ here
@@ -29,5 +30,5 @@ pub record PlacedOne (ss : List (List ℕ)) (p : Piece) (here : ℕ) (xs xs′ :
 pub record AsidePlaceAsks (s es t : List ℕ) (i : ℕ) (xs : List ℕ) : Type 0 where
   pub tray : trayFault s es .number ≡ 0
   pub slips : i < length es
-  pub places : 2 * i + 1 < length xs
+  pub places : placeCells * i + 1 < length xs
   pub small : length t < 65535

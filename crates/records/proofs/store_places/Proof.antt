@@ -5,6 +5,7 @@ use lib.ListN.{length}
 use Rattle.record_loops.proofs.Loop.{stored-by}
 use Rattle.layout.specs.Layout.{PLACES}
 use Rattle.records.specs.steps.Made.{placeAt}
+use Rattle.answers.specs.Composing.{placeCells}
 use Rattle.answers.proofs.Place as T
 use Rattle.answers.proofs.Place.Laws as T′
 use Rattle.records.proofs.place_at.Symbol as place-at
@@ -16,6 +17,6 @@ use Rattle.records.proofs.store_places.Statement.{statement}
 pub store-places-spec : {M : Type 1} → statement M
 unfolding code.routine
 store-places-spec 𝓤 H 𝓜 𝓖 𝓡 =
-    stored-by T.the-type T′.the-laws place-at.name (λ w i. (2 * (i + 1) ≤ length w - PLACES) × (i + 1 < 65536))
-    (λ w n. (2 * n ≤ length w - PLACES) × (n < 65536)) placeAt (λ w i n l e. omega arith)
+    stored-by T.the-type T′.the-laws place-at.name (λ w i. (placeCells * (i + 1) ≤ length w - PLACES) × (i + 1 < 65536))
+    (λ w n. (placeCells * n ≤ length w - PLACES) × (n < 65536)) placeAt (λ w i n l e. omega arith)
     𝓤 H 𝓜 𝓖 𝓡 code.env place-at.routine code.calls-records·place-at (place-at-thm.met 𝓤 H 𝓜 𝓖 𝓡) name (code.unfolded 𝓤 H 𝓜 𝓡)

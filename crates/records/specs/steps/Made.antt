@@ -1,11 +1,12 @@
 -- Joins and places as records, from where composing stages them in the work area w (layout's tables JOINS and PLACES).
 --   joinAt w i  == join i: left slip, right slip, overlap are three numbers from 3 * i on
---   placeAt w i == the place of slip i + 1: its place, and 1 if it was kept, are two numbers from 2 * i on
+--   placeAt w i == the place of slip i + 1: its place, and 1 if it was kept, are numbers from placeCells * i on
 use mathlib.Core.List.{List}
 use Prim.Native.Nat.{ℕ, _+_, _*_}
 use lib.Dec.{eqb}
 use Rattle.layout.specs.Layout.{JOINS, PLACES}
 use Rattle.layout.specs.Tables.{cell}
+use Rattle.answers.specs.Composing.{placeCells}
 use Rattle.answers.specs.declared.Join.{Join}
 use Rattle.answers.specs.declared.Place.{Place}
 
@@ -13,4 +14,4 @@ abbrev pub joinAt : List ℕ → ℕ → Join
 joinAt w i = record { left = cell w JOINS (3 * i); right = cell w JOINS (3 * i + 1); overlap = cell w JOINS (3 * i + 2) }
 
 abbrev pub placeAt : List ℕ → ℕ → Place
-placeAt w i = record { slip = i + 1; place = cell w PLACES (2 * i); kept = eqb (cell w PLACES (2 * i + 1)) 1 }
+placeAt w i = record { slip = i + 1; place = cell w PLACES (placeCells * i); kept = eqb (cell w PLACES (placeCells * i + 1)) 1 }

@@ -8,6 +8,7 @@ use Prim.Native.Nat.{ℕ, suc, _+_, _*_, _^_, _≤_, _<_}
 use lib.ListN.{length, getD}
 use Rattle.words.specs.Lists.{over}
 use Rattle.trays.specs.Slips.{endOf}
+use Rattle.answers.specs.Composing.{placeCells}
 use Rattle.answers.specs.declared.Composed.{Composed}
 use Rattle.sheets.specs.Sheets.{placeWidth, countWidth, traySize, slipSize, joinSize, findSize, foundSize}
 
@@ -28,8 +29,8 @@ pub record SlipsFit (es ps : List ℕ) : Type 0 where
   pub few : length es < 10 ^ 4
   pub rise : (i : ℕ) → i < length es → endOf es i ≤ endOf es (suc i)
   pub small : (i : ℕ) → i < length es → endOf es (suc i) < 10 ^ 4
-  pub placed : (i : ℕ) → i < length es → getD ps (2 * i) 0 < 10 ^ 5
-  pub places : 2 * length es ≤ length ps
+  pub placed : (i : ℕ) → i < length es → getD ps (placeCells * i) 0 < 10 ^ 5
+  pub places : placeCells * length es ≤ length ps
 
 pub record JoinsFit (js : List ℕ) (n : ℕ) : Type 0 where
   pub small : (i : ℕ) → i < 3 * n → getD js i 0 < 10 ^ 4

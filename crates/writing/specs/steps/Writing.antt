@@ -20,7 +20,7 @@ use Rattle.chains.specs.Pieces.{piecesIn}
 use Rattle.chains.specs.Chains.{piecesBy, PiecesAsk}
 use Rattle.layout.specs.Layout.{KEPT, PLACES}
 use Rattle.layout.specs.Numbered.{SameBelow}
-use Rattle.answers.specs.Composing.{flatPlaces}
+use Rattle.answers.specs.Composing.{placeCells, flatPlaces}
 
 -- the pieces by the lists of neighbours, and what staging them asks and gives
 abbrev pub piecesHere : List ℕ → ℕ → ℕ → List ℕ → List ℕ → List ℕ → List Piece
@@ -55,7 +55,7 @@ pub record PlacingAsks (s es w t : List ℕ) (xs : List ℕ) (k : ℕ) : Type 0 
 
 pub record PlacesWritten (s es w w′ : List ℕ) : Type 0 where
   pub below : SameBelow PLACES w w′
-  pub places-are : table w′ PLACES (2 * length es) ≡ flatPlaces (whole (slipsOf s es))
+  pub places-are : table w′ PLACES (placeCells * length es) ≡ flatPlaces (whole (slipsOf s es))
 
 pub record Written (s es w w′ l l′ : List ℕ) : Type 0 where
   pub legend-is : l′ ≡ over (legendOf (whole (slipsOf s es))) l

@@ -1,0 +1,41 @@
+-- Joins, places and occurrences as numbers: how many, and which.
+--   ..-length == so many numbers for each
+--   ..-at     == number j of the one at index i; `at` is its index in the list of numbers
+use mathlib.Core.Path.{_≡_, refl, _∙_, ap}
+use mathlib.Core.List.{List}
+use Prim.Native.Nat.{ℕ, suc, _+_, _*_, _<_}
+use native.Mathlib.Numerals.{one-add}
+use lib.ListN.{length, getD}
+use Rattle.words.proofs.Runs.{length-upFrom, upFrom-at}
+use Rattle.words.proofs.FlatLists.{flat-length, flat-at}
+use Rattle.trays.specs.Slips.{numbers}
+use Rattle.greedy.specs.Joins.{Join, join}
+use Rattle.greedy.specs.Composing.{whole}
+use Rattle.matching.specs.Occurrences.{Occurrence, occurrence}
+use Rattle.answers.specs.Composing.{joinNumbers, flatJoins, placeCells, placeNumbers, flatPlaces}
+use Rattle.answers.specs.Finding.{foundNumbers, flatFound}
+
+pub joins-length : (js : List Join) → length (flatJoins js) ≡ 3 * length js
+joins-length = flat-length 3 joinNumbers (λ j. refl)
+
+pub joins-at : (js : List Join) (i j at : ℕ) → i < length js → j < 3 → at ≡ 3 * i + j →
+    getD (flatJoins js) at 0 ≡ getD (joinNumbers (getD js i (join 0 0 0))) j 0
+joins-at = flat-at 3 joinNumbers (λ j. refl) (join 0 0 0)
+
+pub found-length : (fs : List Occurrence) → length (flatFound fs) ≡ 2 * length fs
+found-length = flat-length 2 foundNumbers (λ f. refl)
+
+pub found-at : (fs : List Occurrence) (i j at : ℕ) → i < length fs → j < 2 → at ≡ 2 * i + j →
+    getD (flatFound fs) at 0 ≡ getD (foundNumbers (getD fs i (occurrence 0 0))) j 0
+found-at = flat-at 2 foundNumbers (λ f. refl) (occurrence 0 0)
+
+-- of places the index counts slips: slip i + 1
+module _ (ss : List (List ℕ)) where
+  pub places-length : length (flatPlaces (whole ss)) ≡ placeCells * length ss
+  places-length = flat-length placeCells (placeNumbers (whole ss)) (λ i. refl) (numbers ss) ∙ rw (length-upFrom 1 (length ss))
+
+  pub places-at : (i j at : ℕ) → i < length ss → j < placeCells → at ≡ placeCells * i + j →
+      getD (flatPlaces (whole ss)) at 0 ≡ getD (placeNumbers (whole ss) (suc i)) j 0
+  places-at i j at h l e =
+      flat-at placeCells (placeNumbers (whole ss)) (λ n. refl) 0 (numbers ss) i j at (rw (length-upFrom 1 (length ss)) h) l e
+      ∙ ap (λ (n : ℕ). getD (placeNumbers (whole ss) n) j 0) (upFrom-at 1 (length ss) i h ∙ one-add i)
