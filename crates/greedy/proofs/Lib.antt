@@ -18,3 +18,4 @@ pub mod Demand3
 pub mod Linked
 pub mod Threads
 pub mod KeptSizes
+pub mod Placed

@@ -1,5 +1,4 @@
 -- Laws of the numbering, and the proofs of its functions.
-pub mod Spans
 pub mod Ranked
 pub mod LevelParts
 pub mod Turns

@@ -26,7 +26,7 @@ use Rattle.matching.proofs.LevelNodes.{Sorted, levels-numbered, members-sorted}
 use Rattle.order.specs.Order.{precedes}
 use Rattle.order.proofs.Precedes.{precedes-irr}
 use Rattle.layout.specs.Tables.{patterns}
-use Rattle.numbering.proofs.Spans.{Spanned, letters-most}
+use Rattle.trays.proofs.Spans.{Spanned, letters-most}
 
 pub record Ranked (ss : List (List ℕ)) (es M O : List ℕ) : Type 0 where
   pub spans : Spanned ss es

@@ -22,7 +22,7 @@ use Rattle.layout.specs.Layout.{MEMBERS, ORDER, COMMON, LEVEL, AT, OWN}
 use Rattle.layout.specs.Tables.{cell, members, patterns}
 use Rattle.numbering.specs.Numbering.{Sorted, NodeCells, NodesFilled}
 use Rattle.numbering.specs.steps.Stages.{Counted, Stage, AtStage, Letterable, Lettered}
-use Rattle.numbering.proofs.Spans.{accepted-spanned}
+use Rattle.trays.proofs.Spans.{accepted-spanned}
 use Rattle.numbering.proofs.Ranked.{Ranked, rank-real}
 use Rattle.numbering.proofs.Turns.{commons-at}
 use Rattle.numbering.proofs.StageTurns.{numbered-few, p-fits, k-fits, counted-start, counted-short, counted-letter, counted-up}

@@ -22,7 +22,7 @@ use Rattle.layout.specs.Layout.{COMMON, LEVEL, AT, OWN, KID}
 use Rattle.layout.specs.Tables.{cell, patterns}
 use Rattle.numbering.specs.Numbering.{NodeCells}
 use Rattle.numbering.specs.steps.Stages.{numbered, Counted, Lettered}
-use Rattle.numbering.proofs.Spans.{span-place}
+use Rattle.trays.proofs.Spans.{span-place}
 use Rattle.numbering.proofs.Ranked.{Ranked, rank-real, nodes-few}
 use Rattle.numbering.proofs.LevelParts.{levels-grow, nodeAt-fits}
 use Rattle.numbering.proofs.Turns.{count-short, count-old, count-new, at-kept, at-short, at-next, own-kept, own-next}

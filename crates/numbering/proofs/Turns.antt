@@ -21,7 +21,7 @@ use Rattle.matching.proofs.Numbering.{levelsUp, nodeAt, nodeAt-is}
 use Rattle.order.specs.Order.{commons}
 use Rattle.layout.specs.Tables.{patterns, Owned}
 use Rattle.numbering.specs.steps.Stages.{AtDone, OwnDone, numbered}
-use Rattle.numbering.proofs.Spans.{span-place, span-one}
+use Rattle.trays.proofs.Spans.{span-place, span-one}
 use Rattle.numbering.proofs.Ranked.{Ranked, rank-real, rank-one}
 
 pub pattern-at : (ss : List (List ℕ)) (O : List ℕ) (r : ℕ) → getD (patterns ss O) r [] ≡ slip ss (getD O r 0)

@@ -21,7 +21,7 @@ use Rattle.trays.specs.Slips.{slipsOf, slip, numbers}
 use Rattle.trays.specs.Aside.{counted}
 use Rattle.trays.specs.Faults.{trayFault}
 use Rattle.trays.proofs.Accepted.{accepted-tells, slips-count}
-use Rattle.numbering.proofs.Spans.{accepted-spanned}
+use Rattle.trays.proofs.Spans.{accepted-spanned}
 use Rattle.greedy.specs.Joins.{Join}
 use Rattle.greedy.specs.Composing.{whole, joinsOf}
 use Rattle.greedy.proofs.Chains.{Chain, Arc, chains-fewer}
@@ -33,7 +33,7 @@ use Rattle.matching.proofs.Finds.{in-ending}
 use Rattle.outputs.proofs.Outs.{ending-most}
 use Rattle.greedy.proofs.KeptSizes.{TraySlips, traySlips, joins-rep, kept-real, kept-few, kept-small, legend-small}
 use Rattle.sheet_sizes.specs.Fits.{JoinFits, ComposeFits, OccurrenceFits, FindFits}
-use Rattle.sheet_sizes.proofs.Placed.{place-most}
+use Rattle.greedy.proofs.Placed.{place-most}
 
 fewer : (Cs : List Chain) (n : ℕ) → length Cs + sum (λ C. length (C .rest)) Cs ≤ suc n → sum (λ C. length (C .rest)) Cs ≤ n
 fewer [] n h = omega arith

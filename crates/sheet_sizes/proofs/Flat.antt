@@ -15,7 +15,7 @@ use Rattle.trays.specs.Slips.{slipsOf, slip, numbers, startOf, endOf}
 use Rattle.trays.specs.Aside.{isAside}
 use Rattle.trays.specs.Faults.{trayFault}
 use Rattle.trays.proofs.Accepted.{slips-count}
-use Rattle.numbering.proofs.Spans.{accepted-spanned}
+use Rattle.trays.proofs.Spans.{accepted-spanned}
 use Rattle.greedy.specs.Joins.{Join, join}
 use Rattle.greedy.specs.Composing.{whole, joinsOf, legendOf, placeOf}
 use Rattle.matching.specs.Moves.{moves}

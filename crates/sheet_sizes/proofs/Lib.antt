@@ -1,6 +1,5 @@
 -- Laws.
 pub mod Fitting
-pub mod Placed
 pub mod RefusalsFit
 pub mod Sizes
 pub mod Printing

@@ -17,7 +17,7 @@ use Rattle.trays.specs.Limits.{maxText}
 use Rattle.trays.specs.Slips.{slipsOf}
 use Rattle.trays.specs.Faults.{trayFault}
 use Rattle.trays.proofs.Accepted.{slips-count, span-rises}
-use Rattle.numbering.proofs.Spans.{accepted-spanned}
+use Rattle.trays.proofs.Spans.{accepted-spanned}
 use Rattle.greedy.specs.Composing.{whole, joinsOf, legendOf}
 use Rattle.matching.specs.Moves.{moves}
 use Rattle.matching.specs.Occurrences.{occurrences}

@@ -1,9 +1,10 @@
 -- Every slip stands in the legend, and its place is within it.
 --   aside-held    == a slip stands in a kept slip
 --   legend-every  == the legend holds every slip
+--   place-fits    == at its place the whole slip is within the legend, and so at every place before it
 --   place-most    == a place is at most the legend's length
 -- A slip set aside stands in a longer one, or equals a lower one; going on from there the slips grow longer or their numbers fall, so a
--- kept slip is reached. The legend holds the kept slips, and the lowest place of what stands in a text is within it.
+-- kept slip is reached. The legend holds the kept slips, and what stands in a text fits at its lowest place.
 use mathlib.Core.Path.{_≡_, ap, subst}
 use mathlib.Core.Bool.{true, _&&_}
 use mathlib.Core.Logic.{inl, inr}
@@ -25,18 +26,18 @@ use Rattle.trays.specs.Aside.{asideFor, isAside, counted}
 use Rattle.trays.specs.Faults.{trayFault}
 use Rattle.trays.proofs.Accepted.{accepted-tells, slips-count, span-rises}
 use Rattle.trays.proofs.Kept.{kept-in}
-use Rattle.numbering.proofs.Spans.{accepted-spanned}
+use Rattle.trays.proofs.Spans.{accepted-spanned}
 use Rattle.greedy.specs.Legends.{piecesFor, lowest, placeIn, placeFor}
 use Rattle.greedy.specs.Composing.{whole, legendOf, placeOf}
 use Rattle.greedy.proofs.Letters.{laid-at}
 use Rattle.greedy.proofs.KeptSizes.{TraySlips, traySlips, joins-rep}
 
-lowest-most : (p : ℕ) (x t : List ℕ) → standsIn x t ≡ true → 1 ≤ length x → lowest p x t < p + length t
-lowest-most p x [] h n = absurd (omega (arith, begins-length x [] h))
-lowest-most p x (y ∷ ys) h n =
+lowest-fits : (p : ℕ) (x t : List ℕ) → standsIn x t ≡ true → lowest p x t + length x ≤ p + length t
+lowest-fits p x [] h = omega (arith, begins-length x [] h)
+lowest-fits p x (y ∷ ys) h =
     by-test (begins x (y ∷ ys))
-    (λ e. rw (e, lowest) (omega arith))
-    (λ e. rw (e, lowest) (omega (arith, lowest-most (suc p) x ys (rw e at h) n)))
+    (λ e. rw (e, lowest) (omega (arith, begins-length x (y ∷ ys) e)))
+    (λ e. rw (e, lowest) (omega (arith, lowest-fits (suc p) x ys (rw e at h))))
 
 module _ (s es : List ℕ) (acc : trayFault s es .number ≡ 0) where
   open TraySlips (traySlips s es) using (ss, K)
@@ -103,11 +104,14 @@ module _ (s es : List ℕ) (acc : trayFault s es .number ≡ 0) where
       stands-trans (slip ss i) (slip ss k) (legendOf (whole ss)) t
       (stands-drop (placeIn ss k 1 (piecesFor counted ss (numbers ss)) - 1) (slip ss k) (legendOf (whole ss)) (laid k m .1))
 
-  pub place-most : (i : ℕ) → 1 ≤ i → i ≤ length es → placeOf (whole ss) i ≤ length (legendOf (whole ss))
-  place-most i p l =
+  pub place-fits : (i : ℕ) → 1 ≤ i → i ≤ length es → placeOf (whole ss) i + length (slip ss i) ≤ suc (length (legendOf (whole ss)))
+  place-fits i p l =
       by-test (isAside ss (numbers ss) i)
-      (λ e. rw (e, placeFor) (omega (arith, lowest-most 1 (slip ss i) (legendOf (whole ss)) (legend-every i p l) (some i p l))))
+      (λ e. rw (e, placeFor) (omega (arith, lowest-fits 1 (slip ss i) (legendOf (whole ss)) (legend-every i p l))))
       (λ e.
       let r = laid i (kept-in ss (numbers ss) (upFrom-in 1 (length ss) i p (omega (arith, slips-count s es))) e) in
       let k = placeIn ss i 1 (piecesFor counted ss (numbers ss)) - 1 in
       rw (e, placeFor) (omega (arith, r .0, some i p l, begins-length (slip ss i) (drop k (legendOf (whole ss))) (r .1), length-drop k (legendOf (whole ss)))))
+
+  pub place-most : (i : ℕ) → 1 ≤ i → i ≤ length es → placeOf (whole ss) i ≤ length (legendOf (whole ss))
+  place-most i p l = omega (arith, place-fits i p l, some i p l)
