@@ -1,8 +1,9 @@
 -- The demands on the definitions, proved.
 use Rattle.greedy.proofs.Demand3.{demand-3}
 use Rattle.greedy.proofs.StopFree.{stop-free}
+use Rattle.greedy.proofs.Placed.{all-tried}
 use Rattle.matching.proofs.States.{few-moves}
 use Rattle.claims.specs.Claims.{Demands}
 
 pub demands : Demands
-demands = record { third = demand-3; stop-free = stop-free; few-moves = few-moves }
+demands = record { third = demand-3; stop-free = stop-free; all-tried = all-tried; few-moves = few-moves }

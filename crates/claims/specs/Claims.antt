@@ -1,5 +1,5 @@
 -- The demands that speak of the definitions alone, for every accepted tray.
-use Rattle.greedy.specs.Claims.{Demand-3, Stop-free}
+use Rattle.greedy.specs.Claims.{Demand-3, Stop-free, All-tried}
 use Rattle.matching.specs.Moves.{Few-moves}
 
 pub record Demands : Type 0 where
@@ -7,5 +7,7 @@ pub record Demands : Type 0 where
   pub third : Demand-3
   -- there joins, legend and places are as if all overlaps counted
   pub stop-free : Stop-free
+  -- no place is tried at which a slip would not fit, and the count of letters compared fits 16 bits
+  pub all-tried : All-tried
   -- moves are at most 2 × the letters
   pub few-moves : Few-moves

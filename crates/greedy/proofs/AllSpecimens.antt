@@ -5,19 +5,21 @@
 --   Specimen       == a tray, written as words, and the outcome that the rules gives
 --   starred        == the trays that the rules marks for proof
 --   telling        == trays at which a misread rule has another outcome
+--   compared       == trays, and the letters compared for each slip; texts, and those compared to find a word in them
 --   tight          == a tray and a text that holds it, at which the bound of demand 3 is met with equality
 --   stops-needed   == a tray and a text at which the bound fails, since a slip begins with a stop
 use mathlib.Core.Path.{_≡_, refl}
 use mathlib.Core.Bool.{true, false}
 use mathlib.Core.List.{List, [], _∷_, map}
-use Prim.Native.Nat.{ℕ}
+use Prim.Native.Nat.{ℕ, _+_}
 use Prim.Native.String.{String}
 use Rattle.words.specs.Words.{nonEmpty}
 use Rattle.words.specs.Quoted.{word}
 use Rattle.trays.specs.Slips.{numbers}
 use Rattle.trays.specs.Aside.{kept}
 use Rattle.greedy.specs.Joins.{Join, join, plainFor, saved}
-use Rattle.greedy.specs.Composing.{whole, joinsOf, walkOf, legendOf, placeOf, keptLetters}
+use Rattle.greedy.specs.Legends.{tried}
+use Rattle.greedy.specs.Composing.{whole, joinsOf, walkOf, legendOf, placeOf, comparedOf, keptLetters}
 use Rattle.greedy.specs.Claims.{holdsAll, stopFree, bound}
 
 pub record Outcome : Type 0 where
@@ -125,6 +127,25 @@ starred-computed = refl
 pub telling-computed : map computed telling ≡ map (λ s. s .outcome) telling
 unfolding telling
 telling-computed = refl
+
+-- kept slips 0
+abbrev pub comparedIn : List String → List ℕ
+comparedIn ws = let ss = map word ws in map (comparedOf (whole ss)) (numbers ss)
+
+pub compared :
+    -- from the first letter on it would be 9
+    (comparedIn ("AAB" ∷ "AAAAB" ∷ []) ≡ 5 ∷ 0 ∷ [])
+    -- at place 1 the letter that differs is the last, at place 2 both agree
+    × (comparedIn ("AB" ∷ "CD" ∷ "XBCY" ∷ "BC" ∷ []) ≡ 0 ∷ 0 ∷ 0 ∷ 3 ∷ [])
+    × (comparedIn ("AVG" ∷ "AVG" ∷ []) ≡ 0 ∷ 3 ∷ [])
+    × (comparedIn ("AVG" ∷ "CAESAVG" ∷ []) ≡ 7 ∷ 0 ∷ [])
+    × (comparedIn ("IMPCAES" ∷ "AES" ∷ "CAESAVG" ∷ "VGPIVS" ∷ "SIMP" ∷ []) ≡ 0 ∷ 8 ∷ 0 ∷ 0 ∷ 0 ∷ [])
+compared = (refl, refl, refl, refl, refl)
+
+-- in a text that need not hold the word: behind place 1 of BA the word AB would not fit
+pub compared-anywhere :
+    (tried (word "AB") (word "BA") ≡ 1) × (tried (word "ABC") (word "AB") ≡ 0) × (tried (word "CAB") (word "DABCAB") ≡ 3 + 1 + 1 + 3) × (tried [] [] ≡ 0)
+compared-anywhere = (refl, refl, refl, refl)
 
 abbrev pub tightTray : List (List ℕ)
 tightTray = map word ("CA" ∷ "AB" ∷ "ADA" ∷ [])

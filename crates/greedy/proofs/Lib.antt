@@ -18,4 +18,5 @@ pub mod Demand3
 pub mod Linked
 pub mod Threads
 pub mod KeptSizes
+pub mod Tried
 pub mod Placed

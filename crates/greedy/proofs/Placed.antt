@@ -3,6 +3,7 @@
 --   legend-every  == the legend holds every slip
 --   place-fits    == at its place the whole slip is within the legend, and so at every place before it
 --   place-most    == a place is at most the legend's length
+--   all-tried     == so the trial of places reaches none at which a slip would not fit, and its count fits 16 bits
 -- A slip set aside stands in a longer one, or equals a lower one; going on from there the slips grow longer or their numbers fall, so a
 -- kept slip is reached. The legend holds the kept slips, and what stands in a text fits at its lowest place.
 use mathlib.Core.Path.{_≡_, ap, subst}
@@ -20,7 +21,7 @@ use Rattle.words.proofs.Members.{In, any-in, in-upFrom, upFrom-in}
 use Rattle.words.proofs.Sums.{in-held}
 use Rattle.words.proofs.Orders.{same-is}
 use Rattle.words.proofs.Strings.{begins-refl, begins-length, begins-stands, stands-drop, stands-trans}
-use Rattle.trays.specs.Limits.{maxSlips, maxSlip}
+use Rattle.trays.specs.Limits.{maxSlips, maxSlip, maxLetters}
 use Rattle.trays.specs.Slips.{slip, numbers}
 use Rattle.trays.specs.Aside.{asideFor, isAside, counted}
 use Rattle.trays.specs.Faults.{trayFault}
@@ -28,9 +29,11 @@ use Rattle.trays.proofs.Accepted.{accepted-tells, slips-count, span-rises}
 use Rattle.trays.proofs.Kept.{kept-in}
 use Rattle.trays.proofs.Spans.{accepted-spanned}
 use Rattle.greedy.specs.Legends.{piecesFor, lowest, placeIn, placeFor}
-use Rattle.greedy.specs.Composing.{whole, legendOf, placeOf}
+use Rattle.greedy.specs.Composing.{whole, legendOf, placeOf, comparedOf}
+use Rattle.greedy.specs.Claims.{All-tried}
 use Rattle.greedy.proofs.Letters.{laid-at}
-use Rattle.greedy.proofs.KeptSizes.{TraySlips, traySlips, joins-rep}
+use Rattle.greedy.proofs.KeptSizes.{TraySlips, traySlips, joins-rep, legend-small}
+use Rattle.greedy.proofs.Tried.{tried-most}
 
 lowest-fits : (p : ℕ) (x t : List ℕ) → standsIn x t ≡ true → lowest p x t + length x ≤ p + length t
 lowest-fits p x [] h = omega (arith, begins-length x [] h)
@@ -115,3 +118,14 @@ module _ (s es : List ℕ) (acc : trayFault s es .number ≡ 0) where
 
   pub place-most : (i : ℕ) → 1 ≤ i → i ≤ length es → placeOf (whole ss) i ≤ length (legendOf (whole ss))
   place-most i p l = omega (arith, place-fits i p l, some i p l)
+
+  compared-most : (i : ℕ) → 1 ≤ i → i ≤ length es → comparedOf (whole ss) i ≤ maxSlip * maxLetters
+  compared-most i p l =
+      by-test (isAside ss (numbers ss) i)
+      (λ e.
+      rw e
+      (omega (arith, tried-most maxSlip (slip ss i) (legendOf (whole ss)) (accepted-spanned s es acc .short i p l), legend-small s es acc)))
+      (λ e. rw e (omega arith))
+
+pub all-tried : All-tried
+all-tried s es acc i p l = record { fits = place-fits s es acc i p l; small = omega (arith, compared-most s es acc i p l) }

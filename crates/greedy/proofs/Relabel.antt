@@ -26,7 +26,7 @@ use Rattle.trays.specs.Slips.{slip, total}
 use Rattle.trays.specs.Aside.{asideFor, isAside, kept}
 use Rattle.greedy.specs.Joins.{Join, join, rightOf, leftOf, lastFrom, lastOf, free, arc, arcs, firstArc, takeArc, takeArcs, plainFor, saved}
 use Rattle.greedy.specs.Walk.{beginnings, sooner, waiting, behind, visitSlip, visit, walkFrom, walkFor}
-use Rattle.greedy.specs.Legends.{Piece, piece, overlapAfter, chainFrom, chainAt, pieces, added, spelled, piecesFor, legendFor, placeIn, placeFor}
+use Rattle.greedy.specs.Legends.{Piece, piece, overlapAfter, chainFrom, chainAt, pieces, added, spelled, piecesFor, legendFor, placeIn, placeFor, comparedFor}
 
 pub record Renumbers (f : ℕ → ℕ) (ss ss′ : List (List ℕ)) (K : List ℕ) : Type 0 where
   pub none : f 0 ≡ 0
@@ -280,3 +280,6 @@ module _ {f : ℕ → ℕ} {ss ss′ : List (List ℕ)} {M : List ℕ} (h : Renu
         by-test (isAside ss M i) (λ e. rw (isAside-relabel i m, e, placeFor, h .letters i m, legend-relabel))
         (λ e. rw (isAside-relabel i m, e, placeFor, piecesFor-relabel)
         (placeIn-relabel kept-renumbers (plainFor counts ss (kept ss M)) (plain-in counts ss (kept ss M)) i 1))
+
+    pub comparedFor-relabel : (i : ℕ) → In i M → comparedFor counts ss′ (map f M) (f i) ≡ comparedFor counts ss M i
+    comparedFor-relabel i m = rw (isAside-relabel i m, h .letters i m, legend-relabel)

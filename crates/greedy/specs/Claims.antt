@@ -6,10 +6,12 @@
 --   Demand-3         == so for every accepted tray
 --   AllCount c       == joins, legend and places are as if all overlaps counted
 --   Stop-free        == so where no kept slip begins with a stop
+--   Tried c i        == what is claimed of the trial of places for slip i
+--   All-tried        == so for every slip of an accepted tray
 use mathlib.Core.Path.{_≡_}
 use mathlib.Core.Bool.{Bool, true, _&&_, not}
 use mathlib.Core.List.{List, [], _∷_}
-use Prim.Native.Nat.{ℕ, _+_, _*_, _≤_}
+use Prim.Native.Nat.{ℕ, suc, _+_, _*_, _^_, _≤_, _<_}
 use lib.ListN.{length}
 use Rattle.words.specs.Lists.{any}
 use Rattle.words.specs.Words.{begins, standsIn, nonEmpty}
@@ -17,7 +19,7 @@ use Rattle.trays.specs.Slips.{slipsOf, slip, stop}
 use Rattle.trays.specs.Faults.{trayFault}
 use Rattle.greedy.specs.Joins.{saved, plainFor}
 use Rattle.greedy.specs.Legends.{legendFor, placeFor}
-use Rattle.greedy.specs.Composing.{Composing, whole, keptOf, joinsOf, walkOf, legendOf, placeOf, keptLetters}
+use Rattle.greedy.specs.Composing.{Composing, whole, keptOf, joinsOf, walkOf, legendOf, placeOf, comparedOf, keptLetters}
 
 -- Rules: a text holds a slip whose letters stand in it as one stretch. Here: it holds every slip of K.
 abbrev pub holdsAll : List (List ℕ) → List ℕ → List ℕ → Bool
@@ -56,3 +58,12 @@ pub record AllCount (c : Composing) : Type 0 where
 abbrev pub Stop-free : Type 0
 Stop-free =
     (s es : List ℕ) → trayFault s es .number ≡ 0 → let c = whole (slipsOf s es) in stopFree (c .slips) (keptOf c) ≡ true → AllCount c
+
+pub record Tried (c : Composing) (i : ℕ) : Type 0 where
+  -- at its place the slip fits in the legend, and so at every place before it: a place where it would not fit is never reached
+  pub fits : placeOf c i + length (slip (c .slips) i) ≤ suc (length (legendOf c))
+  -- the count of letters compared fits 16 bits
+  pub small : comparedOf c i < 2 ^ 16
+
+abbrev pub All-tried : Type 0
+All-tried = (s es : List ℕ) → trayFault s es .number ≡ 0 → (i : ℕ) → 1 ≤ i → i ≤ length es → Tried (whole (slipsOf s es)) i

@@ -3,7 +3,7 @@
 --   keptOf c        == the kept members
 --   joinsOf c       == the joins of the plain rule; walkOf c == those of the walk
 --   piecesOf c      == the pieces of the legend; legendOf c == its letters
---   placeOf c i     == the place of slip i
+--   placeOf c i     == the place of slip i; comparedOf c i == the letters compared to find it
 --   keptLetters c   == the letters of the kept members, counted together
 use mathlib.Core.List.{List}
 use Prim.Native.Nat.{ℕ}
@@ -11,7 +11,7 @@ use Rattle.trays.specs.Slips.{numbers, total}
 use Rattle.trays.specs.Aside.{kept, counted}
 use Rattle.greedy.specs.Joins.{Join, plainFor}
 use Rattle.greedy.specs.Walk.{walkFor}
-use Rattle.greedy.specs.Legends.{Piece, piecesFor, legendFor, placeFor}
+use Rattle.greedy.specs.Legends.{Piece, piecesFor, legendFor, placeFor, comparedFor}
 
 pub record Composing : Type 0 where
   pub slips : List (List ℕ)
@@ -37,6 +37,9 @@ legendOf c = legendFor counted (c .slips) (c .members)
 
 abbrev pub placeOf : Composing → ℕ → ℕ
 placeOf c i = placeFor counted (c .slips) (c .members) i
+
+abbrev pub comparedOf : Composing → ℕ → ℕ
+comparedOf c i = comparedFor counted (c .slips) (c .members) i
 
 -- Rules: kept letters is the sum of the kept slips' lengths.
 abbrev pub keptLetters : Composing → ℕ

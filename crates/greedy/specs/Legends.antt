@@ -7,13 +7,17 @@
 --   placeIn ss i p ps     == where slip i is laid, if the pieces ps are laid from place p on; 0 if it is not among them
 --   lowest p x t          == the lowest place at which x stands in t, counted from p
 --   placeFor counts ss M i == the place of slip i
-use mathlib.Core.Bool.{Bool, true, false}
-use mathlib.Core.List.{List, [], _∷_}
+--   agreeing x t          == how many letters of x agree with the first letters of t, from the last letter of x backwards
+--   triedAt x t           == the letters compared where x is tried at the first place of t
+--   tried x t             == those compared at all places of t up to the lowest at which x stands
+--   comparedFor counts ss M i == the letters compared to find the place of slip i
+use mathlib.Core.Bool.{Bool, true, false, cond}
+use mathlib.Core.List.{List, [], _∷_, reverse}
 use Prim.Native.Nat.{ℕ, zero, suc, _+_, _-_}
-use lib.Dec.{eqb}
-use lib.ListN.{length, drop}
+use lib.Dec.{eqb, ltb}
+use lib.ListN.{length, take, drop}
 use Rattle.words.specs.Lists.{each}
-use Rattle.words.specs.Words.{begins}
+use Rattle.words.specs.Words.{begins, common}
 use Rattle.trays.specs.Slips.{slip}
 use Rattle.trays.specs.Aside.{isAside, kept, counted}
 use Rattle.greedy.specs.Joins.{Join, rightOf, leftOf, plainFor}
@@ -70,3 +74,20 @@ abbrev pub placeFor : (List ℕ → Bool) → List (List ℕ) → List ℕ → �
 placeFor counts ss M i =
     elim (isAside ss M i)
     [ true ↦ lowest 1 (slip ss i) (legendFor counts ss M) | false ↦ placeIn ss i 1 (piecesFor counts ss M) ]
+
+-- Rules: letters are compared from the last one backwards.
+abbrev pub agreeing : List ℕ → List ℕ → ℕ
+agreeing x t = common (reverse x) (reverse (take (length x) t))
+
+-- Rules: those that agree and, if any, the one that differs; a place where the slip would not fit is not tried.
+abbrev pub triedAt : List ℕ → List ℕ → ℕ
+triedAt x t = cond (ltb (length t) (length x)) 0 (agreeing x t + cond (begins x t) 0 1)
+
+-- Rules: at each place, from 1 upwards, until the slip stands there.
+abbrev pub tried : List ℕ → List ℕ → ℕ
+tried x [] = 0
+tried x (y ∷ ys) = triedAt x (y ∷ ys) + cond (begins x (y ∷ ys)) 0 (tried x ys)
+
+-- Rules: 0 for a kept slip.
+abbrev pub comparedFor : (List ℕ → Bool) → List (List ℕ) → List ℕ → ℕ → ℕ
+comparedFor counts ss M i = cond (isAside ss M i) (tried (slip ss i) (legendFor counts ss M)) 0

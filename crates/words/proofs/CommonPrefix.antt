@@ -3,9 +3,9 @@
 -- The first `common x y` letters agree, and behind them one of the strings ends or the letters differ. So `begins`, `same` and `before` are decided
 -- by `common x y`, the two lengths and the two letters at `common x y`.
 use mathlib.Core.Path.{_≡_, refl, sym}
-use mathlib.Core.Bool.{true, false, _&&_, _||_}
+use mathlib.Core.Bool.{true, false, cond, _&&_, _||_}
 use mathlib.Core.Logic.{inl, inr}
-use mathlib.Core.List.{List, [], _∷_}
+use mathlib.Core.List.{List, [], _∷_, _++_}
 use Prim.Native.Nat.{ℕ, zero, suc, _≤_, _<_}
 use native.Mathlib.Omega.{arith}
 use lib.Dec.{eqb, ltb, leb·suc-suc, eqb·zero-suc, eqb·suc-suc}
@@ -62,6 +62,20 @@ common-stops (x ∷ xs) (y ∷ ys) h i e =
     elim (tell (eqb x y)) [
       | inl t ↦ let c = common-same x y xs ys t in common-stops xs ys (omega arith) (omega arith) (rw c at e)
       | inr t ↦ let c = common-other x y xs ys t in eqb-false x y t (rw c at e)
+    ]
+
+-- one letter more at the end of two strings of one length
+pub common-snoc : (x y : List ℕ) (a b : ℕ) → length x ≡ length y →
+    common (x ++ (a ∷ [])) (y ++ (b ∷ [])) ≡ cond (eqb (common x y) (length x)) (cond (eqb a b) (suc (length x)) (length x)) (common x y)
+common-snoc [] [] a b h = by-test (eqb a b) (λ e. rw (common-same a b [] [] e, e)) (λ e. rw (common-other a b [] [] e, e))
+common-snoc [] (y ∷ ys) a b h = absurd (omega arith)
+common-snoc (x ∷ xs) [] a b h = absurd (omega arith)
+common-snoc (x ∷ xs) (y ∷ ys) a b h =
+    elim (tell (eqb x y)) [
+      | inl e ↦
+          rw (common-same x y (xs ++ (a ∷ [])) (ys ++ (b ∷ [])) e, common-same x y xs ys e, eqb·suc-suc, common-snoc xs ys a b (omega arith))
+          (by-test (eqb (common xs ys) (length xs)) (λ t. rw t (by-test (eqb a b) (λ q. rw q) (λ q. rw q))) (λ t. rw t))
+      | inr e ↦ rw (common-other x y (xs ++ (a ∷ [])) (ys ++ (b ∷ [])) e, common-other x y xs ys e, eqb·zero-suc)
     ]
 
 pub begins-common : (x y : List ℕ) → begins x y ≡ eqb (common x y) (length x)
