@@ -36,6 +36,12 @@ int main(void) {
         kotsghane_pair(letters, n, ends, k, join[0], join[1], pair);
         printf("join %u to %u by %u, overlap %u\n", join[0], join[1], join[2], (unsigned)pair[KOTSGHANE_PAIR_OVERLAP]);
     }
+    for (uint32_t i = 0; i < composed[KOTSGHANE_COMPOSED_SLIPS]; i++) {
+        const uint16_t *place = places + KOTSGHANE_PLACE * i;
+        if (place[1] == 0) {
+            printf("slip %u is set aside and stands at %u, %u letters compared\n", (unsigned)i + 1, place[0], place[2]);
+        }
+    }
     kotsghane_find(letters, n, ends, k, legend, length, work, KOTSGHANE_WORK, found, sizeof found / sizeof *found, search);
     if (refused("find", search)) {
         return 1;

@@ -13,13 +13,15 @@ pub struct Join {
     pub overlap: usize,
 }
 
-/// Where a slip stands in the legend, from 1, and whether it is kept.
+/// Where a slip stands in the legend, from 1, whether it is kept, and what was compared to find the place.
 #[derive(Clone, Copy, Debug, PartialEq, Eq)]
 pub struct Place {
     /// The place of its first letter.
     pub place: usize,
     /// Kept, or set aside.
     pub kept: bool,
+    /// The letters compared, 0 if kept.
+    pub compared: usize,
 }
 
 /// A tray composed.
@@ -60,16 +62,30 @@ pub struct Rooms {
     pub places: usize,
 }
 
-/// The lowest place, from 1, at which `x` stands in `text`: each place is tried, and the trial ends at the first match.
-pub fn lowest_place(x: &[u8], text: &[u8]) -> Option<usize> {
-    let at = text.windows(x.len()).position(|part| part[0] == x[0] && part == x)?;
-    Some(at + 1)
+/// Whether `x` stands in `text`.
+fn stands_in(x: &[u8], text: &[u8]) -> bool {
+    text.windows(x.len()).any(|part| part[0] == x[0] && part == x)
+}
+
+/// The lowest place, from 1, at which `x` stands in `text`, and the letters compared: at each place those that agree, from
+/// the last one backwards, and the one that differs. The trial ends at the first match.
+pub fn try_places(x: &[u8], text: &[u8]) -> Option<(usize, usize)> {
+    let mut compared = 0;
+    for (before, part) in text.windows(x.len()).enumerate() {
+        let pairs = part.iter().rev().zip(x.iter().rev());
+        let agree = pairs.take_while(|(a, b)| a == b).count();
+        if agree == x.len() {
+            return Some((before + 1, compared + agree));
+        }
+        compared += agree + 1;
+    }
+    None
 }
 
 /// Set aside: a slip whose letters stand in a longer slip, or equal those of a lower-numbered slip. `i` counts from 0.
 fn is_aside(slips: &[&[u8]], i: usize) -> bool {
     let x = slips[i];
-    let longer = |y: &&[u8]| y.len() > x.len() && lowest_place(x, y).is_some();
+    let longer = |y: &&[u8]| y.len() > x.len() && stands_in(x, y);
     slips.iter().any(longer) || slips[..i].contains(&x)
 }
 
@@ -150,10 +166,14 @@ pub fn compose(slips: &[&[u8]]) -> Composition {
             next = chains.right[i];
         }
     }
-    let aside = |i: usize| lowest_place(slips[i - 1], &legend).expect("a slip set aside stands in the legend");
-    let place = |i: usize| Place {
-        place: laid[i].unwrap_or_else(|| aside(i)),
-        kept: laid[i].is_some(),
+    let aside = |i: usize| try_places(slips[i - 1], &legend).expect("a slip set aside stands in the legend");
+    let place = |i: usize| {
+        let (place, compared) = laid[i].map_or_else(|| aside(i), |place| (place, 0));
+        Place {
+            place,
+            kept: laid[i].is_some(),
+            compared,
+        }
     };
     Composition {
         places: numbers.map(place).collect(),

@@ -20,7 +20,7 @@ pub mod made;
 pub mod sheet;
 pub mod tray;
 
-pub use limits::{FILE_ENDS, MAX_FILE, MAX_LETTERS, MAX_SLIP, MAX_SLIPS, MAX_TEXT, WORK_CELLS};
+pub use limits::{FILE_ENDS, MAX_FILE, MAX_LETTERS, MAX_SLIP, MAX_SLIPS, MAX_TEXT, PLACE_CELLS, WORK_CELLS};
 
 /// The occurrences that the list of the program `find` takes.
 pub const MAX_FOUND: usize = 8_000;

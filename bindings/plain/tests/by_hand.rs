@@ -25,7 +25,11 @@ fn specimen_trays() {
         let joins: Vec<_> = made.joins.iter().map(|x| (x.left, x.right, x.overlap)).collect();
         assert_eq!(joins, case.joins, "{name}");
         let mark = |kept| if kept { 'K' } else { 'S' };
-        let places: Vec<_> = made.places.iter().map(|x| (x.place, mark(x.kept))).collect();
+        let places: Vec<_> = made
+            .places
+            .iter()
+            .map(|x| (x.place, mark(x.kept), x.compared))
+            .collect();
         assert_eq!(places, case.places, "{name}");
         assert_eq!(made.kept_letters, made.saved() + case.legend.len(), "{name}");
     }

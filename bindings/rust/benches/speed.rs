@@ -1,7 +1,7 @@
 //! Times the library and the plain program on the same trays and the same state of buffers: `cargo bench`.
 //! First the outcomes are compared, places included.
 use kotsghane::{compose, Composed, Join, Place, WORK_CELLS};
-use plain::compose::{compose_tray, lowest_place, Rooms};
+use plain::compose::{compose_tray, try_places, Rooms};
 use plain::made::full::{different, many_inside, mixed_lengths};
 use plain::made::{slips, Chance, Shape, Slips};
 use plain::tray::Tray;
@@ -116,8 +116,10 @@ fn compare(slips: &[Vec<u8>]) -> Timed {
     assert!(joins
         .map(|x| [x.left, x.right, x.overlap].map(usize::from))
         .eq(made.joins.iter().map(|x| [x.left, x.right, x.overlap])));
-    let places = outcome.places.iter().map(|x| (usize::from(x.place), x.is_kept()));
-    assert!(places.eq(made.places.iter().map(|x| (x.place, x.kept))));
+    let places = outcome.places.iter();
+    assert!(places
+        .map(|x| (usize::from(x.place), x.is_kept(), usize::from(x.compared)))
+        .eq(made.places.iter().map(|x| (x.place, x.kept, x.compared))));
     Timed {
         tray,
         answer,
@@ -141,7 +143,10 @@ fn trials(timed: &Timed) -> usize {
     let legend = &timed.outcome.legend[..timed.answer.legend as usize];
     let slips = timed.tray.slips().into_iter().zip(&timed.outcome.places);
     let aside = slips.filter(|(_, place)| !place.is_kept());
-    aside.filter_map(|(slip, _)| lowest_place(slip, legend)).sum()
+    aside
+        .filter_map(|(slip, _)| try_places(slip, legend))
+        .map(|(place, _)| place)
+        .sum()
 }
 
 /// One round: each kind of call goes through all trays in turn, so that no program meets the tray that it has just left.

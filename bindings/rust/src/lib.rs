@@ -15,6 +15,7 @@
 //! assert_eq!(legend.text, "SIMPCAESAVGPIVS");
 //! assert_eq!(legend.places[2].place, 5);
 //! assert!(!legend.places[1].is_kept());
+//! assert_eq!(legend.places[1].compared, 8);
 //!
 //! let refusal = compose_tray(&Tray::of(&["AVG", "avg"])).unwrap_err();
 //! assert_eq!((refusal.number, refusal.detail), (6, 2));
@@ -30,7 +31,7 @@ mod tray;
 
 pub use asking::{read_tray, Read};
 pub use finding::{find, find_slips, Finding, Found, Search};
-pub use limits::{FILE_ENDS, MAX_FILE, MAX_LETTERS, MAX_SLIP, MAX_SLIPS, MAX_TEXT, WORK_CELLS};
+pub use limits::{FILE_ENDS, MAX_FILE, MAX_LETTERS, MAX_SLIP, MAX_SLIPS, MAX_TEXT, PLACE_CELLS, WORK_CELLS};
 pub use refusal::Refusal;
 pub use tray::{compose_tray, Legend, Tray};
 
@@ -54,7 +55,12 @@ pub struct Place {
     pub place: u16,
     /// 1 if the slip is kept, 0 if it is set aside.
     pub kept: u16,
+    /// The letters compared to find the place, 0 if the slip is kept: at each place tried, from the last letter backwards,
+    /// those that agree and, if any, the one that differs.
+    pub compared: u16,
 }
+
+const _: () = assert!(size_of::<Place>() == PLACE_CELLS * size_of::<u16>());
 
 impl Place {
     /// Whether the slip is kept.
@@ -152,8 +158,8 @@ pub fn compose(
 ) -> Composed {
     let mut answer = [0u32; 8];
     // SAFETY: every pointer comes with the length of the slice that it was taken from, and the slices outlive the call. A
-    // `Join` is three and a `Place` two numbers of 16 bits without a gap (repr(C)), of which every value is valid, so
-    // the lists are slices of three and two times as many numbers. The lent slices do not overlap, as Rust has it for
+    // `Join` is three and a `Place` PLACE_CELLS numbers of 16 bits without a gap (repr(C)), of which every value is
+    // valid, so the lists are slices of so many times as many numbers. The lent slices do not overlap, as Rust has it for
     // `&mut`. The function is proved for every content and every length, keeps no pointer, and does not unwind.
     unsafe {
         kotsghane_compose(
@@ -168,7 +174,7 @@ pub fn compose(
             joins.as_mut_ptr().cast(),
             3 * joins.len(),
             places.as_mut_ptr().cast(),
-            2 * places.len(),
+            PLACE_CELLS * places.len(),
             answer.as_mut_ptr(),
         );
     }

@@ -20,3 +20,6 @@ pub const MAX_FILE: usize = 16_384;
 
 /// So many ends are lent for a tray file (refusal 15).
 pub const FILE_ENDS: usize = 1_700;
+
+/// So many numbers a place has.
+pub const PLACE_CELLS: usize = 3;

@@ -1,5 +1,5 @@
-//! The limits stand in other places too, for other readers. There they are the same numbers.
-use kotsghane::{FILE_ENDS, MAX_FILE, MAX_LETTERS, MAX_SLIP, MAX_SLIPS, MAX_TEXT, WORK_CELLS};
+//! The limits, and how many numbers a place has, stand in other files too, for other readers. There they are the same numbers.
+use kotsghane::{FILE_ENDS, MAX_FILE, MAX_LETTERS, MAX_SLIP, MAX_SLIPS, MAX_TEXT, PLACE_CELLS, WORK_CELLS};
 
 /// Each with its names in the definitions and in the C header.
 const LIMITS: [(&str, &str, usize); 7] = [
@@ -27,6 +27,10 @@ fn assert_stand<const N: usize>(path: &str, all: [String; N]) {
 fn the_definitions_have_them() {
     let line = |(name, _, number)| format!("\n{name} = {number}\n");
     assert_stand("crates/trays/specs/Limits.antt", LIMITS.map(line));
+    assert_stand(
+        "crates/answers/specs/Composing.antt",
+        [line(("placeCells", "", PLACE_CELLS))],
+    );
 }
 
 /// `bindings/made` writes them there.
@@ -34,6 +38,7 @@ fn the_definitions_have_them() {
 fn the_c_header_has_them() {
     let part = |(_, name, number)| format!(" KOTSGHANE_{name} = {number}");
     assert_stand("bindings/c/kotsghane.h", LIMITS.map(part));
+    assert_stand("bindings/c/kotsghane.h", [part(("", "PLACE", PLACE_CELLS))]);
 }
 
 #[test]

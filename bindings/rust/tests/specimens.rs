@@ -12,9 +12,12 @@ fn record(&(left, right, overlap): &(usize, usize, usize)) -> Join {
     join(&plain::compose::Join { left, right, overlap })
 }
 
-fn standing(&(at, mark): &(usize, char)) -> Place {
-    let kept = mark == 'K';
-    place(&plain::compose::Place { place: at, kept })
+fn standing(&(at, mark, compared): &(usize, char, usize)) -> Place {
+    place(&plain::compose::Place {
+        place: at,
+        kept: mark == 'K',
+        compared,
+    })
 }
 
 #[test]

@@ -14,16 +14,17 @@ use Rattle.trays.specs.Slips.{numbers}
 use Rattle.greedy.specs.Composing.{whole, joinsOf}
 use Rattle.answers.specs.declared.Join.{Join}
 use Rattle.answers.specs.declared.Place.{Place}
+use Rattle.answers.specs.Composing.{flatPlaces}
 use Rattle.answers.specs.Records.{joinRecord, placeRecord}
 
 abbrev joined : ℕ → ℕ → ℕ → Join
 joined l r o = record { left = l; right = r; overlap = o }
 
 abbrev keptAt : ℕ → ℕ → Place
-keptAt i p = record { slip = i; place = p; kept = true }
+keptAt i p = record { slip = i; place = p; kept = true; compared = 0 }
 
-abbrev asideAt : ℕ → ℕ → Place
-asideAt i p = record { slip = i; place = p; kept = false }
+abbrev asideAt : ℕ → ℕ → ℕ → Place
+asideAt i p n = record { slip = i; place = p; kept = false; compared = n }
 
 pub record Records : Type 0 where
   pub joins : List Join
@@ -42,15 +43,21 @@ recordsOf ss = record { joins = map joinRecord (joinsOf (whole ss)); places = ma
 pub specimens : List Specimen
 specimens =
     specimen [] [] []
-    ∷ specimen ("AVG" ∷ "AVG" ∷ []) [] (keptAt 1 1 ∷ asideAt 2 1 ∷ [])
+    ∷ specimen ("AVG" ∷ "AVG" ∷ []) [] (keptAt 1 1 ∷ asideAt 2 1 3 ∷ [])
     ∷ specimen ("AB" ∷ "BA" ∷ []) (joined 2 1 1 ∷ []) (keptAt 1 2 ∷ keptAt 2 1 ∷ [])
+    -- at places 1 and 2 the last letter differs, at place 3 all three agree
+    ∷ specimen ("AAB" ∷ "AAAAB" ∷ []) [] (asideAt 1 3 5 ∷ keptAt 2 1 ∷ [])
     -- the sample tray
     ∷ specimen
     ("IMPCAES" ∷ "AES" ∷ "CAESAVG" ∷ "VGPIVS" ∷ "SIMP" ∷ [])
     (joined 1 3 4 ∷ joined 5 1 3 ∷ joined 3 4 2 ∷ [])
-    (keptAt 1 2 ∷ asideAt 2 6 ∷ keptAt 3 5 ∷ keptAt 4 10 ∷ keptAt 5 1 ∷ [])
+    (keptAt 1 2 ∷ asideAt 2 6 8 ∷ keptAt 3 5 ∷ keptAt 4 10 ∷ keptAt 5 1 ∷ [])
     ∷ []
 
 pub specimens-computed : map (λ s. recordsOf (map word (s .tray))) specimens ≡ map (λ s. s .records) specimens
 unfolding specimens
 specimens-computed = refl
+
+-- as numbers: place, mark, letters compared
+pub flat-computed : flatPlaces (whole (map word ("AAB" ∷ "AAAAB" ∷ []))) ≡ 3 ∷ 0 ∷ 5 ∷ 1 ∷ 1 ∷ 0 ∷ []
+flat-computed = refl

@@ -4,7 +4,7 @@
 --   composedOf            == the answer
 --   joinNumbers j         == a join as numbers: left slip, right slip, overlap; flatJoins js == the joins as numbers
 --   placeCells            == so many numbers a place has
---   placeNumbers c i      == the place of slip i as numbers: its place, and 1 if it is kept
+--   placeNumbers c i      == the place of slip i as numbers: its place, 1 if it is kept, and the letters compared to find it
 --   flatPlaces c          == the places of all slips as numbers
 use mathlib.Core.Bool.{cond, _||_}
 use mathlib.Core.List.{List, [], _∷_, _++_}
@@ -17,7 +17,7 @@ use Rattle.trays.specs.Slips.{slipsOf, numbers}
 use Rattle.trays.specs.Aside.{isAside}
 use Rattle.trays.specs.Faults.{row, firstRow, trayRows}
 use Rattle.greedy.specs.Joins.{Join, saved}
-use Rattle.greedy.specs.Composing.{Composing, whole, keptOf, joinsOf, legendOf, placeOf, keptLetters}
+use Rattle.greedy.specs.Composing.{Composing, whole, keptOf, joinsOf, legendOf, placeOf, comparedOf, keptLetters}
 use Rattle.answers.specs.WorkArea.{workRow}
 use Rattle.answers.specs.declared.Composed.{Composed}
 
@@ -62,10 +62,10 @@ abbrev pub flatJoins : List Join → List ℕ
 flatJoins js = each joinNumbers js
 
 abbrev pub placeCells : ℕ
-placeCells = 2
+placeCells = 3
 
 abbrev pub placeNumbers : Composing → ℕ → List ℕ
-placeNumbers c i = placeOf c i ∷ (cond (isAside (c .slips) (c .members) i) 0 1 ∷ [])
+placeNumbers c i = placeOf c i ∷ (cond (isAside (c .slips) (c .members) i) 0 1 ∷ (comparedOf c i ∷ []))
 
 -- for every slip, a member or not
 abbrev pub flatPlaces : Composing → List ℕ

@@ -1,6 +1,6 @@
 -- What composing a tray into lent lists of records promises: the answer, and what each buffer holds afterwards.
 --   joinRecord j    == the record of a join: left slip, right slip, overlap
---   placeRecord c i == the record of slip i: its number, its place, kept or set aside
+--   placeRecord c i == the record of slip i: its number, its place, kept or set aside, the letters compared
 --   ComposeSays     == the promise, for every input: tray s, es; work area w, legend l, joins js, places ps before, and w′, l′, js′, ps′ after; answer r
 use mathlib.Core.Path.{_≡_}
 use mathlib.Core.Bool.{not}
@@ -12,7 +12,7 @@ use Rattle.trays.specs.Slips.{slipsOf, numbers}
 use Rattle.trays.specs.Aside.{isAside}
 use Rattle.trays.specs.Faults.{written}
 use Rattle.greedy.specs.Joins as G
-use Rattle.greedy.specs.Composing.{Composing, whole, joinsOf, legendOf, placeOf}
+use Rattle.greedy.specs.Composing.{Composing, whole, joinsOf, legendOf, placeOf, comparedOf}
 use Rattle.answers.specs.WorkArea.{WorkKept}
 use Rattle.answers.specs.declared.Composed.{Composed}
 use Rattle.answers.specs.Composing.{beforeC, composeFault, composedOf}
@@ -23,9 +23,10 @@ use Rattle.answers.specs.declared.Place.{Place}
 abbrev pub joinRecord : G.Join → Join
 joinRecord j = record { left = j .left; right = j .right; overlap = j .overlap }
 
--- Rules: a record of places holds the slip's number, its place, and kept or set aside.
+-- Rules: a record of places holds the slip's number, its place, kept or set aside, and the count of letters compared.
 abbrev pub placeRecord : Composing → ℕ → Place
-placeRecord c i = record { slip = i; place = placeOf c i; kept = not (isAside (c .slips) (c .members) i) }
+placeRecord c i =
+    record { slip = i; place = placeOf c i; kept = not (isAside (c .slips) (c .members) i); compared = comparedOf c i }
 
 -- the refusal, given the lengths of what was lent
 abbrev pub faultOf : List ℕ → List ℕ → List ℕ → List ℕ → List Join → List Place → Refusal

@@ -19,15 +19,16 @@ pub struct Join {
     pub overlap: u16,
 }
 
-// A slip, its place in the legend, and whether it was kept.
+// A slip, its place in the legend, whether it was kept, and how many letters were compared to find the place, 0 if kept.
 pub struct Place {
     pub slip: u16,
     pub place: u16,
     pub kept: bool,
+    pub compared: u16,
 }
 
 // So many numbers a place has where it is told in numbers.
-pub const PLACE_CELLS: usize = 2;
+pub const PLACE_CELLS: usize = 3;
 
 // 12: a text has at most so many letters.
 pub const MAX_TEXT: usize = 2000;

@@ -60,7 +60,8 @@ fn join(sum: u32, x: Join) -> u32 {
 fn place(sum: u32, x: Place) -> u32 {
     let slip = mix(sum, x.slip as u32);
     let at = mix(slip, x.place as u32);
-    mix(at, flag(x.kept))
+    let mark = mix(at, flag(x.kept));
+    mix(mark, x.compared as u32)
 }
 
 fn found(sum: u32, x: Found) -> u32 {

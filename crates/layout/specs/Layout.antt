@@ -86,18 +86,18 @@ ENDS-NEXT = 20311
 abbrev pub JOINS : ℕ
 JOINS = 22311
 
--- 400 cells: for each slip its place, and 1 if it is kept
+-- 600 cells: for each slip its place, 1 if it is kept, and the letters compared
 abbrev pub PLACES : ℕ
 PLACES = 22911
 
 -- 2001 cells: for each node the next node on its failure path that is a member, 0 for none
 abbrev pub OUT : ℕ
-OUT = 23311
+OUT = 23511
 
 -- 2001 cells: for each node how many members end it
 abbrev pub TALLY : ℕ
-TALLY = 25312
+TALLY = 25512
 
 -- behind the table TALLY
 abbrev pub SCAN : ℕ
-SCAN = 27313
+SCAN = 27513

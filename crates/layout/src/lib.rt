@@ -48,9 +48,9 @@ pub const JOINS: usize = 22311;
 
 pub const PLACES: usize = 22911;
 
-pub const OUT: usize = 23311;
+pub const OUT: usize = 23511;
 
-pub const TALLY: usize = 25312;
+pub const TALLY: usize = 25512;
 
 // Where a scan is kept in the work area, behind the tables.
-pub const SCAN: usize = 27313;
+pub const SCAN: usize = 27513;

@@ -1,71 +1,114 @@
--- The trial of places: at each place letters are compared until one differs or all agree.
---   Agrees x t p k  == the first k letters agree at place p, so the rest decides
-use mathlib.Core.Path.{_≡_, sym, _∙_, ap}
+-- The trial of places: at each place letters are compared from the last one backwards until one differs or all agree.
+--   Came x t p c        == x stands at none of the first p places, where it fits, and c letters were compared there
+--   Agrees x t p c k    == at place p + 1 the letters from k on agree, and c counts them too
+--   trial-..            == the turns of both loops, and the value with which the trial is left
+use mathlib.Core.Path.{_≡_, refl, sym, _∙_, ap}
 use mathlib.Core.Bool.{true, false}
-use mathlib.Core.List.{List}
-use Prim.Native.Nat.{ℕ, suc, _+_, _-_, _≤_, _<_}
-use borrow.Author.Tests.{eq-eqb, ne-eqb}
-use native.Mathlib.Numerals.{add-one}
-use native.Mathlib.Nat.{add-zero, add-suc}
+use mathlib.Core.List.{List, _∷_}
+use Prim.Native.Nat.{ℕ, suc, _+_, _-_, _*_, _≤_, _<_}
+use native.Mathlib.Nat.{add-zero}
 use native.Mathlib.Omega.{arith}
-use lib.ListN.{length, getD, drop, drop-of-length-le}
-use lib.Seq.{drop-cons}
+use lib.ListN.{length, getD, drop, length-drop}
+use lib.Seq.{drop-cons, drop-drop, drop-length, getD-drop}
 use Rattle.words.specs.Words.{begins}
-use Rattle.greedy.specs.Legends.{lowest}
+use Rattle.words.proofs.Strings.{begins-cons}
+use Rattle.trays.specs.Limits.{maxSlip, maxLetters}
+use Rattle.greedy.specs.Legends.{lowest, agreeing, tried}
+use Rattle.greedy.proofs.Tried.{Differs, agreeing-to, lowest-here, lowest-next, lowest-short, tried-here, tried-next, tried-short}
 
-abbrev pub Agrees : List ℕ → List ℕ → ℕ → ℕ → Type 0
-Agrees x t p k = begins x (drop p t) ≡ begins (drop k x) (drop (p + k) t)
+pub record Came (x t : List ℕ) (p c : ℕ) : Type 0 where
+  pub within : p ≤ length t
+  pub place-is : lowest 1 x t ≡ lowest (p + 1) x (drop p t)
+  pub count-is : tried x t ≡ c + tried x (drop p t)
+  pub few : c ≤ maxSlip * p
 
-pub agree-none : (x t : List ℕ) (p k : ℕ) → k ≡ 0 → Agrees x t p k
-agree-none x t p k e = rw (e, add-zero)
+pub record Agrees (x t : List ℕ) (p c k : ℕ) : Type 0 where
+  pub upto : k ≤ length x
+  pub fits : p + length x ≤ length t
+  pub behind : begins (drop k x) (drop (p + k) t) ≡ true
+  pub place-is : lowest 1 x t ≡ lowest (p + 1) x (drop p t)
+  pub count-is : c + tried x (drop p t) ≡ tried x t + (length x - k)
+  pub few : c ≤ maxSlip * p + (length x - k)
 
-module _ (x t : List ℕ) (p k : ℕ) (h : k < length x) (a : Agrees x t p k) where
-  agree-more : p + k < length t → getD t (p + k) 0 ≡ getD x k 0 → Agrees x t p (k + 1)
-  agree-more l e =
-      a ∙ rw (add-one k, add-suc, drop-cons x k 0, drop-cons t (p + k) 0, eq-eqb _ _ (sym e))
+module _ (x t : List ℕ) where
+  pub trial-start : Came x t 0 0
+  trial-start = record { within = omega arith; place-is = refl; count-is = omega arith; few = omega arith }
 
-  agree-differs : p + k < length t → (getD t (p + k) 0 ≡ getD x k 0 → ⊥) → begins x (drop p t) ≡ false
-  agree-differs l e = a ∙ rw (drop-cons x k 0, drop-cons t (p + k) 0, ne-eqb _ _ (λ q. e (sym q)))
+  module _ (p c : ℕ) (a : Came x t p c) where
+    -- a place at which x fits
+    pub trial-place : length x ≤ length t - p → Agrees x t p c (length x)
+    trial-place h =
+        record {
+          upto = omega arith;
+          fits = omega (arith, a .within);
+          behind = ap (λ (y : List ℕ). begins y (drop (p + length x) t)) (drop-length x);
+          place-is = a .place-is;
+          count-is = omega (arith, a .count-is);
+          few = omega (arith, a .few);
+        }
 
-  agree-short : p < length t → length t - p ≤ k → begins x (drop p t) ≡ false
-  agree-short l e = let o : length t ≤ p + k = omega arith in a ∙ rw (drop-cons x k 0, drop-of-length-le t o)
+    -- it fits no more
+    module _ (h : length t - p < length x) where
+      short : length (drop p t) < length x
+      short = rw length-drop h
 
-agree-whole : (x t : List ℕ) (p k : ℕ) → length x ≤ k → Agrees x t p k → begins x (drop p t) ≡ true
-agree-whole x t p k h a = a ∙ rw (drop-of-length-le x h)
+      pub short-place : length t + 1 ≡ lowest 1 x t
+      short-place = sym (a .place-is ∙ lowest-short (p + 1) x (drop p t) short ∙ omega (arith, length-drop p t, a .within))
 
--- the trial goes on, or ends
-module _ (x t : List ℕ) (p : ℕ) (s : lowest 1 x t ≡ lowest (p + 1) x (drop p t)) where
-  place-next : p < length t → begins x (drop p t) ≡ false → lowest 1 x t ≡ lowest (p + 1 + 1) x (drop (p + 1) t)
-  place-next h f =
-      let g : lowest (p + 1) x (drop p t) ≡ lowest (suc (p + 1)) x (drop (suc p) t) =
-      rw (drop-cons t p 0, rw (drop-cons t p 0) at f, lowest) in
-      rw (add-one (p + 1)) (s ∙ g ∙ ap (λ (n : ℕ). lowest (suc (p + 1)) x (drop n t)) (sym (add-one p)))
+      pub short-count : c ≡ tried x t
+      short-count = omega (arith, a .count-is, tried-short x (drop p t) short)
 
-  place-here : p < length t → begins x (drop p t) ≡ true → p + 1 ≡ lowest 1 x t
-  place-here h f = sym (s ∙ rw (drop-cons t p 0, rw (drop-cons t p 0) at f, lowest))
+  module _ (p c j : ℕ) (a : Agrees x t p c (suc j)) where
+    here : p + j < length t
+    here = omega (arith, a .upto, a .fits)
 
-  place-end : length t ≤ p → p + 1 ≡ lowest 1 x t
-  place-end h = sym (s ∙ rw (drop-of-length-le t h))
+    after : suc (p + j) ≡ p + suc j
+    after = omega arith
 
--- with the letters compared
-module _ (x t : List ℕ) (p k : ℕ) (s : lowest 1 x t ≡ lowest (p + 1) x (drop p t)) (l : p < length t) (a : Agrees x t p k) where
-  pub next-short : k < length x → length t - p ≤ k → lowest 1 x t ≡ lowest (p + 1 + 1) x (drop (p + 1) t)
-  next-short h e = place-next x t p s l (agree-short x t p k h a l e)
+    agrees : getD t (p + j) 0 ≡ getD x j 0 → Agrees x t p (c + 1) j
+    agrees e =
+        record {
+          upto = omega (arith, a .upto);
+          fits = a .fits;
+          behind = rw (drop-cons x j 0 (a .upto), drop-cons t (p + j) 0 here, after) (begins-cons _ _ (drop (suc j) x) (drop (p + suc j) t) (sym e) (a .behind));
+          place-is = a .place-is;
+          count-is = omega (arith, a .count-is, a .upto);
+          few = omega (arith, a .few, a .upto);
+        }
 
-  pub next-agrees : k < length x → k < length t - p → getD t (p + k) 0 ≡ getD x k 0 → Agrees x t p (k + 1)
-  next-agrees h e q = agree-more x t p k h a (omega arith) q
+    differs : length x ≤ maxSlip → (getD t (p + j) 0 ≡ getD x j 0 → ⊥) → Came x t (p + 1) (c + 1)
+    differs m e =
+        let y = drop p t in
+        let long : length x ≤ length y = rw length-drop (omega (arith, a .fits)) in
+        let r : Differs x y j = agreeing-to x y j long (a .upto) (rw (drop-drop (suc j) p t) (a .behind)) (λ q. e (sym (q ∙ getD-drop p t j 0))) in
+        let some : 1 ≤ length y = omega (arith, a .upto, long) in
+        let on : drop 1 y ≡ drop (p + 1) t = drop-drop 1 p t in
+        let count : tried x y ≡ suc (agreeing x y) + tried x (drop 1 y) = tried-next x y some long (r .not-here) in
+        record {
+          within = omega (arith, a .upto, a .fits);
+          place-is = a .place-is ∙ lowest-next (p + 1) x y some (r .not-here) ∙ ap (lowest (p + 1 + 1) x) on;
+          count-is = omega (arith, a .count-is, a .upto, count, r .agree, ap (tried x) on);
+          few = omega (arith, a .few, a .upto);
+        }
 
-  pub next-differs : k < length x → k < length t - p → (getD t (p + k) 0 ≡ getD x k 0 → ⊥)
-      → lowest 1 x t ≡ lowest (p + 1 + 1) x (drop (p + 1) t)
-  next-differs h e n = place-next x t p s l (agree-differs x t p k h a (omega arith) n)
+  module _ (p c k : ℕ) (a : Agrees x t p c k) (l : 0 < k) where
+    less : Agrees x t p c (suc (k - 1))
+    less = let e : suc (k - 1) ≡ k = omega arith in rw e a
 
-  whole-here : length x ≤ k → p + 1 ≡ lowest 1 x t
-  whole-here h = place-here x t p s l (agree-whole x t p k h a)
+    pub trial-agrees : getD t (p + (k - 1)) 0 ≡ getD x (k - 1) 0 → Agrees x t p (c + 1) (k - 1)
+    trial-agrees e = agrees p c (k - 1) less e
 
--- the value with which the trial is left
-pub left-whole : (x t : List ℕ) (p k f : ℕ) → lowest 1 x t ≡ lowest (p + 1) x (drop p t) → p < length t → Agrees x t p k → length x ≤ k → f ≡ p
-    → f + 1 ≡ lowest 1 x t
-left-whole x t p k f s l a h e = rw e (whole-here x t p k s l a h)
+    -- one letter differs: on to the next place
+    pub trial-differs : length x ≤ maxSlip → (getD t (p + (k - 1)) 0 ≡ getD x (k - 1) 0 → ⊥) → Came x t (p + 1) (c + 1)
+    trial-differs m e = differs p c (k - 1) less m e
 
-pub left-end : (x t : List ℕ) (p f : ℕ) → lowest 1 x t ≡ lowest (p + 1) x (drop p t) → length t ≤ p → f ≡ p → f + 1 ≡ lowest 1 x t
-left-end x t p f s h e = rw e (place-end x t p s h)
+  -- all agree
+  module _ (p c k : ℕ) (a : Agrees x t p c k) (z : k ≤ 0) where
+    stands : begins x (drop p t) ≡ true
+    stands = let e : k ≡ 0 = omega arith in rw (e, add-zero) at (a .behind)
+
+    pub whole-place : p + 1 ≡ lowest 1 x t
+    whole-place = sym (a .place-is ∙ lowest-here (p + 1) x (drop p t) stands)
+
+    pub whole-count : c ≡ tried x t
+    whole-count = omega (arith, a .count-is, tried-here x (drop p t) stands)

@@ -6,17 +6,23 @@ use Prim.Native.Nat.{ℕ, suc, _+_, _-_, _*_, _≤_, _<_}
 use borrow.Author.Tests.{eq-eqb, ne-eqb}
 use native.Mathlib.Numerals.{add-one}
 use native.Mathlib.Omega.{arith}
-use lib.ListN.{length, getD, set, length-drop}
+use lib.ListN.{length, getD, set, length-set, length-drop}
+use Rattle.trays.specs.Limits.{maxSlip}
 use Rattle.trays.specs.Slips.{slipsOf, slip}
-use Rattle.trays.specs.Faults.{trayFault}
+use Rattle.trays.proofs.Spans.{accepted-spanned}
 use Rattle.words.specs.Words.{begins}
 use Rattle.words.proofs.Tests.{by-test}
-use Rattle.greedy.specs.Legends.{added, lowest}
+use Rattle.greedy.specs.Legends.{added, lowest, tried}
+use Rattle.greedy.proofs.Tried.{tried-most}
 use Rattle.answers.specs.Composing.{placeCells}
 use Rattle.chains.specs.Pieces.{pieceIn, piecesIn}
-use Rattle.placing.specs.Places.{putPlace, placedBy, asideAt, asideBy, Placeable, PlacesAsk}
+use Rattle.placing.specs.Places.{putNumbers, putPlace, placedBy, asideAt, asideBy, Placeable, PlacesAsk, AsideAsk}
 use Rattle.placing.specs.steps.OnePlace.{PutPlaceAsks, PlacedOne, AsidePlaceAsks}
 use Rattle.placing.proofs.PlacesAre.{put-length, aside-one-length}
+
+-- the second of three numbers is written within the list
+pub put-second : (xs : List ℕ) (at a : ℕ) → at + 2 < length xs → at + 1 < length (set xs at a)
+put-second xs at a h = rw length-set (omega arith)
 
 -- one piece
 module _ (s es ps : List ℕ) (q here : ℕ) (xs : List ℕ) (i o : ℕ) (part : List ℕ)
@@ -24,7 +30,7 @@ module _ (s es ps : List ℕ) (q here : ℕ) (xs : List ℕ) (i o : ℕ) (part :
   pub place-within : PutPlaceAsks s es ps q here xs → o ≤ length part
   place-within a = rw (ho, hp, hi) (a .within)
 
-  pub place-put : (xs′ : List ℕ) → xs′ ≡ set (set xs (placeCells * (i - 1)) (here - o)) (placeCells * (i - 1) + 1) 1 → xs′ ≡ putPlace xs (pieceIn ps q) here
+  pub place-put : (xs′ : List ℕ) → xs′ ≡ putNumbers xs (i - 1) (here - o) 1 0 → xs′ ≡ putPlace xs (pieceIn ps q) here
   place-put xs′ e = e ∙ rw (hi, ho)
 
   pub next-letters : here + (length part - o) ≡ here + length (added (slipsOf s es) (pieceIn ps q))
@@ -73,7 +79,7 @@ module _ (s es ps : List ℕ) (n : ℕ) (xs₀ : List ℕ) (a : PlacesAsk s es p
           most = l;
           done = rw (o .places-are, o .next-is) d;
           fits = rw (o .next-is) (fits-rest .5);
-          same = ap length (o .places-are) ∙ put-length xs (pieceIn ps q) here ∙ p .same;
+          same = ap length (o .places-are) ∙ put-length xs _ _ _ _ ∙ p .same;
         })
 
   pub placing-end : (q here : ℕ) (xs : List ℕ) → n ≤ q → Placing s es ps n xs₀ q here xs → xs ≡ placedBy (slipsOf s es) xs₀ 1 (piecesIn ps 0 n)
@@ -89,16 +95,24 @@ module _ (s es t : List ℕ) (i : ℕ) (xs : List ℕ) (mark : ℕ) (e : mark �
   pub aside-kept : (mark ≡ 0 → ⊥) → xs ≡ asideAt (slipsOf s es) t xs i
   aside-kept z = rw (ne-eqb (getD xs (placeCells * i + 1) 0) 0 (λ q. z (e ∙ q)))
 
-  pub aside-put : (part : List ℕ) (r : ℕ) → mark ≡ 0 → part ≡ slip (slipsOf s es) (i + 1) → r ≡ lowest 1 part t
-      → set xs (placeCells * i) r ≡ asideAt (slipsOf s es) t xs i
-  aside-put part r z h l = rw (eq-eqb (getD xs (placeCells * i + 1) 0) 0 (sym e ∙ z), l, h, add-one i)
+  pub aside-put : (part xs′ : List ℕ) (r n : ℕ) → mark ≡ 0 → part ≡ slip (slipsOf s es) (i + 1) → r ≡ lowest 1 part t → n ≡ tried part t →
+      xs′ ≡ putNumbers xs i r 0 n → xs′ ≡ asideAt (slipsOf s es) t xs i
+  aside-put part xs′ r n z h l m o = o ∙ rw (eq-eqb (getD xs (placeCells * i + 1) 0) 0 (sym e ∙ z), l, m, h, add-one i)
 
-pub aside-small : (s es t : List ℕ) (i : ℕ) (xs part : List ℕ) (r : ℕ) → AsidePlaceAsks s es t i xs → r ≡ lowest 1 part t → r < 65536
-aside-small s es t i xs part r a l = omega (arith, lowest-most 1 part t, a .small)
+-- what the trial asks, and what its numbers are
+module _ (s es t : List ℕ) (i : ℕ) (xs : List ℕ) (a : AsidePlaceAsks s es t i xs) (part : List ℕ) (h : part ≡ slip (slipsOf s es) (i + 1)) where
+  pub part-short : length part ≤ maxSlip
+  part-short = rw h (accepted-spanned s es (a .tray) .short (i + 1) (omega arith) (omega (arith, a .slips)))
 
-module _ (s es t : List ℕ) (xs₀ : List ℕ) (a : (trayFault s es .number ≡ 0) × (length t < 65535) × (placeCells * length es ≤ length xs₀)) where
+  pub place-small : (r : ℕ) → r ≡ lowest 1 part t → r < 65536
+  place-small r l = omega (arith, lowest-most 1 part t, a .short)
+
+  pub count-small : (n : ℕ) → n ≡ tried part t → n < 65536
+  count-small n l = omega (arith, tried-most maxSlip part t part-short, a .short)
+
+module _ (s es t : List ℕ) (xs₀ : List ℕ) (a : AsideAsk s es t xs₀) where
   pub aside-asks : (i : ℕ) (xs : List ℕ) → i < length es → length xs ≡ length xs₀ → AsidePlaceAsks s es t i xs
-  aside-asks i xs l e = record { tray = a .0; slips = l; places = omega (arith, a .2); small = a .1 }
+  aside-asks i xs l e = record { tray = a .tray; slips = l; places = omega (arith, a .places); short = a .short }
 
   pub aside-turn : (i : ℕ) (xs xs′ : List ℕ) → xs ≡ asideBy (slipsOf s es) t xs₀ i → xs′ ≡ asideAt (slipsOf s es) t xs i
       → xs′ ≡ asideBy (slipsOf s es) t xs₀ (i + 1)

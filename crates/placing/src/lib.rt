@@ -2,49 +2,56 @@
 ghost use mathlib.Core.Path.{_≡_};
 ghost use Prim.Native.Nat.{_+_, _*_, _≤_, _<_};
 ghost use lib.ListN.{length, set};
+ghost use Rattle.trays.specs.Limits.{maxSlip, maxLetters};
 ghost use Rattle.trays.specs.Slips.{slipsOf};
-ghost use Rattle.trays.specs.Faults.{trayFault};
-ghost use Rattle.greedy.specs.Legends.{lowest};
+ghost use Rattle.greedy.specs.Legends.{lowest, tried};
 ghost use Rattle.answers.specs.Composing.{placeCells};
 ghost use Rattle.chains.specs.Pieces.{pieceIn, piecesIn};
-ghost use Rattle.placing.specs.Places.{placedBy, asideAt, asideBy, PlacesAsk};
+ghost use Rattle.placing.specs.Places.{placedBy, asideAt, asideBy, PlacesAsk, AsideAsk};
 ghost use Rattle.placing.specs.steps.OnePlace.{PutPlaceAsks, PlacedOne, AsidePlaceAsks};
 use answers::PLACE_CELLS;
 use tables::wide;
 
-// The lowest place, from 1, at which `x` stands in `t`; one past the letters if it stands nowhere.
-fn lowest_place(x: &[u8], t: &[u8]) -> usize
-    ensures { λ r. ⌜ r ≡ lowest 1 (now (x .entry)) (now (t .entry)) ⌝ }
-{
-    let mut place: usize = 0;
-    let found = 'places: loop {
-        if t.len() <= place {
-            break 'places place;
-        }
-        let mut k: usize = 0;
-        while k < x.len() {
-            if t.len() - place <= k {
-                place += 1;
-                continue 'places;
-            }
-            if t[place + k] != x[k] {
-                place += 1;
-                continue 'places;
-            }
-            k += 1;
-        }
-        break 'places place;
-    };
-    found + 1
+// A place in a text, and the letters compared to find it.
+struct Trial {
+    place: usize,
+    compared: usize,
 }
 
-// Writes two numbers.
-fn put_two(xs: &mut [u16], at: usize, a: usize, b: usize)
-    requires { ⌜ (at + 1 < length (now xs)) × (a < 65536) × (b < 65536) ⌝ }
-    ensures { λ _. ⌜ now (xs .exit) ≡ set (set (now (xs .entry)) at a) (at + 1) b ⌝ }
+// The lowest place, from 1, at which `x` stands in `t`; one past the letters if it stands nowhere. At each place that `x` fits its letters are
+// compared from the last one backwards.
+fn lowest_place(x: &[u8], t: &[u8]) -> Trial
+    requires { ⌜ (length (now x) ≤ maxSlip) × (length (now t) ≤ maxLetters) ⌝ }
+    ensures { λ r. ⌜ (r .place ≡ lowest 1 (now (x .entry)) (now (t .entry))) × (r .compared ≡ tried (now (x .entry)) (now (t .entry))) ⌝ }
+{
+    let mut before: usize = 0;
+    let mut compared: usize = 0;
+    let place = 'places: loop {
+        if t.len() - before < x.len() {
+            break 'places t.len() + 1;
+        }
+        let mut k = x.len();
+        while 0 < k {
+            k -= 1;
+            compared += 1;
+            if t[before + k] != x[k] {
+                before += 1;
+                continue 'places;
+            }
+        }
+        break 'places before + 1;
+    };
+    Trial { place, compared }
+}
+
+// Writes three numbers.
+fn put_three(xs: &mut [u16], at: usize, a: usize, b: usize, c: usize)
+    requires { ⌜ (at + 2 < length (now xs)) × (a < 65536) × (b < 65536) × (c < 65536) ⌝ }
+    ensures { λ _. ⌜ now (xs .exit) ≡ set (set (set (now (xs .entry)) at a) (at + 1) b) (at + 2) c ⌝ }
 {
     xs[at] = a as u16;
     xs[at + 1] = b as u16;
+    xs[at + 2] = c as u16;
 }
 
 // Writes the place of the `q`-th piece, whose letters go from `here` on, and that its slip is kept. Answers where the next letters go.
@@ -63,7 +70,7 @@ fn put_place(
     let slip = wide(pieces[2 * q]);
     let shared = wide(pieces[2 * q + 1]);
     let part = spans::slip_part(letters, ends, slip);
-    put_two(places, PLACE_CELLS * (slip - 1), here - shared, 1);
+    put_three(places, PLACE_CELLS * (slip - 1), here - shared, 1, 0);
     here + (part.len() - shared)
 }
 
@@ -92,13 +99,13 @@ fn aside_place(letters: &[u8], ends: &[u16], legend: &[u8], i: usize, places: &m
         return;
     }
     let part = spans::slip_part(letters, ends, i + 1);
-    places[PLACE_CELLS * i] = lowest_place(part, legend) as u16;
+    let trial = lowest_place(part, legend);
+    put_three(places, PLACE_CELLS * i, trial.place, 0, trial.compared);
 }
 
 // Writes the places of the slips that are not marked as kept.
 pub fn aside_places(letters: &[u8], ends: &[u16], legend: &[u8], places: &mut [u16])
-    requires { ⌜ (trayFault (now letters) (now ends) .number ≡ 0) × (length (now legend) < 65535)
-        × (placeCells * length (now ends) ≤ length (now places)) ⌝ }
+    requires { ⌜ AsideAsk (now letters) (now ends) (now legend) (now places) ⌝ }
     ensures { λ _. ⌜ now (places .exit)
         ≡ asideBy (slipsOf (now (letters .entry)) (now (ends .entry))) (now (legend .entry)) (now (places .entry)) (length (now (ends .entry))) ⌝ }
 {

@@ -32,8 +32,9 @@ use Rattle.answers.specs.Records.{joinRecord, placeRecord}
 join-by : (a b c : ℕ) (x : Join) → a ≡ x .left → b ≡ x .right → c ≡ x .overlap → record { left = a; right = b; overlap = c } ≡ x
 join-by a b c x p q r = rw (p, q, r)
 
-place-by : (a b : ℕ) (c : Bool) (x : Place) → a ≡ x .slip → b ≡ x .place → c ≡ x .kept → record { slip = a; place = b; kept = c } ≡ x
-place-by a b c x p q r = rw (p, q, r)
+place-by : (a b : ℕ) (c : Bool) (d : ℕ) (x : Place) → a ≡ x .slip → b ≡ x .place → c ≡ x .kept → d ≡ x .compared →
+    record { slip = a; place = b; kept = c; compared = d } ≡ x
+place-by a b c d x p q r s = rw (p, q, r, s)
 
 -- a cell of a table that is a list
 module _ (w : List ℕ) (base n : ℕ) (xs : List ℕ) (e : table w base n ≡ xs) where
@@ -69,15 +70,16 @@ mark-kept true = refl
 mark-kept false = refl
 
 abbrev nowhere : Place
-nowhere = record { slip = 0; place = 0; kept = false }
+nowhere = record { slip = 0; place = 0; kept = false; compared = 0 }
 
 module _ (w : List ℕ) (ss : List (List ℕ)) (e : table w PLACES (placeCells * length ss) ≡ flatPlaces (whole ss)) where
   place-made : (i : ℕ) → i < length ss → placeAt w i ≡ placeRecord (whole ss) (suc i)
   place-made i h =
       let is : (j at : ℕ) → j < placeCells → at ≡ placeCells * i + j → cell w PLACES at ≡ getD (placeNumbers (whole ss) (suc i)) j 0 =
       λ j at l q. cell-in w PLACES (placeCells * length ss) (flatPlaces (whole ss)) e at (omega arith) ∙ places-at ss i j at h l q in
-      place-by _ _ _ (placeRecord (whole ss) (suc i)) (add-one i) (is 0 (placeCells * i) (omega arith) (omega arith))
+      place-by _ _ _ _ (placeRecord (whole ss) (suc i)) (add-one i) (is 0 (placeCells * i) (omega arith) (omega arith))
       (ap (λ (m : ℕ). eqb m 1) (is 1 (placeCells * i + 1) (omega arith) refl) ∙ mark-kept (isAside ss (numbers ss) (suc i)))
+      (is 2 (placeCells * i + 2) (omega arith) refl)
 
   pub places-made : firsts (placeAt w) (length ss) ≡ map (placeRecord (whole ss)) (numbers ss)
   places-made =

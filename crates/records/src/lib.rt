@@ -37,6 +37,7 @@ fn place_at(work: &[u16], i: usize) -> Place
         slip: (i + 1) as u16,
         place: work[PLACES + at],
         kept: kept == 1,
+        compared: work[PLACES + (at + 2)],
     }
 }
 

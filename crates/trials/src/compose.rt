@@ -4,11 +4,19 @@ ghost use lib.ListN.{length};
 use crate::pairs;
 use answers::Composed;
 use answers::Join;
+use answers::PLACE_CELLS;
 use answers::Place;
 use case_lines::sums;
 use case_lines::table;
 use case_lines::writing;
 use case_lines::writing::put;
+
+// The most numbers of places that are lent, and those of 200 and of two slips.
+const PLACES_ROOM: usize = 210 * PLACE_CELLS;
+
+const ALL_PLACES: u32 = 200 * PLACE_CELLS as u32;
+
+const TWO_PLACES: u32 = 2 * PLACE_CELLS as u32;
 
 // How many cells, bytes and numbers are lent, and where the letters start in the line.
 struct Rooms {
@@ -82,11 +90,11 @@ fn try_flat(letters: &[u8], ends: &[u16], rooms: Rooms) {
     let mut work = [7777u16; 32100];
     let mut legend = [7u8; 2100];
     let mut joins = [7777u16; 620];
-    let mut places = [7777u16; 420];
+    let mut places = [7777u16; PLACES_ROOM];
     let work_room = table::least(rooms.work, 32100);
     let legend_room = table::least(rooms.legend, 2100);
     let joins_room = table::least(rooms.joins, 620);
-    let places_room = table::least(rooms.places, 420);
+    let places_room = table::least(rooms.places, PLACES_ROOM);
     flat(
         letters,
         ends,
@@ -110,6 +118,7 @@ fn place_mark() -> Place {
         slip: 7777,
         place: 7777,
         kept: false,
+        compared: 7777,
     }
 }
 
@@ -169,12 +178,12 @@ fn try_records(letters: &[u8], ends: &[u16], rooms: Rooms, count: u32) {
 // How many records the lists have room for, where they are tried over records too.
 fn record_count(rooms: Rooms) -> u32 {
     if rooms.joins == 600 {
-        if rooms.places == 400 {
+        if rooms.places == ALL_PLACES {
             return 200;
         }
     }
     if rooms.joins == 6 {
-        if rooms.places == 4 {
+        if rooms.places == TWO_PLACES {
             return 2;
         }
     }

@@ -1,19 +1,18 @@
 -- The places, slip by slip, are those of the rules.
 use mathlib.Core.Path.{_≡_, refl, sym, _∙_, ap}
 use mathlib.Core.Bool.{true, false, cond, not}
-use mathlib.Core.List.{List}
-use Prim.Native.Nat.{ℕ, zero, suc, _+_, _*_, _/_, _%_, _≤_, _<_}
-use native.Mathlib.Nat.{add-zero}
+use mathlib.Core.List.{List, [], _∷_}
+use Prim.Native.Nat.{ℕ, suc, _+_, _*_, _/_, _%_, _≤_, _<_}
 use native.Mathlib.Omega.{arith}
 use lib.ListN.{length, getD, take}
 use lib.Seq.{ext-getD, getD-take, length-take-le}
 use Rattle.words.proofs.Tests.{by-test}
-use Rattle.trays.specs.Slips.{numbers}
+use Rattle.trays.specs.Slips.{slip, numbers}
 use Rattle.trays.specs.Aside.{isAside, counted}
-use Rattle.greedy.specs.Legends.{Piece, piecesFor, placeFor}
-use Rattle.greedy.specs.Composing.{whole, legendOf, placeOf}
+use Rattle.greedy.specs.Legends.{Piece, piecesFor, placeIn, lowest, tried, placeFor}
+use Rattle.greedy.specs.Composing.{whole, legendOf}
 use Rattle.placing.specs.Places.{placedBy, asideBy}
-use Rattle.placing.proofs.PlacesAre.{isLaid, LaidOnce, placed-here, placed-other, aside-mark, aside-cell}
+use Rattle.placing.proofs.PlacesAre.{isLaid, LaidOnce, numberOf, placed-here, placed-other, aside-at}
 use Rattle.answers.specs.Composing.{placeCells, placeNumbers, flatPlaces}
 use Rattle.answers.proofs.FlatLists.{places-length, places-at}
 
@@ -25,32 +24,29 @@ module _ (ss : List (List ℕ)) (xs : List ℕ) (room : placeCells * length ss �
   abbrev after : List ℕ
   after = asideBy ss (legendOf (whole ss)) (placedBy ss xs 1 ps) (length ss)
 
+  aside-numbers : (i : ℕ) → isAside ss (numbers ss) i ≡ true →
+      let x = slip ss i in lowest 1 x (legendOf (whole ss)) ∷ (0 ∷ (tried x (legendOf (whole ss)) ∷ [])) ≡ placeNumbers (whole ss) i
+  aside-numbers i t = rw (t, placeFor)
+
+  kept-numbers : (i : ℕ) → isAside ss (numbers ss) i ≡ false → placeIn ss i 1 ps ∷ (1 ∷ (0 ∷ [])) ≡ placeNumbers (whole ss) i
+  kept-numbers i t = rw (t, placeFor)
+
   module _ (once : LaidOnce ps) (which : (k : ℕ) → k < length ss → isLaid (suc k) ps ≡ not (isAside ss (numbers ss) (suc k)))
       (longer : length (placedBy ss xs 1 ps) ≡ length xs) where
-    cells : (k : ℕ) → k < length ss →
-        (getD after (placeCells * k) 0 ≡ placeOf (whole ss) (suc k)) ×
-        (getD after (placeCells * k + 1) 0 ≡ cond (isAside ss (numbers ss) (suc k)) 0 1)
-    cells k h =
+    -- number j of slip k + 1
+    cell-is : (k j : ℕ) → k < length ss → j < placeCells → numberOf after k j ≡ getD (placeNumbers (whole ss) (suc k)) j 0
+    cell-is k j h l =
+        let old = placedBy ss xs 1 ps in
+        let a = aside-at ss (legendOf (whole ss)) old (length ss) k j h l (omega arith) in
         by-test (isAside ss (numbers ss) (suc k))
         (λ t.
-        let l : isLaid (suc k) ps ≡ false = which k h ∙ rw t in
-        let o = placed-other ss ps xs 1 k (placeCells * k) once l refl in
-        let z : getD (placedBy ss xs 1 ps) (placeCells * k + 1) 0 ≡ 0 = o .1 ∙ blank k h in (
-          aside-cell ss (legendOf (whole ss)) (placedBy ss xs 1 ps) (length ss) k h (omega arith) ∙ rw (z, t, placeFor),
-          aside-mark ss (legendOf (whole ss)) (placedBy ss xs 1 ps) (length ss) k ∙ z ∙ rw t,
-        ))
+        let o : isLaid (suc k) ps ≡ false = which k h ∙ rw t in
+        let z : numberOf old k 1 ≡ 0 = placed-other ss ps xs 1 k 1 once o (omega arith) ∙ blank k h in
+        a ∙ rw z (ap (λ (ns : List ℕ). getD ns j 0) (aside-numbers (suc k) t)))
         (λ t.
-        let l : isLaid (suc k) ps ≡ true = which k h ∙ rw t in
-        let o = placed-here ss ps xs 1 k (placeCells * k) once l refl (omega arith) in (
-          aside-cell ss (legendOf (whole ss)) (placedBy ss xs 1 ps) (length ss) k h (omega arith) ∙ rw (o .1, t, placeFor) (o .0),
-          aside-mark ss (legendOf (whole ss)) (placedBy ss xs 1 ps) (length ss) k ∙ o .1 ∙ rw t,
-        ))
-
-    -- number j of slip k + 1
-    cell-is : (k j : ℕ) → k < length ss → j < placeCells → getD after (placeCells * k + j) 0 ≡ getD (placeNumbers (whole ss) (suc k)) j 0
-    cell-is k zero h l = rw add-zero (cells k h .0)
-    cell-is k (suc zero) h l = cells k h .1
-    cell-is k (suc (suc j)) h l = absurd (omega arith)
+        let o : isLaid (suc k) ps ≡ true = which k h ∙ rw t in
+        let one : numberOf old k 1 ≡ 1 = placed-here ss ps xs 1 k 1 once o (omega arith) (omega arith) in
+        a ∙ rw one (placed-here ss ps xs 1 k j once o l (omega arith) ∙ ap (λ (ns : List ℕ). getD ns j 0) (kept-numbers (suc k) t)))
 
     pub places-flat : placeCells * length ss ≤ length after → take (placeCells * length ss) after ≡ flatPlaces (whole ss)
     places-flat l =

@@ -18,7 +18,7 @@ use Rattle.greedy.proofs.KeptSizes.{kept-few, legend-small}
 use Rattle.chains.specs.Pieces.{piecesIn}
 use Rattle.chains.specs.Chains.{piecesBy, PiecesAsk}
 use Rattle.chains.specs.Pieces.{PiecesBehind}
-use Rattle.placing.specs.Places.{placedBy, asideBy, PlacesAsk}
+use Rattle.placing.specs.Places.{placedBy, asideBy, PlacesAsk, AsideAsk}
 use Rattle.placing.proofs.PlacesAre.{placed-length, aside-length}
 use Rattle.layout.specs.Layout.{KEPT, PLACES}
 use Rattle.answers.specs.Composing.{placeCells, flatPlaces}
@@ -43,7 +43,7 @@ module _ (w : List ℕ) (k j : ℕ) (left right overs : List ℕ) where
       let e : r ≡ length (piecesHere w k j left right overs) = omega (arith, g .count-is) in
       record { size = g .same ∙ length-replicate {A = ℕ} (2 * maxSlips) 0; are = rw (← e) (g .pieces-are) }
 
--- the part `&mut work[PLACES..PLACES + 400]`, lent and come back
+-- the part `&mut work[PLACES..PLACES + CELLS]`, lent and come back
 abbrev size : ℕ
 size = placeCells * maxSlips
 
@@ -94,12 +94,13 @@ module _ (s es w t xs : List ℕ) (k : ℕ) (a : PlacingAsks s es w t xs k) (w�
     again : mine (back w₁ p₁) ≡ p₁
     again = mine-is (back w₁ p₁) ∙ first .cells
 
-    pub aside-asks : (trayFault s es .number ≡ 0) × (length t < 65535) × (placeCells * length es ≤ length (mine (back w₁ p₁)))
-    aside-asks = (
-      a .tray,
-      omega (arith, ap length (a .legend-is), legend-small s es (a .tray)),
-      omega (arith, few, ap length again, first-length),
-    )
+    pub aside-asks : AsideAsk s es t (mine (back w₁ p₁))
+    aside-asks =
+        record {
+          tray = a .tray;
+          short = omega (arith, ap length (a .legend-is), legend-small s es (a .tray));
+          places = omega (arith, few, ap length again, first-length);
+        }
 
     module _ (p₂ : List ℕ) (e₂ : p₂ ≡ asideBy ss t (mine (back w₁ p₁)) (length es)) where
       second-is : p₂ ≡ asideBy ss (legendOf (whole ss)) (placedBy ss (replicate size 0) 1 (piecesFor counted ss (numbers ss))) (length ss)

@@ -4,7 +4,7 @@ use crate::compose::{self, compose_tray, Composition, Rooms};
 use crate::file::read_tray;
 use crate::find::{self, find_slips, Finding};
 use crate::tray::Tray;
-use crate::Refusal;
+use crate::{Refusal, PLACE_CELLS};
 
 /// Small trays have all their slips and pairs asked for.
 const SMALL: usize = 12;
@@ -58,16 +58,18 @@ fn bytes(letters: &[u8]) -> Vec<usize> {
     letters.iter().map(|&x| usize::from(x)).collect()
 }
 
-/// The sums of legend, joins and places; of each place `width` numbers are told, the slip among them if three.
+/// The numbers of a record of places: a list of numbers has them without the slip.
+const RECORD: usize = 1 + PLACE_CELLS;
+
+/// The sums of legend, joins and places; of each place the last `width` numbers of its record are told.
 fn list_sums(made: &Composition, rooms: [usize; 3], width: usize) -> String {
     let joins: Vec<usize> = made.joins.iter().flat_map(|x| [x.left, x.right, x.overlap]).collect();
-    let record = |(i, x): (usize, &compose::Place)| [i + 1, x.place, usize::from(x.kept)];
+    let record = |(i, x): (usize, &compose::Place)| [i + 1, x.place, usize::from(x.kept), x.compared];
     let records = made.places.iter().enumerate().map(record);
-    let places: Vec<usize> = records.flat_map(|x| x[3 - width..].to_vec()).collect();
-    let marks: &[usize] = if width == 3 {
-        &[MARK_CELL, MARK_CELL, 0]
-    } else {
-        &[MARK_CELL]
+    let places: Vec<usize> = records.flat_map(|x| x[RECORD - width..].to_vec()).collect();
+    let marks: &[usize] = match width {
+        RECORD => &[MARK_CELL, MARK_CELL, 0, MARK_CELL],
+        _ => &[MARK_CELL],
     };
     let legend = Sum::over(&bytes(&made.legend), &[MARK_BYTE], rooms[0]);
     let joins = Sum::over(&joins, &[MARK_CELL], rooms[1]);
@@ -81,17 +83,17 @@ pub fn compose(tray: &Tray, lent: &Lending) -> String {
         work,
         legend,
         joins: joins / 3,
-        places: places / 2,
+        places: places / PLACE_CELLS,
     };
     let outcome = compose_tray(tray, rooms);
     let fault = work_sum(compose::fault_before_c(tray, work), work);
     let answer = composed(&outcome, tray.ends.len());
     let made = outcome.unwrap_or_default();
     let text: String = made.legend.iter().copied().map(char::from).collect();
-    let flat = list_sums(&made, [legend, joins, places], 2);
+    let flat = list_sums(&made, [legend, joins, places], PLACE_CELLS);
     let mut told = format!("C{answer} [{text}]{flat}{fault}");
     if lent.has_records() {
-        let records = list_sums(&made, [legend, joins, places / 2 * 3], 3);
+        let records = list_sums(&made, [legend, joins, RECORD * rooms.places], RECORD);
         told += &format!(" R{answer}{records}{fault}");
     }
     if tray.ends.len() <= SMALL {

@@ -7,9 +7,9 @@ use crate::made::files::{damaged_file, tray_file, BLOTS};
 use crate::made::stops::many_stops;
 use crate::made::texts::{damaged_text, text};
 use crate::made::typed::{many_forms, spoil, typed_slips};
-use crate::made::{near, slips, valid, Chance, SHAPES};
+use crate::made::{near, slips, valid, Chance, Shape, SHAPES};
 use crate::tray::Tray;
-use crate::{FILE_ENDS, MAX_FILE, MAX_SLIP, WORK_CELLS};
+use crate::{FILE_ENDS, MAX_FILE, MAX_SLIP, PLACE_CELLS, WORK_CELLS};
 
 /// A kind of case: what it is, its seed, how many there are, and how the n-th is made.
 struct Kind {
@@ -146,6 +146,12 @@ const KINDS: &[Kind] = &[
         count: 200,
         make: |chance, n| Case::Compose(Tray::of(&stored(chance, [4, 12, 60][n % 3])), WHOLE),
     },
+    Kind {
+        name: "Trays with many slips set aside",
+        seed: 117,
+        count: 300,
+        make: many_aside,
+    },
 ];
 
 /// 200 slips of 10 letters.
@@ -154,6 +160,13 @@ fn full_tray(chance: &mut Chance, n: usize) -> Case {
     let signs = chance.signs(few);
     let all = slips(SHAPES[n % SHAPES.len()], chance, 200, 10, 10, &signs);
     Case::Compose(Tray::of(&all), WHOLE)
+}
+
+/// Long slips and parts of them, of few signs, so that many letters agree at places where the slip does not stand.
+fn many_aside(chance: &mut Chance, n: usize) -> Case {
+    let signs = chance.signs([1, 2, 2, 3][n % 4]);
+    let (count, long) = ([6, 12, 60][n % 3], chance.between(4, MAX_SLIP));
+    Case::Compose(Tray::of(&slips(Shape::Inside, chance, count, 1, long, &signs)), WHOLE)
 }
 
 /// Rooms of about what the outcome needs, some of them one short.
@@ -167,7 +180,7 @@ fn small_rooms(chance: &mut Chance, _: usize) -> Case {
         work,
         room(made.legend.len()),
         room(3 * made.joins.len()),
-        room(2 * all.len()),
+        room(PLACE_CELLS * all.len()),
     );
     Case::Compose(tray, rooms)
 }

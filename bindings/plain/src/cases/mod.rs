@@ -11,6 +11,7 @@
 //!
 //! Every lent buffer is filled with a mark before the call, and behind it a sum over all its cells is told.
 use crate::tray::Tray;
+use crate::PLACE_CELLS;
 
 mod answers;
 mod code;
@@ -27,14 +28,17 @@ const MARK_CELL: usize = 7_777;
 /// What a lent number of 32 bits holds before the call.
 const MARK_NUMBER: usize = 77_777_777;
 
-/// How much is lent for composing: cells, letters, numbers of joins (three a record) and of places (two a record).
+/// How much is lent for composing: cells, letters, numbers of joins (three a record) and of places (`PLACE_CELLS` a record).
 #[derive(Clone, Copy, Debug)]
 pub struct Lending {
     numbers: [usize; 4],
 }
 
+/// The places of 200 slips have so many numbers.
+const PLACES: usize = 200 * PLACE_CELLS;
+
 /// Room for every tray.
-const WHOLE: Lending = lending(32_000, 2_000, 600, 400);
+const WHOLE: Lending = lending(32_000, 2_000, 600, PLACES);
 
 /// Room for every text of the program `find`.
 const WHOLE_LIST: usize = 16_000;
@@ -48,7 +52,7 @@ const fn lending(work: usize, legend: usize, joins: usize, places: usize) -> Len
 impl Lending {
     /// Lists of 200 records, and of 2, are tried as records too.
     fn has_records(&self) -> bool {
-        matches!(self.numbers, [_, _, 600, 400] | [_, _, 6, 4])
+        [2, 200].iter().any(|n| self.numbers[2..] == [3 * n, PLACE_CELLS * n])
     }
 }
 

@@ -1,24 +1,27 @@
 //! The specimen trays of the rules, trays that tell a misreading from the rule, and each limit with its neighbour.
-use super::{lending, Case, Lending, WHOLE, WHOLE_LIST};
+use super::{lending, Case, Lending, PLACES, WHOLE, WHOLE_LIST};
 use crate::by_hand::{COMPOSE, COMPOSE_FILE, SEARCHES, SPECIMENS, TYPED_FILE};
 use crate::made::files::tray_file;
 use crate::tray::Tray;
-use crate::{FILE_ENDS, MAX_FILE, MAX_SLIP, WORK_CELLS};
+use crate::{FILE_ENDS, MAX_FILE, MAX_SLIP, PLACE_CELLS, WORK_CELLS};
+
+/// The places of the compose tray have so many numbers.
+const FIVE: usize = 5 * PLACE_CELLS;
 
 /// What is lent for the compose tray.
 const LENDINGS: &[(&str, Lending)] = &[
-    ("all exact", lending(32_000, 15, 9, 10)),
-    ("all longer", lending(32_050, 40, 33, 25)),
-    ("a work area of 31,999 cells", lending(31_999, 15, 9, 10)),
-    ("a legend of 14", lending(32_000, 14, 9, 10)),
-    ("2 joins", lending(32_000, 15, 8, 10)),
-    ("4 places", lending(32_000, 15, 9, 9)),
-    ("8 before 9", lending(32_000, 14, 8, 9)),
-    ("7 before 8 and 9", lending(31_999, 14, 8, 9)),
+    ("all exact", lending(32_000, 15, 9, FIVE)),
+    ("all longer", lending(32_050, 40, 33, 2 * FIVE + 7)),
+    ("a work area of 31,999 cells", lending(31_999, 15, 9, FIVE)),
+    ("a legend of 14", lending(32_000, 14, 9, FIVE)),
+    ("2 joins", lending(32_000, 15, 8, FIVE)),
+    ("4 places", lending(32_000, 15, 9, FIVE - 1)),
+    ("8 before 9", lending(32_000, 14, 8, FIVE - 1)),
+    ("7 before 8 and 9", lending(31_999, 14, 8, FIVE - 1)),
     ("nothing", lending(0, 0, 0, 0)),
-    ("7 with 200 records of each", lending(31_999, 15, 600, 400)),
-    ("8 with 200 records of each", lending(32_000, 14, 600, 400)),
-    ("2 records of each", lending(32_000, 15, 6, 4)),
+    ("7 with 200 records of each", lending(31_999, 15, 600, PLACES)),
+    ("8 with 200 records of each", lending(32_000, 14, 600, PLACES)),
+    ("2 records of each", lending(32_000, 15, 6, 2 * PLACE_CELLS)),
 ];
 
 /// Texts for the compose tray, and how many cells and numbers are lent.
@@ -133,7 +136,7 @@ pub fn all() -> Vec<Case> {
     ));
     for (name, tray) in limits() {
         cases.extend(named(&name, Case::Compose(tray.clone(), WHOLE)));
-        cases.push(Case::Compose(tray, lending(WORK_CELLS, 0, 600, 400)));
+        cases.push(Case::Compose(tray, lending(WORK_CELLS, 0, 600, PLACES)));
     }
     for case in SEARCHES {
         cases.extend(named(

@@ -34,6 +34,7 @@ impl Buffers {
         let mut place = |_| Place {
             place: number(),
             kept: number(),
+            compared: number(),
         };
         let places = (0..rooms.places).map(&mut place).collect();
         Buffers {
@@ -79,6 +80,7 @@ pub fn place(from: &plain::compose::Place) -> Place {
     Place {
         place: from.place as u16,
         kept: u16::from(from.kept),
+        compared: from.compared as u16,
     }
 }
 

@@ -1,4 +1,4 @@
-use Rattle.placing.proofs.PlacesLoop.{aside-kept, aside-small, aside-put}
+use Rattle.placing.proofs.PlacesLoop.{aside-kept, part-short, place-small, count-small, aside-put}
 use borrow.Author.Needs.{needs}
 use Rattle.placing.proofs.aside_place.Statement.{statement}
 use Rattle.placing.proofs.aside_place.Tie as tie
@@ -6,13 +6,16 @@ use Rattle.placing.proofs.aside_place.Tie as tie
 returns : tie.Need-returns
 returns c = search aside-kept
 
-cast-places : tie.Need-cast-places
-cast-places c = record { fits = search aside-small }
+lowest-place-requires : tie.Need-lowest-place-requires
+lowest-place-requires c κs = (search part-short, search needs)
+
+put-three-requires : tie.Need-put-three-requires
+put-three-requires c κs = (search needs, search place-small, search needs, search count-small)
 
 returns-2 : tie.Need-returns-2
 returns-2 c = search aside-put
 
 pub aside-place-spec : {M : Type 1} → statement M
 aside-place-spec = tie.close (tie.spec (λ c. search needs) (λ c. search needs) (λ c. search needs) (λ c. search needs)
-    (λ c κs. search needs) returns (λ c. search needs) (λ c κs. search needs) (λ c κs. search needs) cast-places (λ c. search needs)
-    (λ c. search needs) (λ c. search needs) (λ c. search needs) returns-2)
+    (λ c κs. search needs) returns (λ c. search needs) (λ c κs. search needs) lowest-place-requires (λ c. search needs) put-three-requires
+    (λ c. search needs) returns-2)

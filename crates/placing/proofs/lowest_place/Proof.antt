@@ -1,47 +1,44 @@
--- Invariants: x stands at none of the places tried, so its lowest place is the one in what begins at `place`; there its first k letters agree.
-use mathlib.Core.Logic.{⊎-elim}
+-- Invariants: x stands at none of the places tried, so its lowest place is the one in what is behind `before` letters; there its letters from k on agree.
 use mathlib.Core.Path.{_≡_}
-use Prim.Native.Nat.{_+_, _-_, _≤_, _<_}
-use lib.ListN.{length, drop}
-use Rattle.greedy.specs.Legends.{lowest}
-use Rattle.placing.proofs.LowestPlace.{Agrees, agree-none, next-agrees, next-short, next-differs, left-whole, left-end}
+use Prim.Native.Nat.{_-_}
+use lib.ListN.{length}
+use Rattle.placing.proofs.LowestPlace.{Came, Agrees, trial-start, trial-place, trial-agrees, trial-differs}
+use Rattle.placing.proofs.LowestPlace.{short-place, short-count, whole-place, whole-count}
 use borrow.Author.Needs.{needs}
 use Rattle.placing.proofs.lowest_place.Statement.{statement}
 use Rattle.placing.proofs.lowest_place.Tie as tie
 
 abbrev Inv-loop : tie.InvT-loop
-Inv-loop x t place₀ k₀ place k =
-    (place < length t) × (k ≤ length x) × (place + k ≤ length t) × (lowest 1 x t ≡ lowest (place + 1) x (drop place t)) × Agrees x t place k
-    × (place ≡ place₀)
+Inv-loop x t before₀ compared₀ k₀ before compared k = Agrees x t before compared k × (before ≡ before₀)
 
 abbrev μ-loop : tie.MeasureT-loop
-μ-loop x t place₀ k₀ place k = length x - k
+μ-loop x t before₀ compared₀ k₀ before compared k = k
 
 abbrev Inv-places : tie.InvT-places
-Inv-places x t place₀ place = (place ≤ length t) × (lowest 1 x t ≡ lowest (place + 1) x (drop place t))
+Inv-places x t before₀ compared₀ before compared = Came x t before compared
 
 abbrev μ-places : tie.MeasureT-places
-μ-places x t place₀ place = length t - place
+μ-places x t before₀ compared₀ before compared = length t - before
+
+places-holds : tie.Need-places-holds Inv-loop μ-loop Inv-places μ-places
+places-holds c = search trial-start
 
 loop-holds : tie.Need-loop-holds Inv-loop μ-loop Inv-places μ-places
-loop-holds c = (search needs, search needs, search needs, search needs, search (agree-none, needs), search needs)
+loop-holds c = (search trial-place, search needs)
 
 places-again : tie.Need-places-again Inv-loop μ-loop Inv-places μ-places
-places-again c = (search needs, search next-short)
-
-places-again-2 : tie.Need-places-again-2 Inv-loop μ-loop Inv-places μ-places
-places-again-2 c = (search needs, search next-differs)
+places-again c = search trial-differs
 
 loop-again : tie.Need-loop-again Inv-loop μ-loop Inv-places μ-places
-loop-again c = (search needs, search needs, search needs, search needs, search next-agrees, search needs)
-
-add-result : tie.Need-add-result Inv-loop μ-loop Inv-places μ-places
-add-result c = ⊎-elim (λ w. search needs) (λ w. search needs) (c .before .if1 .came)
+loop-again c = (search trial-agrees, search needs)
 
 returns : tie.Need-returns Inv-loop μ-loop Inv-places μ-places
-returns c = ⊎-elim (λ w. search left-end) (λ w. search left-whole) (c .before .if1 .came)
+returns c = (search short-place, search short-count)
+
+returns-2 : tie.Need-returns-2 Inv-loop μ-loop Inv-places μ-places
+returns-2 c = (search whole-place, search whole-count)
 
 pub lowest-place-spec : {M : Type 1} → statement M
-lowest-place-spec = tie.close (tie.spec Inv-loop μ-loop Inv-places μ-places (λ c. search needs) loop-holds (λ c. search needs)
-    (λ c. search needs) (λ c. search needs) places-again (λ c. search needs) (λ c. search needs) (λ c. search needs) (λ c. search needs)
-    (λ c. search needs) places-again-2 (λ c. search needs) (λ c. search needs) loop-again add-result returns)
+lowest-place-spec = tie.close (tie.spec Inv-loop μ-loop Inv-places μ-places places-holds (λ c. search needs) (λ c. search needs) loop-holds
+    (λ c. search needs) (λ c. search needs) (λ c. search needs) (λ c. search needs) (λ c. search needs) (λ c. search needs)
+    (λ c. search needs) places-again (λ c. search needs) loop-again (λ c. search needs) returns returns-2)

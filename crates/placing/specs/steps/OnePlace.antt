@@ -6,6 +6,7 @@ use mathlib.Core.Path.{_≡_}
 use mathlib.Core.List.{List}
 use Prim.Native.Nat.{ℕ, _+_, _*_, _≤_, _<_}
 use lib.ListN.{length}
+use Rattle.trays.specs.Limits.{maxLetters}
 use Rattle.trays.specs.Slips.{slipsOf, slip}
 use Rattle.trays.specs.Faults.{trayFault}
 use Rattle.greedy.specs.Legends.{Piece, added}
@@ -30,5 +31,5 @@ pub record PlacedOne (ss : List (List ℕ)) (p : Piece) (here : ℕ) (xs xs′ :
 pub record AsidePlaceAsks (s es t : List ℕ) (i : ℕ) (xs : List ℕ) : Type 0 where
   pub tray : trayFault s es .number ≡ 0
   pub slips : i < length es
-  pub places : placeCells * i + 1 < length xs
-  pub small : length t < 65535
+  pub places : placeCells * i + 2 < length xs
+  pub short : length t ≤ maxLetters

@@ -1,6 +1,6 @@
 -- Joins and places as records, from where composing stages them in the work area w (layout's tables JOINS and PLACES).
 --   joinAt w i  == join i: left slip, right slip, overlap are three numbers from 3 * i on
---   placeAt w i == the place of slip i + 1: its place, and 1 if it was kept, are numbers from placeCells * i on
+--   placeAt w i == the place of slip i + 1: its place, 1 if it was kept, and the letters compared are the numbers from placeCells * i on
 use mathlib.Core.List.{List}
 use Prim.Native.Nat.{ℕ, _+_, _*_}
 use lib.Dec.{eqb}
@@ -14,4 +14,6 @@ abbrev pub joinAt : List ℕ → ℕ → Join
 joinAt w i = record { left = cell w JOINS (3 * i); right = cell w JOINS (3 * i + 1); overlap = cell w JOINS (3 * i + 2) }
 
 abbrev pub placeAt : List ℕ → ℕ → Place
-placeAt w i = record { slip = i + 1; place = cell w PLACES (placeCells * i); kept = eqb (cell w PLACES (placeCells * i + 1)) 1 }
+placeAt w i =
+    let at = placeCells * i in
+    record { slip = i + 1; place = cell w PLACES at; kept = eqb (cell w PLACES (at + 1)) 1; compared = cell w PLACES (at + 2) }
