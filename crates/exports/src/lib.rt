@@ -2,7 +2,7 @@
 ghost use Rattle.exports.specs.Numbers.{SlipExported, PairExported, ReadExported};
 ghost use Rattle.answers.specs.Exported.{ComposeExported, FindExported};
 
-// Composing. A join is three numbers (left slip, right slip, overlap), a place two (the place, and 1 if the slip is kept).
+// Composing. A join is three numbers (left slip, right slip, overlap), a place three (the place, 1 if the slip is kept, and the letters compared to find it).
 // The answer's number, detail, slips, kept slips, kept letters, saved letters, legend letters and joins are eight numbers.
 #[no_mangle]
 pub extern "C" fn kotsghane_compose(

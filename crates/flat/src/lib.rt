@@ -26,7 +26,8 @@ fn copy_cells(work: &[u16], base: usize, n: usize, out: &mut [u16])
     }
 }
 
-// Composes any tray, or refuses it. A join is three numbers (left slip, right slip, overlap), a place two (the place, and 1 if the slip is kept).
+// Composes any tray, or refuses it. A join is three numbers (left slip, right slip, overlap), a place three (the place, 1 if the slip is kept, and the letters
+// compared to find it).
 pub fn compose_flat(
     letters: &[u8],
     ends: &[u16],

@@ -2,11 +2,12 @@
 --   agreeing-cons  == with one letter more in front
 --   agreeing-all, agreeing-few == where x begins y all letters agree, elsewhere not all
 --   agreeing-to    == they agree down to the letter that differs
---   tried-..       == the clauses of `tried`: x stands here, or not; x does not fit
+--   lowest-.., tried-.. == the clauses of both: x stands here, or not; x does not fit
+--   lowest-most    == a place is at most one past the letters
 --   tried-most     == the letters compared are at most those of the slip at each place
-use mathlib.Core.Path.{_≡_, refl, sym, _∙_, ap}
+use mathlib.Core.Path.{_≡_, refl, sym, _∙_}
 use mathlib.Core.Bool.{true, false, true≢false, cond}
-use mathlib.Core.List.{List, [], _∷_, _++_, reverse, reverse-cons}
+use mathlib.Core.List.{List, [], _∷_, reverse, reverse-cons}
 use Prim.Native.Nat.{ℕ, zero, suc, _+_, _-_, _*_, _≤_, _<_}
 use borrow.Author.Tests.{eqb-true, eq-eqb, ne-eqb, lt-ltb, le-ltb, ltb-true, ltb-false}
 use native.Mathlib.Nat.{mul-suc}
@@ -15,11 +16,11 @@ use native.Mathlib.Omega.{arith}
 use lib.Dec.{eqb, ltb}
 use lib.ListN.{length, getD, take, drop, length-reverse}
 use lib.Seq.{length-take-le}
-use Rattle.words.specs.Words.{begins, common}
+use Rattle.words.specs.Words.{begins}
 use Rattle.words.proofs.Tests.{by-test, not-both}
 use Rattle.words.proofs.Strings.{begins-cons, cons-begins, begins-length}
 use Rattle.words.proofs.CommonPrefix.{common-snoc}
-use Rattle.greedy.specs.Legends.{lowest, agreeing, triedAt, tried}
+use Rattle.greedy.specs.Legends.{lowest, agreeing, tried}
 
 agreeing-cons : (a b : ℕ) (x y : List ℕ) → length x ≤ length y →
     agreeing (a ∷ x) (b ∷ y) ≡ cond (eqb (agreeing x y) (length x)) (cond (eqb a b) (suc (length x)) (length x)) (agreeing x y)
@@ -77,6 +78,11 @@ lowest-here p x (y ∷ ys) e = rw (e, lowest)
 pub lowest-next : (p : ℕ) (x t : List ℕ) → 1 ≤ length t → begins x t ≡ false → lowest p x t ≡ lowest (p + 1) x (drop 1 t)
 lowest-next p x [] h e = absurd (omega arith)
 lowest-next p x (y ∷ ys) h e = rw (e, lowest, add-one p)
+
+pub lowest-most : (p : ℕ) (x t : List ℕ) → lowest p x t ≤ p + length t
+lowest-most p x [] = omega arith
+lowest-most p x (y ∷ t) =
+    by-test (begins x (y ∷ t)) (λ e. rw (e, lowest) (omega arith)) (λ e. rw (e, lowest) (omega (arith, lowest-most (suc p) x t)))
 
 short-begins : (x t : List ℕ) → length t < length x → begins x t ≡ false
 short-begins x t h = by-test (begins x t) (λ e. absurd (omega (arith, begins-length x t e))) (λ e. e)

@@ -19,7 +19,7 @@ use lib.ListN.{length, take, drop}
 use Rattle.words.specs.Lists.{each}
 use Rattle.words.specs.Words.{begins, common}
 use Rattle.trays.specs.Slips.{slip}
-use Rattle.trays.specs.Aside.{isAside, kept, counted}
+use Rattle.trays.specs.Aside.{isAside, kept}
 use Rattle.greedy.specs.Joins.{Join, rightOf, leftOf, plainFor}
 
 pub record Piece : Type 0 where

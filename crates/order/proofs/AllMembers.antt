@@ -1,22 +1,17 @@
 -- All slips of a tray as members: the numbers 1, 2, .., which can be sorted.
-use mathlib.Core.Path.{_≡_, refl, ap}
+use mathlib.Core.Path.{_≡_}
 use mathlib.Core.List.{List}
 use Prim.Native.Nat.{ℕ, zero, suc, _+_, _<_}
 use native.Mathlib.Omega.{arith}
 use lib.ListN.{length, getD}
 use Rattle.words.specs.Lists.{upFrom}
 use Rattle.words.proofs.Members.{in-upFrom}
+use Rattle.words.proofs.Runs.{upFrom-at}
 use Rattle.trays.specs.Faults.{trayFault}
 use Rattle.order.specs.Order.{Distinct, Sortable}
 
-pub upFrom-length : (i n : ℕ) → length (upFrom i n) ≡ n
-upFrom-length i zero = refl
-upFrom-length i (suc n) = ap suc (upFrom-length (suc i) n)
-
-pub upFrom-at : (i n k : ℕ) → k < n → k + i ≡ getD (upFrom i n) k 0
-upFrom-at i zero k h = absurd (omega arith)
-upFrom-at i (suc n) zero h = omega arith
-upFrom-at i (suc n) (suc k) h = let r = upFrom-at (suc i) n k (omega arith) in omega arith
+pub member-at : (i n k : ℕ) → k < n → k + i ≡ getD (upFrom i n) k 0
+member-at i n k h = omega (arith, upFrom-at i n k h)
 
 distinct-upFrom : (i n : ℕ) → Distinct (upFrom i n)
 distinct-upFrom i zero = tt

@@ -5,7 +5,7 @@
 --   numberOf xs i j == number j of slip i + 1
 --   put-..        == the numbers of one slip, put: its own, those of another slip, and how many there are
 --   placed-..     == the same for the pieces; aside-.. == for the slips set aside
-use mathlib.Core.Path.{_≡_, refl, sym, _∙_, ap}
+use mathlib.Core.Path.{_≡_, refl, sym, _∙_}
 use mathlib.Core.Bool.{Bool, true, false, false≢true, cond}
 use mathlib.Core.List.{List, [], _∷_}
 use Prim.Native.Nat.{ℕ, zero, suc, _+_, _-_, _*_, _≤_, _<_}

@@ -1,7 +1,7 @@
 -- Places written piece by piece, and slip by slip.
 --   Placing .. q here xs  == q pieces are placed, the next letters go from `here` on, and placing the others completes xs
 use mathlib.Core.Path.{_≡_, refl, sym, _∙_, ap}
-use mathlib.Core.List.{List, [], _∷_}
+use mathlib.Core.List.{List, _∷_}
 use Prim.Native.Nat.{ℕ, suc, _+_, _-_, _*_, _≤_, _<_}
 use borrow.Author.Tests.{eq-eqb, ne-eqb}
 use native.Mathlib.Numerals.{add-one}
@@ -9,11 +9,10 @@ use native.Mathlib.Omega.{arith}
 use lib.ListN.{length, getD, set, length-set, length-drop}
 use Rattle.trays.specs.Limits.{maxSlip}
 use Rattle.trays.specs.Slips.{slipsOf, slip}
+use Rattle.trays.proofs.Accepted.{span-rises}
 use Rattle.trays.proofs.Spans.{accepted-spanned}
-use Rattle.words.specs.Words.{begins}
-use Rattle.words.proofs.Tests.{by-test}
 use Rattle.greedy.specs.Legends.{added, lowest, tried}
-use Rattle.greedy.proofs.Tried.{tried-most}
+use Rattle.greedy.proofs.Tried.{lowest-most, tried-most}
 use Rattle.answers.specs.Composing.{placeCells}
 use Rattle.chains.specs.Pieces.{pieceIn, piecesIn}
 use Rattle.placing.specs.Places.{putNumbers, putPlace, placedBy, asideAt, asideBy, Placeable, PlacesAsk, AsideAsk}
@@ -86,11 +85,6 @@ module _ (s es ps : List ℕ) (n : ℕ) (xs₀ : List ℕ) (a : PlacesAsk s es p
   placing-end q here xs l p = let e : n - q ≡ 0 = omega arith in rw e at (p .done)
 
 -- slips set aside
-lowest-most : (p : ℕ) (x t : List ℕ) → lowest p x t ≤ p + length t
-lowest-most p x [] = omega arith
-lowest-most p x (y ∷ t) =
-    by-test (begins x (y ∷ t)) (λ e. rw (e, lowest) (omega arith)) (λ e. rw (e, lowest) (omega (arith, lowest-most (suc p) x t)))
-
 module _ (s es t : List ℕ) (i : ℕ) (xs : List ℕ) (mark : ℕ) (e : mark ≡ getD xs (placeCells * i + 1) 0) where
   pub aside-kept : (mark ≡ 0 → ⊥) → xs ≡ asideAt (slipsOf s es) t xs i
   aside-kept z = rw (ne-eqb (getD xs (placeCells * i + 1) 0) 0 (λ q. z (e ∙ q)))
@@ -101,6 +95,14 @@ module _ (s es t : List ℕ) (i : ℕ) (xs : List ℕ) (mark : ℕ) (e : mark �
 
 -- what the trial asks, and what its numbers are
 module _ (s es t : List ℕ) (i : ℕ) (xs : List ℕ) (a : AsidePlaceAsks s es t i xs) (part : List ℕ) (h : part ≡ slip (slipsOf s es) (i + 1)) where
+  pub part-some : 1 ≤ length part
+  part-some =
+      rw h (omega (
+        arith,
+        accepted-spanned s es (a .tray) .long (i + 1) (omega arith) (omega (arith, a .slips)),
+        span-rises s es (a .tray) (i + 1) (omega arith) (omega (arith, a .slips)),
+      ))
+
   pub part-short : length part ≤ maxSlip
   part-short = rw h (accepted-spanned s es (a .tray) .short (i + 1) (omega arith) (omega (arith, a .slips)))
 

@@ -5,7 +5,6 @@ ghost use lib.ListN.{length, set};
 ghost use Rattle.trays.specs.Limits.{maxSlip, maxLetters};
 ghost use Rattle.trays.specs.Slips.{slipsOf};
 ghost use Rattle.greedy.specs.Legends.{lowest, tried};
-ghost use Rattle.answers.specs.Composing.{placeCells};
 ghost use Rattle.chains.specs.Pieces.{pieceIn, piecesIn};
 ghost use Rattle.placing.specs.Places.{placedBy, asideAt, asideBy, PlacesAsk, AsideAsk};
 ghost use Rattle.placing.specs.steps.OnePlace.{PutPlaceAsks, PlacedOne, AsidePlaceAsks};
@@ -18,29 +17,38 @@ struct Trial {
     compared: usize,
 }
 
-// The lowest place, from 1, at which `x` stands in `t`; one past the letters if it stands nowhere. At each place that `x` fits its letters are
-// compared from the last one backwards.
+// The lowest place, from 1, at which `x` stands in `t`, or one past the letters if it stands nowhere, and the letters compared to find it. At each place at
+// which `x` fits they are compared from the last one backwards. The last one, where most trials end, is looked at by itself: its loop is a short one.
 fn lowest_place(x: &[u8], t: &[u8]) -> Trial
-    requires { ⌜ (length (now x) ≤ maxSlip) × (length (now t) ≤ maxLetters) ⌝ }
+    requires { ⌜ (1 ≤ length (now x)) × (length (now x) ≤ maxSlip) × (length (now t) ≤ maxLetters) ⌝ }
     ensures { λ r. ⌜ (r .place ≡ lowest 1 (now (x .entry)) (now (t .entry))) × (r .compared ≡ tried (now (x .entry)) (now (t .entry))) ⌝ }
 {
-    let mut before: usize = 0;
-    let mut compared: usize = 0;
+    let n = x.len();
+    let mut end = n;
+    let mut agreed: usize = 0;
+    let last = x[n - 1];
     let place = 'places: loop {
-        if t.len() - before < x.len() {
+        if t.len() < end {
             break 'places t.len() + 1;
         }
-        let mut k = x.len();
-        while 0 < k {
-            k -= 1;
-            compared += 1;
-            if t[before + k] != x[k] {
-                before += 1;
+        if t[end - 1] != last {
+            end += 1;
+            continue 'places;
+        }
+        let mut k: usize = 1;
+        while k < n {
+            if t[end - (k + 1)] != x[n - (k + 1)] {
+                agreed += k;
+                end += 1;
                 continue 'places;
             }
+            k += 1;
         }
-        break 'places before + 1;
+        agreed += n;
+        break 'places end - n + 1;
     };
+    // At each place passed one letter differed.
+    let compared = agreed + (end - n);
     Trial { place, compared }
 }
 

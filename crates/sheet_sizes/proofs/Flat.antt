@@ -17,7 +17,7 @@ use Rattle.trays.specs.Faults.{trayFault}
 use Rattle.trays.proofs.Accepted.{slips-count}
 use Rattle.trays.proofs.Spans.{accepted-spanned}
 use Rattle.greedy.specs.Joins.{Join, join}
-use Rattle.greedy.specs.Composing.{whole, joinsOf, legendOf, placeOf}
+use Rattle.greedy.specs.Composing.{whole, joinsOf, legendOf}
 use Rattle.matching.specs.Moves.{moves}
 use Rattle.matching.specs.Occurrences.{Occurrence, occurrence, occurrences}
 use Rattle.answers.specs.Composing.{outcomeOf, flatJoins, placeCells, flatPlaces}

@@ -8,7 +8,7 @@
 --   composeSheetOf ss     == the `compose` sheet of the slips ss
 --   findSheetOf ss t      == the `find` sheet of the slips ss and the text t
 --   composeLines c es js ps t == a `compose` sheet from numbers: the answer c, the ends es, joins js of three numbers each, places ps of
---                            two numbers a slip, and the legend t
+--                            `placeCells` numbers a slip, and the legend t
 --   findLines n m k ns    == a `find` sheet from numbers: n letters, m moves, k occurrences ns of two numbers each
 --   composeRoom, findRoom == the bytes of the longest sheets
 use mathlib.Core.Bool.{true, false, cond}

@@ -16,7 +16,7 @@ use Rattle.trays.specs.Limits.{workNeed}
 use Rattle.trays.specs.Slips.{slipsOf}
 use Rattle.trays.specs.Faults.{refusal, accepted, row, orElse, firstRow, trayRows}
 use Rattle.trays.proofs.Rows.{by-number}
-use Rattle.matching.specs.Occurrences.{occurrence, occurrences}
+use Rattle.matching.specs.Occurrences.{occurrences}
 use Rattle.answers.specs.declared.Search.{Search}
 use Rattle.answers.specs.Finding as F
 use Rattle.answers.specs.Finding.{textRows, listRow, flatFound}

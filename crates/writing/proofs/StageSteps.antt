@@ -10,7 +10,6 @@ use Rattle.tables.proofs.Tables.{table-take, part-table, part-filled}
 use Rattle.trays.specs.Limits.{maxSlips, workNeed}
 use Rattle.trays.specs.Slips.{slipsOf, numbers}
 use Rattle.trays.specs.Aside.{counted}
-use Rattle.trays.specs.Faults.{trayFault}
 use Rattle.trays.proofs.Accepted.{accepted-tells, slips-count}
 use Rattle.greedy.specs.Legends.{piecesFor}
 use Rattle.greedy.specs.Composing.{whole, legendOf}

@@ -2,7 +2,8 @@
 use Prim.Native.Nat.{_≤_, _-_}
 use Rattle.words.specs.Lists.{upFrom}
 use Rattle.tables.proofs.Tables.{Filling, filling-none, filling-more, filling-all}
-use Rattle.order.proofs.AllMembers.{upFrom-length, upFrom-at}
+use Rattle.words.proofs.Runs.{length-upFrom}
+use Rattle.order.proofs.AllMembers.{member-at}
 use borrow.Author.Needs.{needs}
 use Rattle.order.proofs.fill_members.Statement.{statement}
 use Rattle.order.proofs.fill_members.Tie as tie
@@ -17,10 +18,10 @@ loop-holds : tie.Need-loop-holds Inv-loop μ-loop
 loop-holds c = search (needs, filling-none)
 
 loop-again : tie.Need-loop-again Inv-loop μ-loop
-loop-again c = (search needs, search (filling-more, upFrom-length, upFrom-at))
+loop-again c = (search needs, search (filling-more, length-upFrom, member-at))
 
 returns : tie.Need-returns Inv-loop μ-loop
-returns c = search (filling-all, upFrom-length)
+returns c = search (filling-all, length-upFrom)
 
 pub fill-members-spec : {M : Type 1} → statement M
 fill-members-spec = tie.close (tie.spec Inv-loop μ-loop loop-holds (λ c. search needs) (λ c κs. search needs) (λ c. search needs)

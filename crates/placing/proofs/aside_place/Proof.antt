@@ -1,4 +1,4 @@
-use Rattle.placing.proofs.PlacesLoop.{aside-kept, part-short, place-small, count-small, aside-put}
+use Rattle.placing.proofs.PlacesLoop.{aside-kept, part-some, part-short, place-small, count-small, aside-put}
 use borrow.Author.Needs.{needs}
 use Rattle.placing.proofs.aside_place.Statement.{statement}
 use Rattle.placing.proofs.aside_place.Tie as tie
@@ -7,7 +7,7 @@ returns : tie.Need-returns
 returns c = search aside-kept
 
 lowest-place-requires : tie.Need-lowest-place-requires
-lowest-place-requires c κs = (search part-short, search needs)
+lowest-place-requires c κs = (search part-some, search part-short, search needs)
 
 put-three-requires : tie.Need-put-three-requires
 put-three-requires c κs = (search needs, search place-small, search needs, search count-small)
