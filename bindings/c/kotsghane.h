@@ -33,7 +33,7 @@ enum {
 /* So many numbers make a record of each list. */
 enum {
     KOTSGHANE_JOIN = 3,       /* left slip, right slip, overlap */
-    KOTSGHANE_PLACE = 3,      /* place from 1; 1 if the slip is kept, 0 if set aside; letters compared to find the place, 0 if kept. One record a slip */
+    KOTSGHANE_PLACE = 3,      /* place from 1; 1 if kept, 0 if set aside; letters compared to find the place, 0 if kept. One record a slip, in slip order */
     KOTSGHANE_OCCURRENCE = 2  /* place of the last letter, from 1, and slip */
 };
 
