@@ -5,7 +5,7 @@ use Rattle.matching.specs.Moves.{Few-moves}
 pub record Demands : Type 0 where
   -- one list by both rules; kept letters = saved + legend length; the legend holds every kept slip; at most twice, where no kept slip begins with a stop
   pub third : Demand-3
-  -- there joins, legend and places are as if all overlaps counted
+  -- there joins, legend, places and letters compared are as if all overlaps counted
   pub stop-free : Stop-free
   -- no place is tried at which a slip would not fit, and the count of letters compared fits 16 bits
   pub all-tried : All-tried

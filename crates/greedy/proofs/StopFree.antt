@@ -51,6 +51,7 @@ all-count c h =
       joins-are = e;
       legend-is = rw e;
       places-are = λ i. by-test (isAside (c .slips) (c .members) i) (λ t. rw (t, placeFor, e)) (λ t. rw (t, placeFor, e));
+      compared-are = λ i. rw e;
     }
 
 pub stop-free : Stop-free

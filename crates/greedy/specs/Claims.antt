@@ -4,7 +4,7 @@
 --   bound c t        == the most letters that the kept slips may have if the text t holds them
 --   Greedy c         == what is claimed of all that is composed
 --   Demand-3         == so for every accepted tray
---   AllCount c       == joins, legend and places are as if all overlaps counted
+--   AllCount c       == joins, legend, places and letters compared are as if all overlaps counted
 --   Stop-free        == so where no kept slip begins with a stop
 --   Tried c i        == what is claimed of the trial of places for slip i
 --   All-tried        == so for every slip of an accepted tray
@@ -18,7 +18,7 @@ use Rattle.words.specs.Words.{begins, standsIn, nonEmpty}
 use Rattle.trays.specs.Slips.{slipsOf, slip, stop}
 use Rattle.trays.specs.Faults.{trayFault}
 use Rattle.greedy.specs.Joins.{saved, plainFor}
-use Rattle.greedy.specs.Legends.{legendFor, placeFor}
+use Rattle.greedy.specs.Legends.{legendFor, placeFor, comparedFor}
 use Rattle.greedy.specs.Composing.{Composing, whole, keptOf, joinsOf, walkOf, legendOf, placeOf, comparedOf, keptLetters}
 
 -- Rules: a text holds a slip whose letters stand in it as one stretch. Here: it holds every slip of K.
@@ -54,6 +54,7 @@ pub record AllCount (c : Composing) : Type 0 where
   pub joins-are : joinsOf c ≡ plainFor nonEmpty (c .slips) (keptOf c)
   pub legend-is : legendOf c ≡ legendFor nonEmpty (c .slips) (c .members)
   pub places-are : (i : ℕ) → placeOf c i ≡ placeFor nonEmpty (c .slips) (c .members) i
+  pub compared-are : (i : ℕ) → comparedOf c i ≡ comparedFor nonEmpty (c .slips) (c .members) i
 
 abbrev pub Stop-free : Type 0
 Stop-free =

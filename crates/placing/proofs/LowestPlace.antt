@@ -82,20 +82,29 @@ module _ (x t : List ℕ) where
           behind = rw (here, there) (begins-cons _ _ (drop (length x - k) x) (drop (e - k) t) (sym q) (a .behind));
         }
 
+    -- the same in what is left of t
+    abbrev p : ℕ
+    p = e - length x
+
+    abbrev y : List ℕ
+    y = drop p t
+
+    long : length x ≤ length y
+    long = omega (arith, length-drop p t, a .fits, a .came .start)
+
+    behind-here : begins (drop (suc j) x) (drop (suc j) y) ≡ true
+    behind-here =
+        let q : suc j ≡ length x - k = omega arith in
+        let r : p + (length x - k) ≡ e - k = omega (arith, a .came .start) in
+        rw (q, drop-drop (length x - k) p t, r) (a .behind)
+
+    letter-here : getD y j 0 ≡ getD t (e - (k + 1)) 0
+    letter-here = let r : p + j ≡ e - (k + 1) = omega (arith, a .came .start) in getD-drop p t j 0 ∙ ap (λ (n : ℕ). getD t n 0) r
+
     -- one letter differs: on to the next place
     pub trial-differs : length x ≤ maxSlip → (getD t (e - (k + 1)) 0 ≡ getD x (length x - (k + 1)) 0 → ⊥) → Came x t (e + 1) (c + k)
     trial-differs m d =
-        let p : ℕ = e - length x in
-        let y : List ℕ = drop p t in
-        let long : length x ≤ length y = omega (arith, length-drop p t, a .fits, a .came .start) in
-        let agree : begins (drop (suc j) x) (drop (suc j) y) ≡ true =
-        let q : suc j ≡ length x - k = omega arith in
-        let r : p + (length x - k) ≡ e - k = omega (arith, a .came .start) in
-        rw (q, drop-drop (length x - k) p t, r) (a .behind) in
-        let differ : getD x j 0 ≡ getD y j 0 → ⊥ =
-        let r : p + j ≡ e - (k + 1) = omega (arith, a .came .start) in
-        λ q. d (sym (q ∙ getD-drop p t j 0 ∙ ap (λ (n : ℕ). getD t n 0) r)) in
-        let f : Differs x y j = agreeing-to x y j long (omega arith) agree differ in
+        let f : Differs x y j = agreeing-to x y j long (omega arith) behind-here (λ q. d (sym (q ∙ letter-here))) in
         let some : 1 ≤ length y = omega (arith, long) in
         let next : p + 1 ≡ e + 1 - length x = omega (arith, a .came .start) in
         let on : drop 1 y ≡ drop (e + 1 - length x) t = drop-drop 1 p t ∙ rw next in

@@ -1,3 +1,3 @@
--- Places as pairs of numbers.
+-- Places as numbers.
 pub mod Places
 pub mod steps
