@@ -128,4 +128,4 @@ module _ (s es : List ℕ) (acc : trayFault s es .number ≡ 0) where
       (λ e. rw e (omega arith))
 
 pub all-tried : All-tried
-all-tried s es acc i p l = record { fits = place-fits s es acc i p l; small = omega (arith, compared-most s es acc i p l) }
+all-tried s es acc i p l = record { fits = omega (arith, place-fits s es acc i p l); small = omega (arith, compared-most s es acc i p l) }
