@@ -7,8 +7,24 @@ use plain::tray::Tray;
 use plain::SIGNS;
 use std::hint::black_box;
 
+/// A quarter of the slips has ten letters, of which many share the first seven; the others are beginnings of these, of eight
+/// or nine letters, and so set aside.
+fn hoard(chance: &mut Chance, count: usize) -> Slips {
+    let long = slips(Shape::Beginnings, chance, count / 4, 10, 10, &SIGNS[1..]);
+    let mut all = long.clone();
+    while all.len() < count {
+        let letters = chance.between(8, 9);
+        all.push(long[chance.below(long.len())][..letters].to_vec());
+    }
+    chance.shuffle(&mut all);
+    all
+}
+
 fn family(name: &str, count: usize) -> Slips {
     let mut chance = Chance::new(1);
+    if name == "hoard" {
+        return hoard(&mut chance, count);
+    }
     let (shape, signs) = match name {
         "random" => (Shape::Random, &SIGNS[1..]),
         "two-letters" => (Shape::Random, &b"AB"[..]),
