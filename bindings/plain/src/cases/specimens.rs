@@ -47,6 +47,15 @@ fn cut(letters: usize, most: usize) -> Tray {
     Tray::of(&starts.map(slip).collect::<Vec<Vec<u8>>>())
 }
 
+/// The longest slips, each a letter and then As, and one that stands in the last of them: at most places half of its letters
+/// or more agree.
+fn runs() -> Tray {
+    let run = |first: u8, letters: usize| [&[first][..], &vec![b'A'; letters - 1]].concat();
+    let mut all: Vec<Vec<u8>> = (b'B'..=b'Z').map(|first| run(first, MAX_SLIP)).collect();
+    all.push(run(b'Z', MAX_SLIP / 2));
+    Tray::of(&all)
+}
+
 /// Each limit of a tray, and one more.
 fn limits() -> Vec<(String, Tray)> {
     let slips = |n: usize, letters: usize| (format!("{n} slips"), cut(n * letters, letters));
@@ -138,6 +147,7 @@ pub fn all() -> Vec<Case> {
         cases.extend(named(&name, Case::Compose(tray.clone(), WHOLE)));
         cases.push(Case::Compose(tray, lending(WORK_CELLS, 0, 600, PLACES)));
     }
+    cases.extend(named("many letters compared", Case::Compose(runs(), WHOLE)));
     for case in SEARCHES {
         cases.extend(named(
             case.name,
