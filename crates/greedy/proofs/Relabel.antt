@@ -26,7 +26,8 @@ use Rattle.trays.specs.Slips.{slip, total}
 use Rattle.trays.specs.Aside.{asideFor, isAside, kept}
 use Rattle.greedy.specs.Joins.{Join, join, rightOf, leftOf, lastFrom, lastOf, free, arc, arcs, firstArc, takeArc, takeArcs, plainFor, saved}
 use Rattle.greedy.specs.Walk.{beginnings, sooner, waiting, behind, visitSlip, visit, walkFrom, walkFor}
-use Rattle.greedy.specs.Legends.{Piece, piece, overlapAfter, chainFrom, chainAt, pieces, added, spelled, piecesFor, legendFor, placeIn, placeFor, comparedFor}
+use Rattle.greedy.specs.Legends.{Piece, piece, overlapAfter, chainFrom, chainAt, pieces, added, spelled, piecesFor, legendFor}
+use Rattle.greedy.specs.Legends.{placeIn, placeFor, comparedFor}
 
 pub record Renumbers (f : ℕ → ℕ) (ss ss′ : List (List ℕ)) (K : List ℕ) : Type 0 where
   pub none : f 0 ≡ 0

@@ -119,7 +119,9 @@ module _ (s es : List ℕ) (acc : trayFault s es .number ≡ 0) where
         few = omega (arith, F .slips);
         rise = λ i h. omega (arith, span-rises s es acc (suc i) (omega arith) h);
         small = λ i h. omega (arith, accepted-spanned s es acc .fits (suc i) h);
-        placed = λ i h. omega (arith, places-at ss i 0 (placeCells * i) (omega arith) (omega arith) (omega arith), F .places (suc i) (omega arith) (omega arith));
+        placed = λ i h.
+            let at = places-at ss i 0 (placeCells * i) (omega arith) (omega arith) (omega arith) in
+            omega (arith, at, F .places (suc i) (omega arith) (omega arith));
         places = omega (arith, places-length ss);
       }
 
