@@ -18,13 +18,15 @@ use Rattle.trays.specs.declared.Refusal.{Refusal}
 use Rattle.trays.specs.declared.Pair.{Pair}
 use Rattle.trays.specs.declared.Span.{Span}
 use Rattle.trays.specs.declared.Located.{Located}
+use Rattle.trays.specs.Limits.{maxSlip}
 use Rattle.trays.specs.Slips.{slipsOf, slip, spanOf}
 use Rattle.trays.specs.Aside.{counted}
 use Rattle.trays.specs.Faults.{refusal, accepted, orElse, firstRow, trayRows, trayFault, slipRow, slipFault, pairRow, pairFault}
 use Rattle.trays.specs.Answers.{stretchOf, stretchStart, stretchEnd, Stretch, locatedOf, pairOf}
 use Rattle.trays.proofs.Rows.{or-zero, or-some, or-assoc, both-silent, by-number, rows-append}
 use Rattle.trays.proofs.Accepted.{accepted-tells}
-use Rattle.spans.proofs.Stretches.{slip-small, part-rises, part-fits, part-is}
+use Rattle.trays.proofs.Spans.{accepted-spanned}
+use Rattle.spans.proofs.Stretches.{part-rises, part-fits, part-is}
 
 pub request-zero : (es : List ℕ) (i : ℕ) (r : Refusal) → r ≡ refusal 10 i → i ≡ 0 → r ≡ slipRow es i
 request-zero es i r q e = q ∙ rw (eq-eqb i 0 e)
@@ -199,7 +201,7 @@ module _ (s es : List ℕ) (i j : ℕ) (f : Refusal) (e : f ≡ pairFault s es i
       pub pair-small : n < 2 ^ 32
       pair-small =
           let t = pair-tells in
-          let l : length b ≤ 2000 = rw hb (slip-small s es j (t .0) (t .3) (t .4)) in
+          let l : length b ≤ maxSlip = rw hb (accepted-spanned s es (t .0) .short j (t .3) (t .4)) in
           omega (arith, overlapFor-fits counted a b)
 
       pub pair-found : _≡_ {A = Pair} (record { number = f .number; detail = f .detail; letters = n }) (pairOf s es i j)

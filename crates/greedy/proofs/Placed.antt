@@ -25,7 +25,7 @@ use Rattle.trays.specs.Limits.{maxSlips, maxSlip, maxLetters}
 use Rattle.trays.specs.Slips.{slip, numbers}
 use Rattle.trays.specs.Aside.{asideFor, isAside, counted}
 use Rattle.trays.specs.Faults.{trayFault}
-use Rattle.trays.proofs.Accepted.{accepted-tells, slips-count, span-rises}
+use Rattle.trays.proofs.Accepted.{accepted-tells, slips-count}
 use Rattle.trays.proofs.Kept.{kept-in}
 use Rattle.trays.proofs.Spans.{accepted-spanned}
 use Rattle.greedy.specs.Legends.{piecesFor, lowest, placeIn, placeFor}
@@ -44,9 +44,6 @@ lowest-fits p x (y ∷ ys) h =
 
 module _ (s es : List ℕ) (acc : trayFault s es .number ≡ 0) where
   open TraySlips (traySlips s es) using (ss, K)
-
-  some : (i : ℕ) → 1 ≤ i → i ≤ length es → 1 ≤ length (slip ss i)
-  some i p l = omega (arith, accepted-spanned s es acc .long i p l, span-rises s es acc i p l)
 
   -- it falls from a slip to one that sets it aside
   abbrev left : ℕ → ℕ
@@ -114,10 +111,10 @@ module _ (s es : List ℕ) (acc : trayFault s es .number ≡ 0) where
       (λ e.
       let r = laid i (kept-in ss (numbers ss) (upFrom-in 1 (length ss) i p (omega (arith, slips-count s es))) e) in
       let k = placeIn ss i 1 (piecesFor counted ss (numbers ss)) - 1 in
-      rw (e, placeFor) (omega (arith, r .0, some i p l, begins-length (slip ss i) (drop k (legendOf (whole ss))) (r .1), length-drop k (legendOf (whole ss)))))
+      rw (e, placeFor) (omega (arith, r .0, accepted-spanned s es acc .some i p l, begins-length (slip ss i) (drop k (legendOf (whole ss))) (r .1), length-drop k (legendOf (whole ss)))))
 
   pub place-most : (i : ℕ) → 1 ≤ i → i ≤ length es → placeOf (whole ss) i ≤ length (legendOf (whole ss))
-  place-most i p l = omega (arith, place-fits i p l, some i p l)
+  place-most i p l = omega (arith, place-fits i p l, accepted-spanned s es acc .some i p l)
 
   compared-most : (i : ℕ) → 1 ≤ i → i ≤ length es → comparedOf (whole ss) i ≤ maxSlip * maxLetters
   compared-most i p l =

@@ -1,24 +1,21 @@
 -- Members of a tray, where they stand and the nodes of their letters.
---   slip-length      == a slip has as many letters as its stretch
---   spans-apart      == of two slips the lower ends where the higher starts, or before
 --   member-..        == a member, its stretch and its nodes, in the work area of an automaton
--- The ends rise, and a slip starts at the end before it. Letter c of a member has the node of its first c + 1 letters, so its last letter has the
--- node of the whole.
+-- Letter c of a member has the node of its first c + 1 letters, so its last letter has the node of the whole.
 use mathlib.Core.Path.{_≡_, sym, ap, _∙_}
 use mathlib.Core.List.{List}
-use Prim.Native.Nat.{ℕ, zero, suc, _+_, _-_, _≤_, _<_}
+use Prim.Native.Nat.{ℕ, suc, _+_, _-_, _≤_, _<_}
 use native.Mathlib.Decide.{ℕ-discrete}
 use native.Mathlib.Omega.{arith}
-use lib.ListN.{length, length-take, length-drop}
+use lib.ListN.{length}
 use lib.Seq.{take-all}
 use Rattle.words.proofs.Members.{In}
 use Rattle.words.proofs.Picks.{getD-in}
 use Rattle.trays.specs.Limits.{maxSlips, maxLetters}
 use Rattle.trays.specs.Slips.{slipsOf, slip, startOf, endOf}
-use Rattle.trays.specs.Faults.{trayFault}
 use Rattle.trays.specs.Slips.{spanOf}
 use Rattle.trays.specs.declared.Span.{Span}
-use Rattle.trays.proofs.Accepted.{accepted-tells, span-rises, span-fits, span-slip}
+use Rattle.trays.proofs.Accepted.{accepted-tells}
+use Rattle.trays.proofs.Spans.{accepted-spanned}
 use Rattle.tables.specs.Tables.{Got}
 use Rattle.tables.proofs.Tables.{table-at}
 use Rattle.matching.specs.Nodes.{string, IsNode, Num}
@@ -28,22 +25,6 @@ use Rattle.layout.specs.Tables.{cell, members}
 use Rattle.layout.specs.Numbered.{patternsIn, Numbered}
 use Rattle.layout.proofs.Heads.{members-length}
 use Rattle.heads.specs.steps.Heads.{Among}
-
-module _ (s es : List ℕ) (acc : trayFault s es .number ≡ 0) where
-  pub slip-length : (i : ℕ) → 1 ≤ i → i ≤ length es → length (slip (slipsOf s es) i) ≡ endOf es i - startOf es i
-  slip-length i h l =
-      rw (span-slip s es acc i h l, length-take, length-drop) (omega (arith, span-fits s es acc i h l))
-
-  pub slip-end : (i : ℕ) → 1 ≤ i → i ≤ length es → startOf es i + length (slip (slipsOf s es) i) ≡ endOf es i
-  slip-end i h l = omega (arith, slip-length i h l, span-rises s es acc i h l)
-
-  pub spans-apart : (i r : ℕ) → 1 ≤ i → i < r → r ≤ length es → endOf es i ≤ startOf es r
-  spans-apart i zero h k l = absurd (omega arith)
-  spans-apart i (suc r) h k l =
-      elim (ℕ-discrete i r) [
-        | yes e ↦ rw e (omega arith)
-        | no ne ↦ omega (arith, spans-apart i r h (omega arith) (omega arith), span-rises s es acc r (omega arith) (omega arith))
-      ]
 
 -- a node with a letter
 pub node-num : (ps : List (List ℕ)) {v : ℕ} {x : List ℕ} → IsNode ps v x → 1 ≤ length x → Num ps v
@@ -68,15 +49,15 @@ module _ {s es : List ℕ} {n count : ℕ} {w : List ℕ} (N : Numbered s es n c
   in-member i m =
       let (h, l) = N .real i m in
       let acc = N .accepted in
-      let z : startOf es i + length (slip (slipsOf s es) i) ≡ endOf es i = slip-end s es acc i h l in
+      let span = accepted-spanned s es acc in
       record {
         among = m;
         some = h;
         most = l;
         few = omega (arith, accepted-tells s es acc .few);
-        letters = omega (arith, span-rises s es acc i h l);
-        size = z;
-        fits = omega (arith, span-fits s es acc i h l, accepted-tells s es acc .small);
+        letters = span .some i h l;
+        size = span .long i h l;
+        fits = span .fits i l;
       }
 
   pub got-member : {j i : ℕ} → Got w MEMBERS j i → j < n → Member s es n w i

@@ -21,7 +21,8 @@ use Rattle.layout.specs.Staging.{keptIn}
 use Rattle.layout.proofs.Frames.{kept-lower, members-kept, automaton-kept}
 use Rattle.kept_slips.specs.steps.Kept.{KeptFound}
 use Rattle.heads.proofs.Threading.{in-drop, drop-here, drop-later}
-use Rattle.heads.proofs.MemberNodes.{Member, in-member, spans-apart}
+use Rattle.trays.proofs.Spans.{accepted-spanned}
+use Rattle.heads.proofs.MemberNodes.{Member, in-member}
 
 module _ {s es : List ℕ} {n k count : ℕ} {w : List ℕ} (S : KeptFound s es n k count w) where
   pub kept-length : length (keptIn w k) ≡ k
@@ -48,7 +49,7 @@ module _ {s es : List ℕ} {n k count : ℕ} {w : List ℕ} (S : KeptFound s es 
     kept-apart {r} m =
         let l = drop-later (keptIn w k) j (j + 1) i refl (rw kept-length h) got-is kept-ascending m in
         let x = kept-member r (in-drop (j + 1) (keptIn w k) m) in
-        (l, spans-apart s es (S .automaton .branched .numbered .accepted) i r (got-kept .some) l (x .most), x)
+        (l, accepted-spanned s es (S .automaton .branched .numbered .accepted) .apart i r l (x .most), x)
 
 pub kept-same : {w w′ : List ℕ} {k : ℕ} → k ≤ 200 → SameBelow STARTS w w′ → keptIn w′ k ≡ keptIn w k
 kept-same {w} {w′} {k} h b = table-same w w′ KEPT k (b .same) (λ i l. b .cells (KEPT + i) (omega arith))

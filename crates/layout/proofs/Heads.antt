@@ -7,13 +7,14 @@ use mathlib.Core.Path.{_≡_, refl}
 use mathlib.Core.List.{List, [], _∷_, List·Memᴰ·head, List·Memᴰ·tail}
 use Prim.Native.Nat.{ℕ, _+_, _≤_, _<_}
 use native.Mathlib.Omega.{arith}
-use lib.ListN.{length, length-take, length-drop}
+use lib.ListN.{length}
 use Rattle.words.specs.Lists.{headOr}
 use Rattle.words.specs.Words.{same}
 use Rattle.words.proofs.Members.{In, in-those}
 use Rattle.trays.specs.Limits.{maxSlips}
 use Rattle.trays.specs.Slips.{slipsOf, slip}
-use Rattle.trays.proofs.Accepted.{accepted-tells, span-rises, span-fits, span-slip}
+use Rattle.trays.proofs.Accepted.{accepted-tells}
+use Rattle.trays.proofs.Spans.{accepted-spanned}
 use Rattle.tables.proofs.Tables.{table-length}
 use Rattle.matching.specs.Nodes.{string, Num}
 use Rattle.layout.specs.Layout.{MEMBERS, HEAD, TWIN, MARK}
@@ -45,8 +46,7 @@ module _ {s es : List ℕ} {n count : ℕ} {w : List ℕ} (N : Numbered s es n c
   pub member-letters : (i : ℕ) → In i (members w n) → 1 ≤ length (slip (slipsOf s es) i)
   member-letters i m =
       let (h, l) = N .real i m in
-      let acc = N .accepted in
-      rw (span-slip s es acc i h l, length-take, length-drop) (omega (arith, span-rises s es acc i h l, span-fits s es acc i h l))
+      accepted-spanned s es (N .accepted) .some i h l
 
   pub member-some : (i : ℕ) → In i (members w n) → 1 ≤ i
   member-some i m = N .real i m .0

@@ -8,12 +8,11 @@ use mathlib.Core.List.{List, [], _∷_}
 use Prim.Native.Nat.{ℕ, zero, suc, _+_, _-_, _≤_, _<_}
 use native.Mathlib.Numerals.{sub-one}
 use native.Mathlib.Omega.{arith}
-use lib.ListN.{length, getD, take, drop, length-take, length-drop}
+use lib.ListN.{length, getD, take, drop}
 use Rattle.words.specs.Words.{common}
 use Rattle.words.proofs.CommonPrefix.{common-at-most}
-use Rattle.trays.specs.Slips.{slip, slipsOf, startOf, endOf}
-use Rattle.trays.specs.Faults.{trayFault}
-use Rattle.trays.proofs.Accepted.{accepted-tells, span-slip}
+use Rattle.trays.specs.Slips.{slip, slipsOf}
+use Rattle.trays.proofs.Spans.{accepted-spanned}
 use Rattle.tables.specs.Tables.{Put, table}
 use Rattle.tables.proofs.Tables.{Filling, filling-more, cells-below, part-table, table-length}
 use Rattle.order.specs.Order.{commons, CommonAt, Within, Members}
@@ -48,11 +47,6 @@ module _ (n : ℕ) (M : List ℕ) (i m : ℕ) (t : Within n M) (h : i < length M
   pub before-most : m ≤ n
   before-most = member-most n M (i - 1) m t (omega arith) e
 
-slip-small : (s es : List ℕ) (i : ℕ) → trayFault s es .number ≡ 0 → 1 ≤ i → i ≤ length es → length (slip (slipsOf s es) i) < 65536
-slip-small s es i a l h =
-    rw (span-slip s es a i l h)
-    (omega (arith, length-take (endOf es i - startOf es i) (drop (startOf es i) s), length-drop (startOf es i) s, accepted-tells s es a .small))
-
 pub common-next :
     (s es M : List ℕ) (i a b r : ℕ) (x y : List ℕ) → Members s es M → i < length M → (i ≡ 0 → ⊥) → a ≡ getD M (i - 1) 0 → b ≡ getD M i 0
     → x ≡ slip (slipsOf s es) a → y ≡ slip (slipsOf s es) b → r ≡ common x y → CommonAt (slipsOf s es) M i r
@@ -65,7 +59,7 @@ common-next s es M i a b r x y o h n u v q w e =
           omega (
             arith,
             common-at-most (slip ss a) (slip ss b),
-            slip-small s es b (o .accepted) (member-least (length es) M i b (o .within) h v)
+            accepted-spanned s es (o .accepted) .short b (member-least (length es) M i b (o .within) h v)
                 (member-most (length es) M i b (o .within) h v),
           );
     }

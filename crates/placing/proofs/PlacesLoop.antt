@@ -9,7 +9,6 @@ use native.Mathlib.Omega.{arith}
 use lib.ListN.{length, getD, set, length-set, length-drop}
 use Rattle.trays.specs.Limits.{maxSlip}
 use Rattle.trays.specs.Slips.{slipsOf, slip}
-use Rattle.trays.proofs.Accepted.{span-rises}
 use Rattle.trays.proofs.Spans.{accepted-spanned}
 use Rattle.greedy.specs.Legends.{added, lowest, tried}
 use Rattle.greedy.proofs.Tried.{lowest-most, tried-most}
@@ -96,12 +95,7 @@ module _ (s es t : List ℕ) (i : ℕ) (xs : List ℕ) (mark : ℕ) (e : mark �
 -- what the trial asks, and what its numbers are
 module _ (s es t : List ℕ) (i : ℕ) (xs : List ℕ) (a : AsidePlaceAsks s es t i xs) (part : List ℕ) (h : part ≡ slip (slipsOf s es) (i + 1)) where
   pub part-some : 1 ≤ length part
-  part-some =
-      rw h (omega (
-        arith,
-        accepted-spanned s es (a .tray) .long (i + 1) (omega arith) (omega (arith, a .slips)),
-        span-rises s es (a .tray) (i + 1) (omega arith) (omega (arith, a .slips)),
-      ))
+  part-some = rw h (accepted-spanned s es (a .tray) .some (i + 1) (omega arith) (omega (arith, a .slips)))
 
   pub part-short : length part ≤ maxSlip
   part-short = rw h (accepted-spanned s es (a .tray) .short (i + 1) (omega arith) (omega (arith, a .slips)))

@@ -3,11 +3,11 @@ use mathlib.Core.Path.{_≡_, refl, sym}
 use mathlib.Core.List.{List}
 use Prim.Native.Nat.{ℕ, zero, suc, _-_, _≤_}
 use native.Mathlib.Omega.{arith}
-use lib.ListN.{length, getD, take, drop, length-take, length-drop}
+use lib.ListN.{length, getD, take, drop}
 use Rattle.trays.specs.declared.Span.{Span}
-use Rattle.trays.specs.Slips.{slipsOf, slip, startOf, spanOf}
+use Rattle.trays.specs.Slips.{slipsOf, slip, spanOf}
 use Rattle.trays.specs.Faults.{trayFault}
-use Rattle.trays.proofs.Accepted.{accepted-tells, span-slip, span-rises, span-fits}
+use Rattle.trays.proofs.Accepted.{span-slip, span-rises, span-fits}
 
 -- where a slip stands
 pub span-first : (es : List ℕ) (i e : ℕ) → i ≡ 1 → e ≡ getD es (i - 1) 0 → _≡_ {A = Span} (record { start = 0; end = e }) (spanOf es i)
@@ -32,8 +32,3 @@ module _ (s es : List ℕ) (i : ℕ) (p : Span) (h : p ≡ spanOf es i) (acc : t
 
   pub part-is : take (p .end - p .start) (drop (p .start) s) ≡ slip (slipsOf s es) i
   part-is = rw h (sym (span-slip s es acc i one most))
-
-pub slip-small : (s es : List ℕ) (i : ℕ) → trayFault s es .number ≡ 0 → 1 ≤ i → i ≤ length es → length (slip (slipsOf s es) i) ≤ 2000
-slip-small s es i acc one most =
-    rw (span-slip s es acc i one most, length-take)
-    (omega (arith, accepted-tells s es acc .small, length-drop (startOf es i) s))

@@ -1,5 +1,6 @@
 -- Where the slips of an accepted tray stand.
---   Spanned ss es     == the slips ss stand one behind the other at the ends es: each within the limit of a slip, all within that of a tray
+--   Spanned ss es     == the slips ss stand one behind the other at the ends es: each has a letter and is within the limit of a slip, all are
+--                        within that of a tray
 --   accepted-spanned  == those of an accepted tray do
 --   span-place        == a letter's place is below the limit
 --   span-one          == a place is that of one letter of one slip
@@ -24,6 +25,7 @@ use Rattle.trays.proofs.Accepted.{accepted-tells, end-at, span-rises, s
 
 pub record Spanned (ss : List (List ℕ)) (es : List ℕ) : Type 0 where
   pub long : (i : ℕ) → 1 ≤ i → i ≤ length es → startOf es i + length (slip ss i) ≡ endOf es i
+  pub some : (i : ℕ) → 1 ≤ i → i ≤ length es → 1 ≤ length (slip ss i)
   pub short : (i : ℕ) → 1 ≤ i → i ≤ length es → length (slip ss i) ≤ maxSlip
   pub apart : (i k : ℕ) → i < k → k ≤ length es → endOf es i ≤ startOf es k
   pub fits : (i : ℕ) → i ≤ length es → endOf es i ≤ maxLetters
@@ -45,6 +47,9 @@ module _ (s es : List ℕ) (acc : trayFault s es .number ≡ 0) where
   long : (i : ℕ) → 1 ≤ i → i ≤ length es → startOf es i + length (slip (slipsOf s es) i) ≡ endOf es i
   long i p l = rw (span-slip s es acc i p l, length-take, length-drop) (omega (arith, span-rises s es acc i p l, span-fits s es acc i p l))
 
+  some : (i : ℕ) → 1 ≤ i → i ≤ length es → 1 ≤ length (slip (slipsOf s es) i)
+  some i p l = omega (arith, long i p l, span-rises s es acc i p l)
+
   short : (i : ℕ) → 1 ≤ i → i ≤ length es → length (slip (slipsOf s es) i) ≤ maxSlip
   short zero p l = absurd (omega arith)
   short (suc k) p l = omega (arith, long (suc k) p l, end-at es k, short-at maxSlip 1 0 es (omega arith) (accepted-tells s es acc .short) k l)
@@ -62,7 +67,7 @@ module _ (s es : List ℕ) (acc : trayFault s es .number ≡ 0) where
   fits (suc k) l = omega (arith, span-fits s es acc (suc k) (omega arith) l, accepted-tells s es acc .small)
 
   pub accepted-spanned : Spanned (slipsOf s es) es
-  accepted-spanned = record { long = long; short = short; apart = apart; fits = fits }
+  accepted-spanned = record { long = long; some = some; short = short; apart = apart; fits = fits }
 
 module _ {ss : List (List ℕ)} {es : List ℕ} (S : Spanned ss es) where
   pub span-place : (i e : ℕ) → 1 ≤ i → i ≤ length es → e < length (slip ss i) → startOf es i + e < maxLetters
