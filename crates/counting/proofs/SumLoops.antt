@@ -6,9 +6,10 @@ use native.Mathlib.Numerals.{add-one}
 use native.Mathlib.Omega.{arith}
 use lib.ListN.{length, getD, take}
 use lib.Seq.{take-suc}
+use Rattle.trays.specs.Limits.{maxSlip}
 use Rattle.trays.specs.Slips.{slipsOf, slip, total}
 use Rattle.trays.specs.Faults.{trayFault}
-use Rattle.spans.proofs.Stretches.{slip-small}
+use Rattle.trays.proofs.Spans.{accepted-spanned}
 use Rattle.counting.specs.steps.Counting.{thirds, KeptReal}
 
 total-more : (ss : List (List ℕ)) (K : List ℕ) (i : ℕ) → total ss (K ++ (i ∷ [])) ≡ total ss K + length (slip ss i)
@@ -20,8 +21,8 @@ module _ (s es xs : List ℕ) (k i sum slip′ : ℕ) (part : List ℕ) (a : Kep
   kept-asks = let r = a .real i l in rw (v .0) (a .tray, r .0, r .1)
 
   module _ (e : part ≡ slip (slipsOf s es) slip′) (b : sum ≤ 2000 * i) where
-    small : length part ≤ 2000
-    small = let q = kept-asks in rw e (slip-small s es slip′ (q .0) (q .1) (q .2))
+    small : length part ≤ maxSlip
+    small = let q = kept-asks in rw e (accepted-spanned s es (q .0) .short slip′ (q .1) (q .2))
 
     pub kept-fits : sum + length part < 2 ^ 64
     kept-fits = omega (arith, small, a .few)

@@ -7,7 +7,7 @@ use mathlib.Core.Path.{_≡_, refl, sym, ap, _∙_}
 use mathlib.Core.Bool.{Bool}
 use mathlib.Core.Logic.{inl, inr}
 use mathlib.Core.List.{List, [], _∷_, map, List·Memᴰ·head, Memᴰ·cast}
-use Prim.Native.Nat.{ℕ, zero, suc, _≤_, _<_}
+use Prim.Native.Nat.{ℕ, suc, _≤_, _<_}
 use native.Mathlib.Decide.{ℕ-discrete}
 use native.Mathlib.Omega.{arith}
 use lib.ListN.{length, getD, take, length-append, length-map}
@@ -16,6 +16,7 @@ use Rattle.words.proofs.Tests.{tell, not-both}
 use Rattle.words.proofs.Members.{In, Asc, Less, Sorts, asc-one}
 use Rattle.words.proofs.Picks.{getD-in, in-getD, asc-differ}
 use Rattle.words.proofs.Sums.{sum}
+use Rattle.words.proofs.Runs.{length-upFrom}
 use Rattle.trays.specs.Limits.{maxSlip, maxLetters}
 use Rattle.trays.specs.Slips.{slip}
 use Rattle.matching.specs.Nodes.{lower, prefixes, nodes}
@@ -66,16 +67,12 @@ inOrder-most : {A : Type 0} (lt : A → A → Bool) (xs : List A) → length (in
 inOrder-most lt [] = omega arith
 inOrder-most lt (x ∷ xs) = omega (arith, insert-length lt x (inOrder lt xs), inOrder-most lt xs)
 
-upFrom-length : (i n : ℕ) → length (upFrom i n) ≡ n
-upFrom-length i zero = refl
-upFrom-length i (suc n) = ap suc (upFrom-length (suc i) n)
-
 prefixes-length : (ss : List (List ℕ)) (M : List ℕ) → length (prefixes (patterns ss M)) ≡ sum (λ i. length (slip ss i)) M
 prefixes-length ss [] = refl
 prefixes-length ss (i ∷ M) =
     let x = slip ss i in
     let us = upFrom 1 (length x) in
-    rw (length-append (map (λ d. take d x) us) (prefixes (patterns ss M)), length-map us (λ d. take d x), upFrom-length)
+    rw (length-append (map (λ d. take d x) us) (prefixes (patterns ss M)), length-map us (λ d. take d x), length-upFrom)
     (omega (arith, prefixes-length ss M))
 
 module _ {ss : List (List ℕ)} {es M O : List ℕ} (R : Ranked ss es M O) where
