@@ -3,9 +3,12 @@
 --   joins-can, places-can == what copying asks
 --   flat-says             == what composing over slices of numbers leaves
 use mathlib.Core.Path.{_≡_, refl, _∙_, ap}
+use mathlib.Core.Bool.{true}
 use mathlib.Core.List.{List}
 use Prim.Native.Nat.{ℕ, _+_, _-_, _*_, _/_, _≤_, _<_}
+use borrow.Author.Tests.{leb-true}
 use native.Mathlib.Omega.{arith}
+use lib.Dec.{leb}
 use lib.ListN.{length, getD, set}
 use Rattle.words.specs.Lists.{over}
 use Rattle.words.proofs.Buffers.{over-set}
@@ -39,10 +42,13 @@ module _ (s es w w₁ l l′ : List ℕ) (jr pr : ℕ) (r : Composed) (st : Stag
       (λ a. let d = staged-room s es w w₁ l l′ jr pr r st a in record { there = omega (arith, d); room = omega (arith, a .joins-fit) })
       (λ b. let z = ap (λ (c : Composed). c .joins) (b .answer-is) in record { there = omega arith; room = omega arith })
 
-  pub places-can : (m : ℕ) (p : List ℕ) → m ≡ r .slips → pr ≡ length p / placeCells → CanCopy w₁ PLACES (placeCells * m) p
-  places-can m p e q =
+  -- from any cell up to where the places stand: that it is the right one is for `flat-says`
+  pub places-can : (base m : ℕ) (p : List ℕ) → leb base PLACES ≡ true → m ≡ r .slips → pr ≡ length p / placeCells → CanCopy w₁ base (placeCells * m) p
+  places-can base m p h e q =
       staged-tells s es w (length l) jr pr r (st .answer-is)
-      (λ a. record { there = omega (arith, a .room, a .few-slips, st .work-is .same); room = omega (arith, a .places-fit) })
+      (λ a.
+      let near : base ≤ PLACES = leb-true base PLACES h in
+      record { there = omega (arith, a .room, a .few-slips, st .work-is .same); room = omega (arith, a .places-fit) })
       (λ b. let z = ap (λ (c : Composed). c .slips) (b .answer-is) in record { there = omega arith; room = omega arith })
 
   pub flat-says :
