@@ -24,11 +24,11 @@ use Rattle.trays.specs.Slips.{slip, total}
 use Rattle.trays.specs.Aside.{kept}
 use Rattle.trays.proofs.Kept.{kept-asc, in-kept, kept-apart}
 use Rattle.greedy.specs.Joins.{Join, join, lastOf, free, arcs, firstArc, takeArc, takeArcs, plainFor, saved as savedBy}
+use Rattle.greedy.specs.Orders.{weight, along}
 use Rattle.greedy.specs.Claims.{holdsAll}
 use Rattle.greedy.proofs.Takes.{by-zero, Sound, refused-take, refused-self}
 use Rattle.greedy.proofs.Arcs.{Prior, arcs-sorted, arcs-in}
-use Rattle.greedy.proofs.Chains.{Chain, wholeChain, end, Run, Arc, along, Rep, tail-end, run-last}
-use Rattle.greedy.proofs.Letters.{weight}
+use Rattle.greedy.proofs.Chains.{Chain, wholeChain, end, Run, Arc, Rep, tail-end, run-last}
 use Rattle.greedy.proofs.Represent.{is-free, merged, find, saved-append, rep-forth, rep-back, singles, rep-singles, plain-arcs, plain-rep}
 use Rattle.greedy.proofs.TextOrder.{over, Apart, text-order}
 use Rattle.greedy.proofs.Links.{links, Below, links-none, links-singles, links-forth, links-back}
@@ -165,7 +165,7 @@ module _ (ss : List (List ℕ)) (K : List ℕ) (once : (x : ℕ) → held x K �
 
 -- the kept slips among any members that ascend from 1
 module _ (ss : List (List ℕ)) (M : List ℕ) (asc : Asc _<_ M) (positive : (i : ℕ) → In i M → 1 ≤ i) where
-  kept-once : (x : ℕ) → held x (kept ss M) ≤ 1
+  pub kept-once : (x : ℕ) → held x (kept ss M) ≤ 1
   kept-once = asc-once (kept ss M) (kept-asc ss M asc)
 
   kept-positive : All (λ x. 1 ≤ x) (kept ss M)

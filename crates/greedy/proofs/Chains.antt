@@ -3,7 +3,6 @@
 --   wholeChain, end     == the slips of a chain; its last slip
 --   Run js C       == C is a chain of the joins js, whole from end to end
 --   Arc w K j      == j joins two slips of K, with their weight w for its overlap
---   along w p xs   == the weights between neighbours along p, xs
 --   Rep w K js Cs  == the chains Cs represent the joins js over the slips K
 -- A chain of the joins runs until a slip has no right neighbour, so its end is the last of the chain that its first slip begins; in it
 -- only the end has no right neighbour, and only the first slip no left one.
@@ -16,6 +15,7 @@ use Rattle.words.specs.Lists.{lastOr}
 use Rattle.words.proofs.Members.{In, by-in}
 use Rattle.words.proofs.Sums.{sum, All, held, held-in, length-sum}
 use Rattle.greedy.specs.Joins.{Join, rightOf, leftOf, lastFrom, lastOf, saved as savedBy}
+use Rattle.greedy.specs.Orders.{along}
 use Rattle.greedy.proofs.Takes.{last-stop, last-go}
 
 pub record Chain : Type 0 where
@@ -38,10 +38,6 @@ Run js C = (leftOf (C .first) js ≡ 0) × (1 ≤ C .first) × Tail js (C .first
 abbrev pub Arc : (ℕ → ℕ → ℕ) → List ℕ → Join → Type 0
 Arc w K j =
     (1 ≤ j .left) × (1 ≤ j .right) × (1 ≤ held (j .left) K) × (1 ≤ held (j .right) K) × (j .overlap ≡ w (j .left) (j .right))
-
-abbrev pub along : (ℕ → ℕ → ℕ) → ℕ → List ℕ → ℕ
-along w p [] = 0
-along w p (x ∷ xs) = w p x + along w x xs
 
 pub record Rep (w : ℕ → ℕ → ℕ) (K : List ℕ) (js : List Join) (Cs : List Chain) : Type 0 where
   pub all : (g : ℕ → ℕ) → sum (λ C. sum g (wholeChain C)) Cs ≡ sum g K

@@ -20,11 +20,12 @@ use Rattle.trays.proofs.Kept.{in-kept}
 use Rattle.trays.proofs.Accepted.{accepted-tells, slips-count}
 use Rattle.greedy.specs.Joins.{plainFor}
 use Rattle.greedy.specs.Legends.{piecesFor}
+use Rattle.greedy.specs.Orders.{weight}
 use Rattle.greedy.specs.Composing.{whole, legendOf}
 use Rattle.greedy.proofs.Demand3.{numbers-rise, numbers-positive}
 use Rattle.greedy.proofs.Chains.{Chain, Rep}
 use Rattle.greedy.proofs.Bound.{kept-rep}
-use Rattle.greedy.proofs.Letters.{weight, pieces-numbers, saving-of}
+use Rattle.greedy.proofs.Letters.{pieces-numbers, saving-of}
 
 -- the letters of all slips are at most the tray's letters
 total-next : (x : List ℕ) (ss : List (List ℕ)) (m n : ℕ) → total (x ∷ ss) (upFrom (suc (suc m)) n) ≡ total ss (upFrom (suc m) n)

@@ -1,9 +1,7 @@
 -- The letters of pieces laid in an order, and of the pieces of joins.
 --   Over x o y         == y lies over x with overlap o: x and the letters of y beyond o end with y, o letters before the end of x
 --   Order ss x ps      == each piece of ps lies over the slip before it, the first over x
---   weight counts ss   == the overlap of two slips, by their numbers
---   row w p xs         == the pieces of the slips xs behind slip p, each with its weight against the slip before it
---   rowOf w p xs       == the same with p itself, laid with overlap 0
+--   rowOf w p xs       == the pieces of the slips xs behind slip p, and p itself before them, laid with overlap 0
 -- Letters that end with x end with y after y was laid over x; so each slip of an order stands where placeIn says, and adds its length
 -- without its overlap. The pieces of joins are an order, since a join's overlap is that of its two slips and a chain starts with overlap
 -- 0. Where chains represent the joins, the pieces are the chains' rows: their numbers are those of K, their overlaps those of the joins.
@@ -26,8 +24,9 @@ use Rattle.words.proofs.Sums.{sum, All, is, held, held-first, sum-append}
 use Rattle.trays.specs.Slips.{slip, total}
 use Rattle.greedy.specs.Joins.{Join, rightOf, leftOf, saved}
 use Rattle.greedy.specs.Legends.{Piece, piece, overlapAfter, chainFrom, chainAt, pieces, added, spelled, placeIn}
+use Rattle.greedy.specs.Orders.{weight, row, along}
 use Rattle.greedy.specs.Claims.{holdsAll}
-use Rattle.greedy.proofs.Chains.{Chain, wholeChain, Tail, Run, Arc, along, Rep}
+use Rattle.greedy.proofs.Chains.{Chain, wholeChain, Tail, Run, Arc, Rep}
 
 abbrev pub Over : List ℕ → ℕ → List ℕ → Type 0
 Over x o y = (u : List ℕ) × (x ++ drop o y ≡ u ++ y) × (length u + o ≡ length x)
@@ -110,16 +109,9 @@ module _ (ss : List (List ℕ)) where
   total-sum [] = refl
   total-sum (i ∷ K) = ap (λ n. length (slip ss i) + n) (total-sum K)
 
-  holds-all : (K t : List ℕ) → ((i : ℕ) → 1 ≤ held i K → standsIn (slip ss i) t ≡ true) → holdsAll ss K t ≡ true
+  pub holds-all : (K t : List ℕ) → ((i : ℕ) → 1 ≤ held i K → standsIn (slip ss i) t ≡ true) → holdsAll ss K t ≡ true
   holds-all [] t h = refl
   holds-all (i ∷ K) t h = and-intro _ _ (h i (held-first i i K refl)) (holds-all K t λ k n. h k (omega arith))
-
-abbrev pub weight : (List ℕ → Bool) → List (List ℕ) → ℕ → ℕ → ℕ
-weight counts ss l r = overlapFor counts (slip ss l) (slip ss r)
-
-abbrev pub row : (ℕ → ℕ → ℕ) → ℕ → List ℕ → List Piece
-row w p [] = []
-row w p (x ∷ xs) = piece x (w p x) ∷ row w x xs
 
 abbrev pub rowOf : (ℕ → ℕ → ℕ) → ℕ → List ℕ → List Piece
 rowOf w p xs = piece p 0 ∷ row w p xs
@@ -133,7 +125,7 @@ row-overlaps w p [] = refl
 row-overlaps w p (x ∷ xs) = omega (arith, row-overlaps w x xs)
 
 module _ (counts : List ℕ → Bool) (ss : List (List ℕ)) where
-  row-behind : (p : ℕ) (xs : List ℕ) → Order ss (slip ss p) (row (weight counts ss) p xs)
+  pub row-behind : (p : ℕ) (xs : List ℕ) → Order ss (slip ss p) (row (weight counts ss) p xs)
   row-behind p [] = tt
   row-behind p (x ∷ xs) = (over-overlap counts (slip ss p) (slip ss x), row-behind x xs)
 

@@ -8,7 +8,8 @@ use mathlib.Core.Path.{_≡_, refl}
 use mathlib.Core.List.{List, [], _∷_, _++_}
 use Prim.Native.Nat.{ℕ, _+_, _*_, _≤_}
 use native.Mathlib.Omega.{arith}
-use Rattle.greedy.proofs.Chains.{Chain, end, along, last-append}
+use Rattle.greedy.specs.Orders.{along}
+use Rattle.greedy.proofs.Chains.{Chain, end, last-append}
 use Rattle.greedy.proofs.Represent.{merged, singles}
 use Rattle.words.specs.Lists.{lastOr}
 

@@ -21,10 +21,10 @@ use Rattle.words.proofs.Sums.{all-where, held-first, held-last, all-held, all-o
 use Rattle.words.proofs.Overlaps.{overlapFor-yes}
 use Rattle.trays.specs.Slips.{slip}
 use Rattle.greedy.specs.Joins.{Join, rightOf, leftOf, lastOf, free, takeArcs, arcs, firstArc, plainFor, saved as savedBy}
+use Rattle.greedy.specs.Orders.{weight, along}
 use Rattle.greedy.proofs.Takes.{by-zero, rightOf-append, leftOf-append, refused-right, refused-left, refused-last, by-refused}
 use Rattle.greedy.proofs.Arcs.{arcs-sorted, in-arcs}
-use Rattle.greedy.proofs.Letters.{weight}
-use Rattle.greedy.proofs.Chains.{Chain, wholeChain, end, Tail, Run, Arc, along, Rep, along-append, tail-end, run-last, run-end, run-first}
+use Rattle.greedy.proofs.Chains.{Chain, wholeChain, end, Tail, Run, Arc, Rep, along-append, tail-end, run-last, run-end, run-first}
 
 abbrev pub merged : Chain → Chain → Chain
 merged A B = record { first = A .first; rest = A .rest ++ wholeChain B }

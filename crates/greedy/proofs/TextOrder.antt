@@ -20,8 +20,8 @@ use Rattle.words.proofs.Strings.{begins-drop, begins-both, stands-drop, stands-
 use Rattle.words.proofs.Overlaps.{overlap-max}
 use Rattle.words.proofs.Sums.{sum, is, held, held-first}
 use Rattle.trays.specs.Slips.{slip, total}
+use Rattle.greedy.specs.Orders.{along}
 use Rattle.greedy.specs.Claims.{holdsAll}
-use Rattle.greedy.proofs.Chains.{along}
 use Rattle.greedy.proofs.Letters.{total-sum}
 
 abbrev pub over : List (List ℕ) → ℕ → ℕ → ℕ

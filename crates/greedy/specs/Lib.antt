@@ -2,6 +2,7 @@
 pub mod Joins
 pub mod Walk
 pub mod Legends
+pub mod Orders
 pub mod Composing
 pub mod Claims
 pub mod steps

@@ -23,9 +23,9 @@ use Rattle.trays.specs.Faults.{trayFault}
 use Rattle.trays.proofs.Accepted.{accepted-tells, slips-count}
 use Rattle.trays.proofs.Spans.{accepted-spanned}
 use Rattle.greedy.specs.Joins.{Join}
+use Rattle.greedy.specs.Orders.{weight}
 use Rattle.greedy.specs.Composing.{whole, joinsOf}
 use Rattle.greedy.proofs.Chains.{Chain, Arc, chains-fewer}
-use Rattle.greedy.proofs.Letters.{weight}
 use Rattle.greedy.proofs.Demand3.{composed}
 use Rattle.matching.specs.Occurrences.{Occurrence, occurrence, endingAt, occurrences}
 use Rattle.matching.proofs.States.{few-moves}
