@@ -1,0 +1,48 @@
+-- Shortest legends worked out by hand, computed from the definitions: each tells the rule from a likely misreading.
+--   Short    == a tray, the order of its kept slips, and their legend
+--   shorts   == the list
+use mathlib.Core.Path.{_≡_, refl}
+use mathlib.Core.List.{List, [], _∷_, map}
+use Prim.Native.Nat.{ℕ}
+use Prim.Native.String.{String}
+use Rattle.words.specs.Quoted.{word}
+use Rattle.greedy.specs.Composing.{whole}
+use Rattle.shortest.specs.Orders.{shortestOrder, shortestLegend}
+
+pub record Short : Type 0 where
+  pub tray : List String
+  pub order : List ℕ
+  pub legend : List ℕ
+
+abbrev short : List String → List ℕ → String → Short
+short ws xs t = record { tray = ws; order = xs; legend = word t }
+
+abbrev pub shorts : List Short
+shorts =
+    short [] [] ""
+    ∷ short ("AVG" ∷ []) (1 ∷ []) "AVG"
+    -- nothing is saved, and the lower slip is first
+    ∷ short ("C" ∷ "A" ∷ []) (1 ∷ 2 ∷ []) "CA"
+    -- both orders save one letter; composing gives BAB
+    ∷ short ("AB" ∷ "BA" ∷ []) (1 ∷ 2 ∷ []) "ABA"
+    -- composing joins 1 and 2 first and gives CABADA
+    ∷ short ("CA" ∷ "AB" ∷ "ADA" ∷ []) (1 ∷ 3 ∷ 2 ∷ []) "CADAB"
+    -- all six orders save two letters
+    ∷ short ("ABA" ∷ "ACA" ∷ "ADA" ∷ []) (1 ∷ 2 ∷ 3 ∷ []) "ABACADA"
+    -- not 3 1 2, which saves as much
+    ∷ short ("AB" ∷ "BC" ∷ "XY" ∷ []) (1 ∷ 2 ∷ 3 ∷ []) "ABCXY"
+    -- stops alone do not overlap
+    ∷ short ("A." ∷ ".B" ∷ []) (1 ∷ 2 ∷ []) "A..B"
+    -- a slip set aside keeps its number
+    ∷ short ("AB" ∷ "AB" ∷ "BC" ∷ []) (1 ∷ 3 ∷ []) "ABC"
+    ∷ short ("IMPCAES" ∷ "AES" ∷ "CAESAVG" ∷ "VGPIVS" ∷ "SIMP" ∷ []) (5 ∷ 1 ∷ 3 ∷ 4 ∷ []) "SIMPCAESAVGPIVS"
+    ∷ short ("AKI" ∷ "ELE" ∷ "KIKI" ∷ "KIRA" ∷ "LEA" ∷ []) (2 ∷ 5 ∷ 1 ∷ 3 ∷ 4 ∷ []) "ELEAKIKIRA"
+    ∷ []
+
+abbrev computed : Short → Short
+computed s =
+    let c = whole (map word (s .tray)) in
+    record { tray = s .tray; order = shortestOrder c; legend = shortestLegend c }
+
+pub shorts-computed : map computed shorts ≡ shorts
+shorts-computed = refl

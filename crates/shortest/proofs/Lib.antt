@@ -1,0 +1,2 @@
+-- The orders of kept slips: computed specimens.
+pub mod AllShortest

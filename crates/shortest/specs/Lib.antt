@@ -1,0 +1,4 @@
+-- The orders of kept slips, the shortest legend, and what is claimed of it.
+pub mod Orders
+pub mod Claims
+pub mod steps
