@@ -28,3 +28,7 @@ maxFile = 16384
 -- 15: the lent ends are at least so many
 abbrev pub endsNeed : ℕ
 endsNeed = 1700
+
+-- 20: the shortest legend is sought for at most so many kept slips
+abbrev pub maxShortest : ℕ
+maxShortest = 10

@@ -1,0 +1,1 @@
+// The search for the best order of at most ten places: groups of places already laid are marks in one number.
