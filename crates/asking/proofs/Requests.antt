@@ -3,30 +3,24 @@
 --   slip-..     == rows 1 to 6, then 10
 --   pair-..     == rows 1 to 6, 10, 10, 11
 use mathlib.Core.Path.{_≡_, refl, sym, _∙_, ap, ap₂}
-use mathlib.Core.Bool.{Bool, true, false, not}
 use mathlib.Core.List.{List, [], _∷_}
 use Prim.Native.Nat.{ℕ, zero, suc, _-_, _^_, _≤_, _<_, _+_}
-use borrow.Author.Tests.{ltb-false, lt-ltb, le-ltb, eq-eqb, ne-eqb, eqb-false, not-true, not-false}
+use borrow.Author.Tests.{ltb-false, lt-ltb, le-ltb, eq-eqb, ne-eqb, eqb-false}
 use native.Mathlib.Omega.{arith}
 use lib.Dec.{ltb, eqb}
 use lib.ListN.{length, take, drop}
-use lib.Seq.{length-take-le}
-use Rattle.words.specs.Words.{overlap, overlapFor}
 use Rattle.words.proofs.Tests.{by-test}
-use Rattle.words.proofs.Overlaps.{overlap-fits, overlapFor-yes, overlapFor-no, overlapFor-fits}
 use Rattle.trays.specs.declared.Refusal.{Refusal}
 use Rattle.trays.specs.declared.Pair.{Pair}
 use Rattle.trays.specs.declared.Span.{Span}
 use Rattle.trays.specs.declared.Located.{Located}
-use Rattle.trays.specs.Limits.{maxSlip}
-use Rattle.trays.specs.Slips.{slipsOf, slip, spanOf}
-use Rattle.trays.specs.Aside.{counted}
+use Rattle.trays.specs.Slips.{spanOf}
 use Rattle.trays.specs.Faults.{refusal, accepted, orElse, firstRow, trayRows, trayFault, slipRow, slipFault, pairRow, pairFault}
 use Rattle.trays.specs.Answers.{stretchOf, stretchStart, stretchEnd, Stretch, locatedOf, pairOf}
 use Rattle.trays.proofs.Rows.{or-zero, or-some, or-assoc, both-silent, by-number, rows-append}
 use Rattle.trays.proofs.Accepted.{accepted-tells}
-use Rattle.trays.proofs.Spans.{accepted-spanned}
 use Rattle.spans.proofs.Stretches.{part-rises, part-fits, part-is}
+use Rattle.overlaps.specs.Pairs.{TwoSlips, Overlap}
 
 pub request-zero : (es : List ℕ) (i : ℕ) (r : Refusal) → r ≡ refusal 10 i → i ≡ 0 → r ≡ slipRow es i
 request-zero es i r q e = q ∙ rw (eq-eqb i 0 e)
@@ -105,18 +99,6 @@ module _ (s es : List ℕ) (i j : ℕ) where
       let l = slip-good s es i (a .0) in
       let r = row-accepts es j (both-silent (slipRow es j) (orElse (pairRow i j) accepted) (a .1) .0) in
       (l .0, l .1, l .2, r .0, r .1)
-
--- the overlap and whether its string counts
-module _ (a b : List ℕ) (n : ℕ) (e : n ≡ overlap a b) where
-  pub overlap-inside : n ≡ length (take n b)
-  overlap-inside = sym (length-take-le n b (omega (arith, overlap-fits a b)))
-
-  module _ (r : Bool) (h : r ≡ counted (take n b)) where
-    pub overlap-stops : not r ≡ true → 0 ≡ overlapFor counted a b
-    overlap-stops t = sym (overlapFor-no counted a b (rw e at (sym h ∙ not-true r t)))
-
-    pub overlap-counted : not r ≡ false → n ≡ overlapFor counted a b
-    overlap-counted t = e ∙ sym (overlapFor-yes counted a b (rw e at (sym h ∙ not-false r t)))
 
 -- the refusal of a slip, and two places
 abbrev located : List ℕ → List ℕ → ℕ → ℕ → ℕ → Located
@@ -197,12 +179,20 @@ module _ (s es : List ℕ) (i j : ℕ) (f : Refusal) (e : f ≡ pairFault s es i
     pub pair-tells : (trayFault s es .number ≡ 0) × (1 ≤ i) × (i ≤ length es) × (1 ≤ j) × (j ≤ length es)
     pair-tells = pair-good s es i j (rw e at z)
 
-    module _ (a b : List ℕ) (n : ℕ) (ha : a ≡ slip (slipsOf s es) i) (hb : b ≡ slip (slipsOf s es) j) (h : n ≡ overlapFor counted a b) where
+    pub pair-slips : (l r : ℕ) → l ≡ i → r ≡ j → TwoSlips s es l r
+    pair-slips l r el er =
+        let t = pair-tells in
+        record {
+          tray = t .0;
+          left-some = rw el (t .1);
+          left-most = rw el (t .2);
+          right-some = rw er (t .3);
+          right-most = rw er (t .4);
+        }
+
+    module _ (l r n : ℕ) (el : l ≡ i) (er : r ≡ j) (O : Overlap s es l r n) where
       pub pair-small : n < 2 ^ 32
-      pair-small =
-          let t = pair-tells in
-          let l : length b ≤ maxSlip = rw hb (accepted-spanned s es (t .0) .short j (t .3) (t .4)) in
-          omega (arith, overlapFor-fits counted a b)
+      pair-small = omega (arith, O .short)
 
       pub pair-found : _≡_ {A = Pair} (record { number = f .number; detail = f .detail; letters = n }) (pairOf s es i j)
-      pair-found = rw (e, h, ha, hb, rw e at z)
+      pair-found = rw (e, O .is, el, er, rw e at z)

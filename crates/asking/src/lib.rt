@@ -1,17 +1,13 @@
 // Requests on a tray: one slip's letters, the overlap of a pair.
 ghost use mathlib.Core.Path.{_≡_};
 ghost use Prim.Native.Nat.{_<_};
-ghost use Rattle.words.specs.Words.{overlapFor};
-ghost use Rattle.trays.specs.Aside.{counted};
 ghost use Rattle.trays.specs.Faults as F;
 ghost use Rattle.trays.specs.Answers.{Stretch, locatedOf, pairOf};
 use checking::check_tray;
-use spans::slip_part;
 use spans::slip_span;
 use trays::Located;
 use trays::Pair;
 use trays::Refusal;
-use trays::counts;
 use trays::refuse;
 
 // Refusal 10.
@@ -101,17 +97,6 @@ fn check_pair(letters: &[u8], ends: &[u16], left: u32, right: u32) -> Refusal
     refuse(0, 0)
 }
 
-// The overlap of two strings, 0 where it does not count: a shorter one is a prefix of it, and does not count either.
-fn counted_overlap(a: &[u8], b: &[u8]) -> usize
-    ensures { λ r. ⌜ r ≡ overlapFor counted (now (a .entry)) (now (b .entry)) ⌝ }
-{
-    let n = words::overlap(a, b);
-    if !counts(&b[..n]) {
-        return 0;
-    }
-    n
-}
-
 // The overlap of a pair of slips, by comparing their letters.
 pub fn pair_overlap(letters: &[u8], ends: &[u16], left: u32, right: u32) -> Pair
     ensures { λ r. ⌜ r ≡ pairOf (now (letters .entry)) (now (ends .entry)) left right ⌝ }
@@ -124,11 +109,10 @@ pub fn pair_overlap(letters: &[u8], ends: &[u16], left: u32, right: u32) -> Pair
             letters: 0,
         };
     }
-    let a = slip_part(letters, ends, left as usize);
-    let b = slip_part(letters, ends, right as usize);
+    let shared = overlaps::slip_overlap(letters, ends, left as usize, right as usize);
     Pair {
         number: fault.number,
         detail: fault.detail,
-        letters: counted_overlap(a, b) as u32,
+        letters: shared as u32,
     }
 }

@@ -1,7 +1,7 @@
-use Rattle.asking.proofs.Requests.{overlap-inside, overlap-counted, overlap-stops}
+use Rattle.overlaps.proofs.Counted.{overlap-inside, overlap-counted, overlap-stops}
 use borrow.Author.Needs.{needs}
-use Rattle.asking.proofs.counted_overlap.Statement.{statement}
-use Rattle.asking.proofs.counted_overlap.Tie as tie
+use Rattle.overlaps.proofs.counted_overlap.Statement.{statement}
+use Rattle.overlaps.proofs.counted_overlap.Tie as tie
 
 slice-aggregate-counts : tie.Need-slice-aggregate-counts
 slice-aggregate-counts c = search overlap-inside

@@ -1,0 +1,2 @@
+-- The overlap of two slips, whether it counts.
+pub mod Counted

@@ -1,0 +1,2 @@
+-- The overlaps of slips.
+pub mod Pairs
