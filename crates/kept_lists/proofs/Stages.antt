@@ -1,5 +1,5 @@
 -- The tables one after another: what each leaves of those before.
-use mathlib.Core.Path.{_≡_, ap, _∙_}
+use mathlib.Core.Path.{_≡_}
 use mathlib.Core.List.{List}
 use Prim.Native.Nat.{ℕ, _+_, _-_}
 use native.Mathlib.Omega.{arith}
@@ -8,16 +8,14 @@ use Rattle.words.specs.Words.{begins}
 use Rattle.words.proofs.Strings.{begins-length}
 use Rattle.words.proofs.Members.{in-those}
 use Rattle.trays.specs.Slips.{slipsOf, slip, startOf}
-use Rattle.trays.specs.Aside.{kept}
 use Rattle.matching.specs.Nodes.{string}
 use Rattle.matching.proofs.NodeLaws.{node-some}
 use Rattle.layout.specs.Layout.{HEAD, STARTS, STARTS-NEXT, ENDS}
 use Rattle.layout.specs.Numbered.{patternsIn, SameBelow}
 use Rattle.layout.specs.Staging.{keptIn}
 use Rattle.layout.proofs.Frames.{kept-lower, members-kept}
-use Rattle.kept_slips.specs.steps.Kept.{KeptFound, MarksFilled, KeptFilled}
+use Rattle.kept_slips.specs.steps.Kept.{KeptFound, KeptTold}
 use Rattle.kept_lists.specs.steps.KeptLists.{beginnings, endings, atSide, SideIs, SideFilled, ListsFilled}
-use Rattle.heads.specs.steps.Heads.{HeadsFilled}
 use Rattle.layout.proofs.Heads.{threaded-kept, num-most}
 use Rattle.heads.proofs.Keeping.{kept-trans}
 use Rattle.kept_lists.proofs.KeptMembers.{kept-member, kept-same}
@@ -39,18 +37,15 @@ starts-kept {s} {es} {n} {k} {count} {w} {w′} S b I =
     omega (arith, node-some ps v m .0, begins-length x (slip (slipsOf s es) r) t, o .size, o .fits))
     (I v m))
 
-pub listed : {s es : List ℕ} {n k count : ℕ} {w w₁ w₂ w₃ w₄ w₅ : List ℕ} → HeadsFilled s es n count w w₁ → MarksFilled s es n count w₁ w₂ →
-    KeptFilled s es n count w₂ k w₃ → SideFilled beginnings s es n k count w₃ w₄ → SideFilled endings s es n k count w₄ w₅ → ListsFilled s es n count w k w₅
-listed {s} {es} {n} {w₅ = w₅} H M K S E =
-    let N = M .marked .headed .automaton .branched .numbered in
-    let two = kept-trans (H .below) (kept-lower HEAD (omega arith) (M .below)) in
-    let three = kept-trans two (kept-lower HEAD (omega arith) (K .below)) in
+pub listed : {s es : List ℕ} {n k count : ℕ} {w w₁ w₂ w₃ : List ℕ} → KeptTold s es n count w k w₁ →
+    SideFilled beginnings s es n k count w₁ w₂ → SideFilled endings s es n k count w₂ w₃ → ListsFilled s es n count w k w₃
+listed {s} {es} {n} {w₃ = w₃} K S E =
     record {
       staged = E .staged;
-      all = K .all ∙ ap (λ m. length (kept (slipsOf s es) m)) (members-kept n (omega (arith, N .few-members)) two);
+      all = K .all;
       starts = λ v d m q.
-          let z : length (string (patternsIn s es n w₅) v) - 1 ≡ d = omega arith in
+          let z : length (string (patternsIn s es n w₃) v) - 1 ≡ d = omega arith in
           rw z at (starts-kept (S .staged) (E .below) (S .lists) v m);
       ends = E .lists;
-      below = kept-trans (kept-trans three (kept-lower HEAD (omega arith) (S .below))) (kept-lower HEAD (omega arith) (E .below));
+      below = kept-trans (kept-trans (K .below) (kept-lower HEAD (omega arith) (S .below))) (kept-lower HEAD (omega arith) (E .below));
     }

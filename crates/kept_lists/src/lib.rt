@@ -94,9 +94,7 @@ pub fn fill_lists(letters: &[u8], ends: &[u16], work: &mut [u16], n: usize, coun
     requires { ⌜ Automaton (now letters) (now ends) n count (now work) ⌝ }
     ensures { λ k. ⌜ O.ListsFilled (now (letters .entry)) (now (ends .entry)) n count (now (work .entry)) k (now (work .exit)) ⌝ }
 {
-    heads::fill_heads(letters, ends, work, n, count);
-    kept_slips::fill_marks(letters, ends, work, n, count);
-    let k = kept_slips::fill_kept(letters, ends, work, n, count);
+    let k = kept_slips::tell_kept(letters, ends, work, n, count);
     fill_starts(letters, ends, work, n, k, count);
     fill_ends(letters, ends, work, n, k, count);
     k

@@ -2,3 +2,4 @@
 pub mod MarkLoop
 pub mod AsideTest
 pub mod KeptLoop
+pub mod Told

@@ -3,11 +3,11 @@ ghost use mathlib.Core.Path.{_≡_};
 ghost use Rattle.trays.specs.Slips.{slipsOf};
 ghost use Rattle.trays.specs.Aside.{isAside};
 ghost use Rattle.layout.specs.Tables.{members};
-ghost use Rattle.layout.specs.Numbered.{Headed};
+ghost use Rattle.layout.specs.Numbered.{Automaton, Headed};
 ghost use Rattle.kept_slips.specs.steps.Kept as K;
 
 // Fills MARK.
-pub fn fill_marks(letters: &[u8], ends: &[u16], work: &mut [u16], n: usize, count: usize)
+fn fill_marks(letters: &[u8], ends: &[u16], work: &mut [u16], n: usize, count: usize)
     requires { ⌜ Headed (now letters) (now ends) n count (now work) ⌝ }
     ensures { λ _. ⌜ K.MarksFilled (now (letters .entry)) (now (ends .entry)) n count (now (work .entry)) (now (work .exit)) ⌝ }
 {
@@ -43,7 +43,7 @@ fn is_aside(letters: &[u8], ends: &[u16], work: &[u16], n: usize, count: usize, 
 }
 
 // Fills KEPT with the members that are not set aside. Answers how many there are.
-pub fn fill_kept(letters: &[u8], ends: &[u16], work: &mut [u16], n: usize, count: usize) -> usize
+fn fill_kept(letters: &[u8], ends: &[u16], work: &mut [u16], n: usize, count: usize) -> usize
     requires { ⌜ K.Marked (now letters) (now ends) n count (now work) ⌝ }
     ensures { λ k. ⌜ K.KeptFilled (now (letters .entry)) (now (ends .entry)) n count (now (work .entry)) k (now (work .exit)) ⌝ }
 {
@@ -61,4 +61,14 @@ pub fn fill_kept(letters: &[u8], ends: &[u16], work: &mut [u16], n: usize, count
         }
     }
     k
+}
+
+// All of it, from the automaton alone: HEAD and TWIN, MARK, KEPT. Answers how many members are kept.
+pub fn tell_kept(letters: &[u8], ends: &[u16], work: &mut [u16], n: usize, count: usize) -> usize
+    requires { ⌜ Automaton (now letters) (now ends) n count (now work) ⌝ }
+    ensures { λ k. ⌜ K.KeptTold (now (letters .entry)) (now (ends .entry)) n count (now (work .entry)) k (now (work .exit)) ⌝ }
+{
+    heads::fill_heads(letters, ends, work, n, count);
+    fill_marks(letters, ends, work, n, count);
+    fill_kept(letters, ends, work, n, count)
 }

@@ -7,12 +7,8 @@ returns : tie.Need-returns
 returns c =
     let ends-filled = c .before .before in
     let starts-filled = ends-filled .before .before .before .before in
-    let kept-filled = starts-filled .before .before .before .before in
-    let marks-filled = kept-filled .before .before .before .before in
-    let heads-filled = marks-filled .before .before .before .before in
-    listed (heads-filled .fill-heads .ensures) (marks-filled .fill-marks .ensures) (kept-filled .fill-kept .ensures)
-    (starts-filled .fill-starts .ensures) (ends-filled .fill-ends .ensures)
+    let kept-told = starts-filled .before .before .before .before in
+    listed (kept-told .tell-kept .ensures) (starts-filled .fill-starts .ensures) (ends-filled .fill-ends .ensures)
 
 pub fill-lists-spec : {M : Type 1} → statement M
-fill-lists-spec = tie.close (tie.spec (λ c κs. search needs) (λ c κs. search needs) (λ c κs. search needs) (λ c κs. search needs)
-    (λ c κs. search needs) (λ c. search needs) returns)
+fill-lists-spec = tie.close (tie.spec (λ c κs. search needs) (λ c κs. search needs) (λ c κs. search needs) (λ c. search needs) returns)

@@ -4,6 +4,7 @@
 --   Marked                     == HEAD, TWIN and MARK are filled
 --   Judged .. i                == these are filled, and i is one of the members
 --   KeptFound .. k ..          == the k kept members stand in KEPT
+--   KeptFilled .. k ..         == they were found there, HEAD, TWIN and MARK being filled; KeptTold: these were filled too
 use mathlib.Core.Path.{_≡_}
 use mathlib.Core.List.{List}
 use Prim.Native.Nat.{ℕ, _≤_, _<_}
@@ -13,7 +14,7 @@ use Rattle.trays.specs.Limits.{maxSlips}
 use Rattle.trays.specs.Slips.{slipsOf}
 use Rattle.trays.specs.Aside.{kept}
 use Rattle.matching.specs.Nodes.{nodes, Num}
-use Rattle.layout.specs.Layout.{FAIL, MARK, KEPT}
+use Rattle.layout.specs.Layout.{FAIL, HEAD, MARK, KEPT}
 use Rattle.layout.specs.Tables.{cell, members}
 use Rattle.layout.specs.Numbered.{patternsIn, Automaton, SameBelow, Headed}
 use Rattle.layout.specs.Staging.{keptIn}
@@ -46,3 +47,8 @@ pub record KeptFilled (s es : List ℕ) (n count : ℕ) (w : List ℕ) (k : ℕ)
   pub staged : KeptFound s es n k count w′
   pub all : k ≡ length (kept (slipsOf s es) (members w n))
   pub below : SameBelow KEPT w w′
+
+pub record KeptTold (s es : List ℕ) (n count : ℕ) (w : List ℕ) (k : ℕ) (w′ : List ℕ) : Type 0 where
+  pub staged : KeptFound s es n k count w′
+  pub all : k ≡ length (kept (slipsOf s es) (members w n))
+  pub below : SameBelow HEAD w w′
