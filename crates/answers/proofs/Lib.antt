@@ -1,4 +1,5 @@
 -- Laws.
 pub mod AllComposed
 pub mod AllFound
+pub mod AllSought
 pub mod FlatLists

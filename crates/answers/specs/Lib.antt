@@ -4,4 +4,5 @@ pub mod Composing
 pub mod Records
 pub mod Flat
 pub mod Finding
+pub mod Shortest
 pub mod Exported

@@ -33,6 +33,15 @@ pub const PLACE_CELLS: usize = 3;
 // 12: a text has at most so many letters.
 pub const MAX_TEXT: usize = 2000;
 
+// The answer of the shortest legend: number and detail of the refusal, or the legend's letters, how many slips are kept, and their order, 0 past the count.
+pub struct Shortest {
+    pub number: u8,
+    pub detail: u32,
+    pub legend: u32,
+    pub count: u32,
+    pub order: [u16; 10],
+}
+
 // An occurrence: the place of its last letter, from 1, and its slip.
 pub struct Found {
     pub end: u32,

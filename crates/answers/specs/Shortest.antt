@@ -1,0 +1,50 @@
+-- The shortest legend: refusals 20 and 8 behind those of the tray and 7, the answer, and what each buffer holds afterwards.
+--   shortestFault s es w l == what turns the call back, with a work area of w cells and room for l letters
+--   shortestOf s es w l    == the answer
+--   ShortestSays           == the promise, for every input: tray s, es; work area w and legend l before, w′ and l′ after; answer r
+use mathlib.Core.Path.{_≡_}
+use mathlib.Core.List.{List, [], _∷_, _++_}
+use Prim.Native.Nat.{ℕ, zero, suc}
+use lib.Dec.{ltb}
+use lib.ListN.{length, replicate}
+use Rattle.words.specs.Lists.{over}
+use Rattle.trays.specs.declared.Refusal.{Refusal}
+use Rattle.trays.specs.Limits.{maxShortest}
+use Rattle.trays.specs.Slips.{slipsOf}
+use Rattle.trays.specs.Faults.{row, firstRow, trayRows, written}
+use Rattle.greedy.specs.Composing.{Composing, whole, keptOf}
+use Rattle.shortest.specs.Orders.{shortestOrder, shortestLegend}
+use Rattle.answers.specs.WorkArea.{workRow, WorkKept}
+use Rattle.answers.specs.declared.Shortest.{Shortest}
+use Rattle.answers.specs.Composing.{beforeC}
+
+-- Rules, place C: more than 10 slips are kept, checked first; the legend is longer than its buffer.
+unfoldable pub shortestFault : List ℕ → List ℕ → ℕ → ℕ → Refusal
+shortestFault s es w l =
+    let c = whole (slipsOf s es) in
+    let need = length (shortestLegend c) in
+    firstRow (trayRows s es ++ (workRow w ∷ (row 20 (ltb maxShortest (length (keptOf c))) 0 ∷ (row 8 (ltb l need) need ∷ []))))
+
+-- a count and ten numbers, 0 past the count
+abbrev pub shortestOutcome : Composing → Shortest
+shortestOutcome c =
+    record {
+      number = 0;
+      detail = 0;
+      legend = length (shortestLegend c);
+      count = length (shortestOrder c);
+      order = over (shortestOrder c) (replicate maxShortest 0);
+    }
+
+abbrev pub shortestRefused : Refusal → Shortest
+shortestRefused f = record { number = f .number; detail = f .detail; legend = 0; count = 0; order = replicate maxShortest 0 }
+
+unfoldable pub shortestOf : List ℕ → List ℕ → ℕ → ℕ → Shortest
+shortestOf s es w l =
+    let f = shortestFault s es w l in
+    elim (f .number) [ zero ↦ shortestOutcome (whole (slipsOf s es)) | suc n ↦ shortestRefused f ]
+
+pub record ShortestSays (s es w w′ l l′ : List ℕ) (r : Shortest) : Type 0 where
+  pub answer-is : r ≡ shortestOf s es (length w) (length l)
+  pub legend-is : l′ ≡ written (shortestFault s es (length w) (length l)) (shortestLegend (whole (slipsOf s es))) l
+  pub work-is : WorkKept (beforeC s es (length w)) w w′
