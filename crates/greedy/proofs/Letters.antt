@@ -187,7 +187,7 @@ module _ (counts : List ℕ → Bool) (ss : List (List ℕ)) (K : List ℕ) (js 
         | inr e ↦ rw (e, chainAt) (pieces-order M x)
       ]
 
-sum-each : {A B : Type 0} (f : B → ℕ) (g : A → List B) (xs : List A) → sum f (each g xs) ≡ sum (λ x. sum f (g x)) xs
+pub sum-each : {A B : Type 0} (f : B → ℕ) (g : A → List B) (xs : List A) → sum f (each g xs) ≡ sum (λ x. sum f (g x)) xs
 sum-each f g [] = refl
 sum-each f g (x ∷ xs) = omega (arith, sum-append f (g x) (each g xs), sum-each f g xs)
 

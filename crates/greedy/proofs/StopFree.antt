@@ -1,6 +1,7 @@
 -- Where no kept slip begins with a stop, the rule on stops changes nothing.
 --   plain-agree     == two rules that give the slips of K the same overlaps make the same joins
 --   plain-free      == so the joins are those of all overlaps that have a letter, where no slip of K begins with a stop
+--   stopFree-at     == none of the slips begins with a stop
 --   stopFree-kept   == no slip begins with a stop: so no kept slip does
 use mathlib.Core.Path.{_≡_, sym, _∙_}
 use mathlib.Core.Bool.{Bool, true, false}
@@ -32,7 +33,7 @@ module _ (counts counts′ : List ℕ → Bool) (ss : List (List ℕ)) (K : List
   plain-agree = rw arcs-agree
 
 module _ (ss : List (List ℕ)) where
-  stopFree-at : (K : List ℕ) → stopFree ss K ≡ true → (i : ℕ) → In i K → begins (stop ∷ []) (slip ss i) ≡ false
+  pub stopFree-at : (K : List ℕ) → stopFree ss K ≡ true → (i : ℕ) → In i K → begins (stop ∷ []) (slip ss i) ≡ false
   stopFree-at K h = none-any (λ i. begins (stop ∷ []) (slip ss i)) K (not-true (any (λ i. begins (stop ∷ []) (slip ss i)) K) h)
 
   pub stopFree-kept : (M : List ℕ) → stopFree ss M ≡ true → stopFree ss (kept ss M) ≡ true

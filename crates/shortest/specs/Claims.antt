@@ -1,7 +1,7 @@
 -- What is claimed of the shortest legend of every accepted tray, over the definitions alone, however many slips are kept.
 --   times i xs        == how often the number i stands in xs
 --   IsOrder K xs      == xs is an order of K: every number stands in both equally often
---   Shortest c        == what is claimed
+--   Optimal c         == what is claimed of the first shortest order and its legend
 --   Shortest-legends  == so for every accepted tray
 use mathlib.Core.Path.{_≡_}
 use mathlib.Core.Bool.{true, false}
@@ -25,7 +25,7 @@ times i xs = length (those (eqb i) xs)
 abbrev pub IsOrder : List ℕ → List ℕ → Type 0
 IsOrder K xs = (i : ℕ) → times i xs ≡ times i K
 
-pub record Shortest (c : Composing) : Type 0 where
+pub record Optimal (c : Composing) : Type 0 where
   -- each kept slip once, and no other
   pub an-order : IsOrder (keptOf c) (shortestOrder c)
   -- no order of the kept slips has a shorter legend
@@ -43,4 +43,4 @@ pub record Shortest (c : Composing) : Type 0 where
       stopFree (c .slips) (keptOf c) ≡ true → (t : List ℕ) → holdsAll (c .slips) (keptOf c) t ≡ true → length (shortestLegend c) ≤ length t
 
 abbrev pub Shortest-legends : Type 0
-Shortest-legends = (s es : List ℕ) → trayFault s es .number ≡ 0 → Shortest (whole (slipsOf s es))
+Shortest-legends = (s es : List ℕ) → trayFault s es .number ≡ 0 → Optimal (whole (slipsOf s es))
