@@ -9,6 +9,9 @@ pub const MAX_SLIP: usize = 32;
 
 pub const MAX_LETTERS: usize = 2000;
 
+// 20: the shortest legend is sought for at most so many kept slips.
+pub const MAX_SHORTEST: usize = 10;
+
 // The full stop, the lowest of the 27 signs.
 pub const STOP: u8 = 46;
 

@@ -1,0 +1,2 @@
+-- The loops over the pairs.
+pub mod PairLoops
