@@ -10,7 +10,7 @@ ghost use Rattle.chains.specs.steps.Following.{ChainAsks, AddAsks};
 use tables::wide;
 
 // Writes the `m`-th piece.
-fn put_piece(pieces: &mut [u16], m: usize, slip: usize, shared: usize)
+pub fn put_piece(pieces: &mut [u16], m: usize, slip: usize, shared: usize)
     requires { ⌜ (2 * m + 1 < length (now pieces)) × (slip < 65536) × (shared < 65536) ⌝ }
     ensures { λ _. ⌜ PiecesBehind (piece slip shared ∷ []) m (now (pieces .entry)) (now (pieces .exit)) (m + 1) ⌝ }
 {

@@ -1,0 +1,2 @@
+-- One slip more in an order.
+pub mod OrderLoop
