@@ -1,39 +1,23 @@
 -- From the staged answer to lists of numbers: nothing is copied where something was refused.
---   cells-more, cells-all == one turn of the loop that copies cells, and its end
 --   joins-can, places-can == what copying asks
 --   flat-says             == what composing over slices of numbers leaves
-use mathlib.Core.Path.{_≡_, refl, _∙_, ap}
+use mathlib.Core.Path.{_≡_, _∙_, ap}
 use mathlib.Core.Bool.{true}
 use mathlib.Core.List.{List}
-use Prim.Native.Nat.{ℕ, _+_, _-_, _*_, _/_, _≤_, _<_}
+use Prim.Native.Nat.{ℕ, _*_, _/_, _≤_}
 use borrow.Author.Tests.{leb-true}
 use native.Mathlib.Omega.{arith}
 use lib.Dec.{leb}
-use lib.ListN.{length, getD, set}
+use lib.ListN.{length}
 use Rattle.words.specs.Lists.{over}
-use Rattle.words.proofs.Buffers.{over-set}
 use Rattle.tables.specs.Tables.{table}
-use Rattle.tables.proofs.Tables.{table-length, table-more}
 use Rattle.layout.specs.Layout.{JOINS, PLACES}
 use Rattle.answers.specs.declared.Composed.{Composed}
 use Rattle.composing.specs.steps.Composing.{Staged}
 use Rattle.composing.proofs.StagedTells.{staged-tells, staged-room}
 use Rattle.answers.specs.Composing.{placeCells}
 use Rattle.answers.specs.Flat.{ComposeFlat}
-use Rattle.flat.specs.steps.Copying.{CanCopy}
-
-pub cells-more : (w old out : List ℕ) (base i n : ℕ) → CanCopy w base n old → i < n → out ≡ over (table w base i) old →
-    set out i (getD w (base + i) 0) ≡ over (table w base (i + 1)) old
-cells-more w old out base i n a h e =
-    rw (e, table-more w base i (i + 1) (omega (arith, a .there)) refl)
-    (over-set 0 (table w base i) old i (getD w (base + i) 0) (table-length w base i (omega (arith, a .there))) (omega (arith, a .room)))
-
-pub cells-none : (w old : List ℕ) (base : ℕ) → old ≡ over (table w base 0) old
-unfolding table
-cells-none w old base = refl
-
-pub cells-all : (w old out : List ℕ) (base i n : ℕ) → i ≤ n → n ≤ i → out ≡ over (table w base i) old → out ≡ over (table w base n) old
-cells-all w old out base i n a b e = let q : i ≡ n = omega arith in e ∙ rw q
+use Rattle.copying.specs.Copying.{CanCopy}
 
 module _ (s es w w₁ l l′ : List ℕ) (jr pr : ℕ) (r : Composed) (st : Staged s es w w₁ l l′ jr pr r) where
   pub joins-can : (m : ℕ) (j : List ℕ) → m ≡ r .joins → jr ≡ length j / 3 → CanCopy w₁ JOINS (3 * m) j

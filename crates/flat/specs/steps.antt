@@ -1,3 +1,2 @@
 -- What only loops and their proofs need.
-pub mod Copying
 pub mod Occurrences

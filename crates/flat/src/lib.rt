@@ -1,9 +1,6 @@
 // Composing and finding over slices of numbers: three numbers a join, `PLACE_CELLS` a place, two an occurrence.
 ghost use mathlib.Core.Path.{_≡_};
-ghost use Rattle.words.specs.Lists.{over};
-ghost use Rattle.tables.specs.Tables.{table};
 ghost use Rattle.answers.specs.Flat.{ComposeFlat};
-ghost use Rattle.flat.specs.steps.Copying.{CanCopy};
 ghost use Prim.Native.Nat.{_+_, _<_};
 ghost use Rattle.answers.specs.Finding as F;
 ghost use Rattle.flat.specs.steps.Occurrences as N;
@@ -13,18 +10,6 @@ use answers::Search;
 use layout::JOINS;
 use layout::PLACES;
 use tables::whole;
-
-// Copies the first `n` cells of the table at `base` over the first part of `out`.
-fn copy_cells(work: &[u16], base: usize, n: usize, out: &mut [u16])
-    requires { ⌜ CanCopy (now work) base n (now out) ⌝ }
-    ensures { λ _. ⌜ now (out .exit) ≡ over (table (now (work .entry)) base n) (now (out .entry)) ⌝ }
-{
-    let mut i: usize = 0;
-    while i < n {
-        out[i] = work[base + i];
-        i += 1;
-    }
-}
 
 // Composes any tray, or refuses it. A join is three numbers (left slip, right slip, overlap), a place three (the place, 1 if the slip is kept, and the letters
 // compared to find it).
@@ -42,8 +27,8 @@ pub fn compose_flat(
     let joins_room = joins.len() / 3;
     let places_room = places.len() / PLACE_CELLS;
     let answer = composing::compose_staged(letters, ends, work, legend, joins_room, places_room);
-    copy_cells(work, JOINS, 3 * whole(answer.joins), joins);
-    copy_cells(work, PLACES, PLACE_CELLS * whole(answer.slips), places);
+    copying::copy_cells(work, JOINS, 3 * whole(answer.joins), joins);
+    copying::copy_cells(work, PLACES, PLACE_CELLS * whole(answer.slips), places);
     answer
 }
 

@@ -4,10 +4,10 @@ use Prim.Native.Nat.{_-_, _≤_}
 use lib.ListN.{length}
 use Rattle.words.specs.Lists.{over}
 use Rattle.tables.specs.Tables.{table}
-use Rattle.flat.proofs.ComposingSteps.{cells-none, cells-more, cells-all}
+use Rattle.copying.proofs.CopyLoop.{cells-none, cells-more, cells-all}
 use borrow.Author.Needs.{needs}
-use Rattle.flat.proofs.copy_cells.Statement.{statement}
-use Rattle.flat.proofs.copy_cells.Tie as tie
+use Rattle.copying.proofs.copy_cells.Statement.{statement}
+use Rattle.copying.proofs.copy_cells.Tie as tie
 
 abbrev Inv-loop : tie.InvT-loop
 Inv-loop work base n out₀ i₀ out i = (i ≤ n) × (out ≡ over (table work base i) out₀) × (length out ≡ length out₀)

@@ -1,0 +1,2 @@
+-- The loop that copies cells.
+pub mod CopyLoop

@@ -1,0 +1,2 @@
+-- Copying cells of the work area.
+pub mod Copying
