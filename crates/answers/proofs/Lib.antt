@@ -2,4 +2,5 @@
 pub mod AllComposed
 pub mod AllFound
 pub mod AllSought
+pub mod BeforeC
 pub mod FlatLists

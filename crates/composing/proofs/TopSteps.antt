@@ -1,9 +1,8 @@
 -- From the check of the tray to the last step.
 use mathlib.Core.Path.{_≡_, refl, sym, _∙_, ap}
 use mathlib.Core.Bool.{_||_}
-use mathlib.Core.List.{List, [], _∷_, _++_}
+use mathlib.Core.List.{List, [], _∷_}
 use Prim.Native.Nat.{ℕ, zero, suc, _≤_, _<_}
-use borrow.Author.Tests.{lt-ltb, le-ltb}
 use native.Mathlib.Omega.{arith}
 use lib.Dec.{ltb}
 use lib.ListN.{length}
@@ -12,8 +11,7 @@ use Rattle.trays.specs.declared.Refusal.{Refusal}
 use Rattle.trays.specs.Limits.{workNeed}
 use Rattle.trays.specs.Slips.{slipsOf, numbers}
 use Rattle.trays.specs.Aside.{kept, counted}
-use Rattle.trays.specs.Faults.{refusal, accepted, row, firstRow, trayRows, trayFault}
-use Rattle.trays.proofs.Rows.{or-zero, or-some, rows-append}
+use Rattle.trays.specs.Faults.{refusal, row, trayFault}
 use Rattle.greedy.specs.Joins.{plainFor}
 use Rattle.greedy.specs.Composing.{whole, joinsOf, legendOf}
 use Rattle.layout.specs.Layout.{KEPT}
@@ -26,6 +24,7 @@ use Rattle.walking.specs.steps.Walking as W
 use Rattle.answers.specs.WorkArea.{workRow}
 use Rattle.answers.specs.declared.Composed.{Composed}
 use Rattle.answers.specs.Composing.{beforeC, composeFault, refusedBy}
+use Rattle.answers.proofs.BeforeC.{tray-first, work-first, work-same, work-kept}
 use Rattle.finishing.specs.steps.Finishing.{Joined, Finished}
 use Rattle.composing.specs.steps.Composing.{Staged}
 use Rattle.finishing.proofs.FinishSteps.{turned-back}
@@ -78,17 +77,13 @@ module _ (s es w : List ℕ) (a : Buildable s es w) (nodes : ℕ) (w₁ : List �
         }
 
 -- the rows before place C
-tray-first : (s es : List ℕ) (rs : List Refusal) (f : Refusal) → f ≡ trayFault s es → (f .number ≡ 0 → ⊥) → firstRow (trayRows s es ++ rs) ≡ f
-unfolding trayFault
-tray-first s es rs f e z = rows-append (trayRows s es) rs ∙ rw (← e) (or-some f (firstRow rs) (omega arith))
-
 module _ (s es w l : List ℕ) (jr pr : ℕ) (r : Composed) where
   abbrev lastRows : List Refusal
   lastRows =
       let ss = slipsOf s es in
       let need = length (legendOf (whole ss)) in
       let joins = length (joinsOf (whole ss)) in
-      workRow (length w) ∷ (row 8 (ltb (length l) need) need ∷ (row 9 (ltb jr joins || ltb pr (length ss)) joins ∷ []))
+      row 8 (ltb (length l) need) need ∷ (row 9 (ltb jr joins || ltb pr (length ss)) joins ∷ [])
 
   refused-before : (f : Refusal) (n d : ℕ) → f ≡ refusal (suc n) d → composeFault s es (length w) (length l) jr pr ≡ f → r ≡ refusedBy f →
       Staged s es w w l l jr pr r
@@ -97,7 +92,7 @@ module _ (s es w l : List ℕ) (jr pr : ℕ) (r : Composed) where
       record {
         answer-is = t .answer-is;
         legend-is = t .legend-is;
-        work-is = record { same = refl; untouched = λ z. refl };
+        work-is = work-same (beforeC s es (length w)) w;
         joins-are = t .joins-are;
         places-are = t .places-are;
       }
@@ -108,37 +103,26 @@ module _ (s es w l : List ℕ) (jr pr : ℕ) (r : Composed) where
     where
       go : (n : ℕ) → f .number ≡ n → Staged s es w w l l jr pr r
       go zero h = absurd (z h)
-      go (suc n) h = refused-before f n (f .detail) (ap (λ (m : ℕ). refusal m (f .detail)) h) (tray-first s es lastRows f e z) q
+      go (suc n) h = refused-before f n (f .detail) (ap (λ (m : ℕ). refusal m (f .detail)) h) (tray-first s es (workRow (length w) ∷ lastRows) f e z) q
 
   module _ (f : Refusal) (e : f ≡ trayFault s es) (z : f .number ≡ 0) where
     silent : trayFault s es .number ≡ 0
     silent = ap (λ (g : Refusal). g .number) (sym e) ∙ z
 
     pub staged-room : length w < workNeed → r ≡ refusedBy (refusal 7 0) → Staged s es w w l l jr pr r
-    unfolding composeFault trayFault
-    staged-room h q =
-        refused-before (refusal 7 0) 6 0 refl
-        (rows-append (trayRows s es) lastRows ∙ or-zero (firstRow (trayRows s es)) (firstRow lastRows) silent ∙ rw (lt-ltb (length w) workNeed h)) q
+    unfolding composeFault
+    staged-room h q = refused-before (refusal 7 0) 6 0 refl (work-first s es silent (length w) lastRows h) q
 
     module _ (room : workNeed ≤ length w) where
       pub build-can : Buildable s es w
       build-can = record { tray = silent; room = room }
-
-      before-none : beforeC s es (length w) ≡ accepted
-      unfolding beforeC trayFault
-      before-none =
-          let last = workRow (length w) ∷ [] in
-          rows-append (trayRows s es) last ∙ or-zero (firstRow (trayRows s es)) (firstRow last) silent ∙ rw (le-ltb (length w) workNeed room)
 
       pub staged-all : (w′ l′ : List ℕ) → Finished s es w w′ l l′ jr pr r → Staged s es w w′ l l′ jr pr r
       staged-all w′ l′ t =
           record {
             answer-is = t .answer-is;
             legend-is = t .legend-is;
-            work-is = record { same = t .same; untouched = λ h. absurd (no h (ap (λ (g : Refusal). g .number) before-none)) };
+            work-is = work-kept s es w w′ silent room (t .same);
             joins-are = t .joins-are;
             places-are = t .places-are;
           }
-        where
-          no : 1 ≤ beforeC s es (length w) .number → beforeC s es (length w) .number ≡ 0 → ⊥
-          no u v = omega arith

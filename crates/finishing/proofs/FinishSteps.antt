@@ -12,15 +12,14 @@ use Rattle.tables.proofs.Tables.{table-more}
 use Rattle.trays.specs.declared.Refusal.{Refusal}
 use Rattle.trays.specs.Limits.{maxSlips, workNeed}
 use Rattle.trays.specs.Slips.{slipsOf}
-use Rattle.trays.specs.Faults.{refusal, accepted, row, orElse, firstRow, trayRows, trayFault, written}
-use Rattle.trays.proofs.Rows.{or-zero, rows-append}
+use Rattle.trays.specs.Faults.{refusal, accepted, row, orElse, trayFault, written}
 use Rattle.greedy.specs.Joins.{Join}
 use Rattle.greedy.specs.Composing.{whole, joinsOf, legendOf}
 use Rattle.layout.specs.Layout.{JOINS}
 use Rattle.layout.specs.Staging.{joinIn, joinsIn}
-use Rattle.answers.specs.WorkArea.{workRow}
 use Rattle.answers.specs.declared.Composed.{Composed}
 use Rattle.answers.specs.Composing.{composeFault, composedOf, outcomeOf, refusedBy, flatJoins}
+use Rattle.answers.proofs.BeforeC.{rows-left}
 use Rattle.counting.proofs.CountSteps.{joins-more}
 use Rattle.finishing.specs.steps.Finishing.{Finished}
 
@@ -33,14 +32,12 @@ module _ (s es w : List ℕ) (tray : trayFault s es .number ≡ 0) (room : workN
       composeFault s es (length w) l j p
       ≡ orElse (row 8 (ltb l (length (legendOf (whole ss)))) (length (legendOf (whole ss))))
       (orElse (row 9 (ltb j (length (joinsOf (whole ss))) || ltb p (length ss)) (length (joinsOf (whole ss)))) accepted)
-  unfolding composeFault trayFault
+  unfolding composeFault
   outcome-rows =
-      rows-append (trayRows s es)
-      (workRow (length w) ∷
+      rows-left s es tray (length w)
       (row 8 (ltb l (length (legendOf (whole ss)))) (length (legendOf (whole ss)))
-      ∷ (row 9 (ltb j (length (joinsOf (whole ss))) || ltb p (length ss)) (length (joinsOf (whole ss))) ∷ [])))
-      ∙ or-zero (firstRow (trayRows s es)) _ tray
-      ∙ rw (le-ltb (length w) workNeed room)
+      ∷ (row 9 (ltb j (length (joinsOf (whole ss))) || ltb p (length ss)) (length (joinsOf (whole ss))) ∷ []))
+      room
 
   pub legend-short : l < length (legendOf (whole ss)) → composeFault s es (length w) l j p ≡ refusal 8 (length (legendOf (whole ss)))
   legend-short h = outcome-rows ∙ rw (lt-ltb l (length (legendOf (whole ss))) h)

@@ -101,3 +101,7 @@ TALLY = 25512
 -- behind the table TALLY
 abbrev pub SCAN : ℕ
 SCAN = 27513
+
+-- 10350 cells: the pairs and groups of the search for the shortest legend. It fills KEPT and no table behind it, so these lie over STARTS and what follows.
+abbrev pub SEEK : ℕ
+SEEK = 14309

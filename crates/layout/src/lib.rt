@@ -54,3 +54,6 @@ pub const TALLY: usize = 25512;
 
 // Where a scan is kept in the work area, behind the tables.
 pub const SCAN: usize = 27513;
+
+// Where the search for the shortest legend keeps its tables: behind KEPT, over tables that it does not fill.
+pub const SEEK: usize = 14309;
