@@ -1,2 +1,3 @@
 -- Laws of laying.
 pub mod LayStep
+pub mod OrderFits

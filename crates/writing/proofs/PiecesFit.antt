@@ -20,6 +20,7 @@ use Rattle.greedy.proofs.Demand3.{numbers-rise}
 use Rattle.greedy.proofs.KeptSizes.{TraySlips, traySlips, joins-rep, kept-real, legend-small}
 use Rattle.greedy.proofs.Letters.{Order, over-most, legend-order, pieces-numbers}
 use Rattle.laying.specs.Laying.{PieceFits}
+use Rattle.laying.proofs.OrderFits.{order-fits}
 use Rattle.placing.specs.Places.{Placeable}
 use Rattle.placing.proofs.PlacesAre.{isLaid, LaidOnce}
 
@@ -60,14 +61,6 @@ all-times P (p ∷ ps) h =
     (h (p .number) (omega (arith, is-same (p .number) (p .number) refl)), all-times P ps (λ i l. h i (omega arith)))
 
 -- an order of slips of the tray, behind so many letters, can be placed
-order-fits : (s es : List ℕ) (ps : List Piece) (x : List ℕ) → Order (slipsOf s es) x ps → All (λ p. (1 ≤ p .number) × (p .number ≤ length es)) ps →
-    All (PieceFits s es) ps
-order-fits s es [] x o a = tt
-order-fits s es (p ∷ ps) x o a = (
-  record { some = a .0 .0; most = a .0 .1; within = over-most x (p .overlap) (slip (slipsOf s es) (p .number)) (o .0) },
-  order-fits s es ps (slip (slipsOf s es) (p .number)) (o .1) (a .1),
-)
-
 order-places : (s es : List ℕ) (ps : List Piece) (x : List ℕ) (here : ℕ) → length x < here → here + length (spelled (slipsOf s es) ps) < 65536 →
     Order (slipsOf s es) x ps → All (λ p. (1 ≤ p .number) × (p .number ≤ length es)) ps → Placeable s es here ps
 order-places s es [] x here h b o a = omega arith
