@@ -1,2 +1,4 @@
 -- What only loops and their proofs need.
 pub mod Marks
+pub mod Seeking
+pub mod Working
