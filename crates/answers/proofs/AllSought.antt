@@ -2,7 +2,7 @@
 --   Sought    == a tray, the cells and the letters lent, and the answer
 --   computed  == the answer to it by the definition
 use mathlib.Core.Path.{_≡_, refl}
-use mathlib.Core.List.{List, [], _∷_, _++_, map}
+use mathlib.Core.List.{List, [], _∷_, map}
 use Prim.Native.Nat.{ℕ}
 use Prim.Native.String.{String}
 use lib.ListN.{replicate}

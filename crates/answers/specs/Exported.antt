@@ -1,13 +1,19 @@
 -- The calls for other languages: the answer is a list of numbers.
 --   inNumbers r    == the answer of composing as eight numbers; searchNumbers r == that of finding as four
---   ComposeExported, FindExported == what the calls leave
+--   shortestNumbers r == that of the shortest legend as fourteen: number, detail, letters, count and the order's ten
+--   ComposeExported, FindExported, ShortestExported == what the calls leave
 use mathlib.Core.Path.{_≡_}
-use mathlib.Core.List.{List, [], _∷_}
+use mathlib.Core.List.{List, [], _∷_, map}
 use Prim.Native.Nat.{ℕ, _-_}
+use lib.ListN.{getD}
+use Rattle.words.specs.Lists.{upFrom}
+use Rattle.trays.specs.Limits.{maxShortest}
 use Rattle.answers.specs.declared.Composed.{Composed}
 use Rattle.answers.specs.declared.Search.{Search}
+use Rattle.answers.specs.declared.Shortest.{Shortest}
 use Rattle.answers.specs.Finding as F
 use Rattle.answers.specs.Flat.{ComposeFlat}
+use Rattle.answers.specs.Shortest.{ShortestSays}
 
 abbrev pub inNumbers : Composed → List ℕ
 inNumbers r =
@@ -25,3 +31,11 @@ pub record FindExported (s es t w w′ o o′ a′ : List ℕ) : Type 0 where
   pub answer : Search
   pub says : F.FindFlat s es t w w′ o o′ answer
   pub numbers-are : a′ ≡ searchNumbers answer
+
+abbrev pub shortestNumbers : Shortest → List ℕ
+shortestNumbers r = r .number ∷ (r .detail ∷ (r .legend ∷ (r .count ∷ map (λ i. getD (r .order) i 0) (upFrom 0 maxShortest))))
+
+pub record ShortestExported (s es w w′ l l′ a′ : List ℕ) : Type 0 where
+  pub answer : Shortest
+  pub says : ShortestSays s es w w′ l l′ answer
+  pub numbers-are : a′ ≡ shortestNumbers answer

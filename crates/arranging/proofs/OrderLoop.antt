@@ -9,14 +9,13 @@ use Prim.Native.Nat.{ℕ, zero, suc, _+_, _-_, _*_, _^_, _≤_, _<_}
 use native.Mathlib.Numerals.{sub-one, add-one}
 use native.Mathlib.Omega.{arith}
 use lib.ListN.{length, getD, take, length-append, length-drop}
-use lib.Seq.{take-suc, take-all}
+use lib.Seq.{take-suc}
 use Rattle.words.specs.Lists.{lastOr}
 use Rattle.words.proofs.Overlaps.{overlapFor-fits}
 use Rattle.words.proofs.Members.{each-append}
-use Rattle.trays.specs.Limits.{maxSlips, maxSlip}
+use Rattle.trays.specs.Limits.{maxSlip}
 use Rattle.trays.specs.Slips.{slipsOf, slip}
 use Rattle.trays.specs.Aside.{counted}
-use Rattle.trays.specs.Faults.{trayFault}
 use Rattle.trays.proofs.Spans.{accepted-spanned}
 use Rattle.greedy.specs.Legends.{Piece, piece, added, spelled}
 use Rattle.greedy.specs.Orders.{weight, row}

@@ -1,6 +1,7 @@
 // The calls for other languages: a slice is a pointer and a length, and the answer is a list of numbers behind a pointer.
 ghost use Rattle.exports.specs.Numbers.{SlipExported, PairExported, ReadExported};
-ghost use Rattle.answers.specs.Exported.{ComposeExported, FindExported};
+ghost use Rattle.answers.specs.Exported.{ComposeExported, FindExported, ShortestExported};
+use tables::number;
 
 // Composing. A join is three numbers (left slip, right slip, overlap), a place three (the place, 1 if the slip is kept, and the letters compared to find it).
 // The answer's number, detail, slips, kept slips, kept letters, saved letters, legend letters and joins are eight numbers.
@@ -27,6 +28,38 @@ pub extern "C" fn kotsghane_compose(
         r.saved,
         r.legend,
         r.joins,
+    ];
+}
+
+// The shortest legend. The answer's number, detail, legend letters, count of kept slips and the ten numbers of their order are fourteen numbers.
+#[no_mangle]
+pub extern "C" fn kotsghane_shortest(
+    letters: &[u8],
+    ends: &[u16],
+    work: &mut [u16],
+    legend: &mut [u8],
+    answer: &mut [u32; 14],
+)
+    ensures { λ _. ⌜ ShortestExported (now (letters .entry)) (now (ends .entry)) (now (work .entry)) (now (work .exit))
+        (now (legend .entry)) (now (legend .exit)) (now (answer .exit)) ⌝ }
+{
+    let r = seeking::shortest_legend(letters, ends, work, legend);
+    let order = r.order;
+    *answer = [
+        r.number as u32,
+        r.detail,
+        r.legend,
+        r.count,
+        number(order[0]),
+        number(order[1]),
+        number(order[2]),
+        number(order[3]),
+        number(order[4]),
+        number(order[5]),
+        number(order[6]),
+        number(order[7]),
+        number(order[8]),
+        number(order[9]),
     ];
 }
 

@@ -11,7 +11,6 @@ use Rattle.trays.specs.Slips.{slipsOf}
 use Rattle.trays.proofs.Rows.{by-number, written-all, written-none}
 use Rattle.matching.specs.Occurrences as O
 use Rattle.matching.specs.Occurrences.{occurrences}
-use Rattle.answers.specs.declared.Found.{Found}
 use Rattle.searching.specs.declared.Begun.{Begun}
 use Rattle.answers.specs.Finding.{findFault, flatFound}
 use Rattle.answers.specs.Finding.{FindFlat}

@@ -9,6 +9,7 @@ use answers::PLACE_CELLS;
 use answers::Search;
 use layout::JOINS;
 use layout::PLACES;
+use tables::number;
 use tables::whole;
 
 // Composes any tray, or refuses it. A join is three numbers (left slip, right slip, overlap), a place three (the place, 1 if the slip is kept, and the letters
@@ -30,12 +31,6 @@ pub fn compose_flat(
     copying::copy_cells(work, JOINS, 3 * whole(answer.joins), joins);
     copying::copy_cells(work, PLACES, PLACE_CELLS * whole(answer.slips), places);
     answer
-}
-
-fn number(x: u16) -> u32
-    ensures { λ r. ⌜ r ≡ x ⌝ }
-{
-    x as u32
 }
 
 // The first `count` occurrences, two numbers each, stored from the start of the list.

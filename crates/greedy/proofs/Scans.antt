@@ -10,7 +10,7 @@ use native.Mathlib.Omega.{arith}
 use lib.Dec.{eqb}
 use lib.ListN.{length}
 use borrow.Author.Tests.{eqb-true, eq-eqb, ne-eqb}
-use Rattle.words.specs.Lists.{those, headOr, tailOf}
+use Rattle.words.specs.Lists.{headOr, tailOf}
 use Rattle.words.specs.Words.{begins, endsProperly}
 use Rattle.words.proofs.Tests.{tell}
 use Rattle.words.proofs.Members.{In, Asc, those-yes, those-no, those-append, asc-those}

@@ -6,7 +6,6 @@ use mathlib.Core.List.{List, [], _∷_, _++_}
 use Prim.Native.Nat.{ℕ, _≤_}
 use native.Mathlib.Decide.{ℕ-discrete}
 use native.Mathlib.Omega.{arith}
-use lib.Dec.{eqb}
 use borrow.Author.Tests.{eq-eqb, ne-eqb}
 use Rattle.greedy.specs.Joins.{Join, join, rightOf, leftOf, lastOf}
 use Rattle.greedy.proofs.Linked.{Chained, left-joined, left-other, right-joined, right-other, last-joined, last-other}

@@ -14,7 +14,6 @@ use lib.ListN.{length, take}
 use Rattle.words.specs.Lists.{each, inOrder}
 use Rattle.words.specs.Words.{same, before, overlapFor}
 use Rattle.trays.specs.Slips.{slip}
-use Rattle.trays.specs.Aside.{kept}
 
 -- Rules: a record of a join has left slip, right slip and overlap.
 pub record Join : Type 0 where

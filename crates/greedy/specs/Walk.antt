@@ -12,7 +12,6 @@ use lib.ListN.{length, take}
 use Rattle.words.specs.Lists.{each, those, inOrder, headOr, tailOf}
 use Rattle.words.specs.Words.{begins, before, endsProperly}
 use Rattle.trays.specs.Slips.{slip}
-use Rattle.trays.specs.Aside.{kept}
 use Rattle.greedy.specs.Joins.{Join, join, rightOf, leftOf, lastOf}
 
 -- the beginnings of s of n letters, n - 1 letters, .. 1 letter

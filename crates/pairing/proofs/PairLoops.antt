@@ -9,7 +9,7 @@ use native.Mathlib.Omega.{arith}
 use lib.ListN.{length, getD, replicate}
 use Rattle.tables.specs.Tables.{Room, Put, Filled}
 use Rattle.tables.proofs.Tables.{put-here, put-other, filled-at, replicate-at}
-use Rattle.trays.specs.Limits.{maxSlip, maxShortest}
+use Rattle.trays.specs.Limits.{maxShortest}
 use Rattle.groups.specs.Groups.{pairCells}
 use Rattle.overlaps.specs.Pairs.{TwoSlips, Overlap}
 use Rattle.pairing.specs.Pairs.{PairsAsk, PairsAre}

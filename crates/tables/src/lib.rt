@@ -11,6 +11,13 @@ pub fn wide(x: u16) -> usize
     x as usize
 }
 
+// A cell as a number of 32 bits.
+pub fn number(x: u16) -> u32
+    ensures { λ r. ⌜ r ≡ x ⌝ }
+{
+    x as u32
+}
+
 // A number of 32 bits as a count.
 pub fn whole(x: u32) -> usize
     ensures { λ r. ⌜ r ≡ x ⌝ }

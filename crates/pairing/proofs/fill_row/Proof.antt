@@ -1,6 +1,5 @@
 -- Invariant: the rows before a are filled, and the first b cells of row a.
 use Prim.Native.Nat.{_-_}
-use native.Mathlib.Omega.{arith}
 use Rattle.pairing.specs.steps.Pairing.{PairedTo}
 use Rattle.pairing.proofs.PairLoops.{row-listed, place-listed, row-fits, place-fits, rows-fit, cell-fits, pair-asks, cell-room, pair-more, row-done}
 use borrow.Author.Needs.{needs}
