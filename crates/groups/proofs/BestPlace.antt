@@ -16,7 +16,7 @@ use Rattle.shortest.specs.steps.Choosing.{greater, firstMost, choose, most}
 use Rattle.shortest.proofs.Firsts.{better-yes, better-no, firstFrom-append, firstMost-in, firstMost-same}
 use Rattle.shortest.proofs.Without.{without-length}
 use Rattle.shortest.proofs.Places.{choose-length}
-use Rattle.groups.specs.steps.Seeking.{bestOf}
+use Rattle.groups.specs.steps.NextPlace.{bestOf}
 use Rattle.groups.specs.steps.Working.{Right}
 
 -- one member more

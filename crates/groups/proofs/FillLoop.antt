@@ -12,7 +12,7 @@ use lib.ListN.{take}
 use lib.Pow.{pow-mono}
 use Rattle.trays.specs.Limits.{maxShortest}
 use Rattle.groups.specs.Groups.{pairCells, pairsOf, Paired}
-use Rattle.groups.specs.steps.Seeking.{cellOf}
+use Rattle.groups.specs.steps.NextPlace.{cellOf}
 use Rattle.groups.specs.steps.Working.{Worked, Begun, Filling, Ready, Storing}
 use Rattle.groups.proofs.Pairs.{pairs-kept, pairs-same}
 use Rattle.groups.proofs.Worked.{worked-start, worked-skip, worked-group, worked-count, worked-right}

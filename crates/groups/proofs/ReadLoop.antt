@@ -25,7 +25,7 @@ use Rattle.shortest.proofs.Without.{without-length}
 use Rattle.shortest.proofs.Places.{choose-length}
 use Rattle.groups.specs.Groups.{pairsOf, Ordered}
 use Rattle.groups.specs.steps.Marks.{bit, restOf}
-use Rattle.groups.specs.steps.Seeking.{cellOf, Seeking, BestAsks}
+use Rattle.groups.specs.steps.NextPlace.{cellOf, Seeking, BestAsks}
 use Rattle.groups.specs.steps.Working.{Begun, Filling, Reading}
 use Rattle.groups.proofs.BestPlace.{choose-step}
 use Rattle.groups.proofs.GroupMarks.{in-rest, rest-none, mark-rest, mark-below}

@@ -16,7 +16,7 @@ use Rattle.shortest.specs.steps.Choosing.{firstMost}
 use Rattle.tables.specs.Tables.{Got}
 use Rattle.groups.specs.Groups.{pairCells, pairsOf}
 use Rattle.groups.specs.steps.Marks.{bit, restOf}
-use Rattle.groups.specs.steps.Seeking.{bestOf, savedBy, Seeking, StepAsks, BestAsks}
+use Rattle.groups.specs.steps.NextPlace.{bestOf, savedBy, Seeking, StepAsks, BestAsks}
 use Rattle.groups.proofs.GroupMarks.{rest-yes, rest-no}
 use Rattle.groups.proofs.BestPlace.{best-taken, best-left}
 

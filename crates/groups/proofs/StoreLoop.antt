@@ -16,7 +16,7 @@ use Rattle.shortest.specs.Orders.{without}
 use Rattle.shortest.specs.steps.Choosing.{most}
 use Rattle.groups.specs.Groups.{pairCells, pairsOf}
 use Rattle.groups.specs.steps.Marks.{bit, restOf}
-use Rattle.groups.specs.steps.Seeking.{cellOf, Seeking, BestAsks}
+use Rattle.groups.specs.steps.NextPlace.{cellOf, Seeking, BestAsks}
 use Rattle.groups.specs.steps.Working.{Ready, Stored, Storing}
 use Rattle.groups.proofs.BestPlace.{most-step, most-bound}
 use Rattle.groups.proofs.GroupMarks.{rest-few}

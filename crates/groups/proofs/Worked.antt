@@ -1,6 +1,6 @@
 -- The table of groups, over any weights w and any table T: how it is filled, group by group, and what it says of the groups of one place more.
 --   worked-start  == before the first group, as no group has more than k places
---   worked-group  == one group more
+--   worked-skip, worked-group == one group more, of another count or of this one
 --   worked-count  == all groups of suc n places done, those of n places follow
 --   worked-right  == what is saved behind each place that is left, as it is worked out and read
 use mathlib.Core.Path.{_≡_, sym, ap, _∙_}

@@ -1,4 +1,4 @@
 -- What only loops and their proofs need.
 pub mod Marks
-pub mod Seeking
+pub mod NextPlace
 pub mod Working

@@ -9,7 +9,7 @@ ghost use Rattle.trays.specs.Limits.{maxShortest};
 ghost use Rattle.shortest.specs.steps.Choosing.{choose};
 ghost use Rattle.groups.specs.Groups.{pairsOf, Paired, Ordered};
 ghost use Rattle.groups.specs.steps.Marks.{bit};
-ghost use Rattle.groups.specs.steps.Seeking.{Seeking, StepAsks, BestAsks};
+ghost use Rattle.groups.specs.steps.NextPlace.{Seeking, StepAsks, BestAsks};
 ghost use Rattle.groups.specs.steps.Working.{Begun, Filling, Ready, Stored, Storing};
 use tables::at;
 use tables::narrow;

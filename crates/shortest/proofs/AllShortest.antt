@@ -2,11 +2,14 @@
 --   Short    == a tray, the order of its kept slips, and their legend
 --   shorts   == the list
 use mathlib.Core.Path.{_≡_, refl}
+use mathlib.Core.Bool.{true}
 use mathlib.Core.List.{List, [], _∷_, map}
 use Prim.Native.Nat.{ℕ}
 use Prim.Native.String.{String}
+use lib.ListN.{length}
 use Rattle.words.specs.Quoted.{word}
 use Rattle.greedy.specs.Composing.{whole}
+use Rattle.greedy.specs.Claims.{holdsAll}
 use Rattle.shortest.specs.Orders.{shortestOrder, shortestLegend}
 
 pub record Short : Type 0 where
@@ -46,3 +49,13 @@ computed s =
 
 pub shorts-computed : map computed shorts ≡ shorts
 shorts-computed = refl
+
+-- Where a kept slip begins with a stop, a text may be shorter: A.B holds A. and .B and has three letters, their legend four.
+abbrev stops : List (List ℕ)
+stops = map word ("A." ∷ ".B" ∷ [])
+
+pub shorter-held : holdsAll stops (1 ∷ 2 ∷ []) (word "A.B") ≡ true
+shorter-held = refl
+
+pub shorter-text : (length (word "A.B") ≡ 3) × (length (shortestLegend (whole stops)) ≡ 4)
+shorter-text = (refl, refl)

@@ -1,6 +1,7 @@
 // Reads cases from standard input, a line each, and writes what the calls answer. Fields are separated by one blank; the first byte of a line is its tag:
 //     - heading                                      copied
 //     C WORK LEGEND JOINS PLACES LETTERS END END ..  composing, with so much lent
+//     L WORK LEGEND LETTERS END END ..               the shortest legend, with so much lent
 //     F WORK LIST TEXT LETTERS END END ..            finding, with so much lent
 //     A LEFT RIGHT LETTERS END END ..                the check of a tray, one slip, one pair
 //     T LETTERS ENDS FILE                            reading a tray file, with so much lent
@@ -16,10 +17,12 @@ mod compose;
 mod find;
 mod pairs;
 mod read;
+mod shortest;
 
 fn row(line: &[u8]) {
     match table::byte_at(line, 0) {
         b'C' => compose::row(line),
+        b'L' => shortest::row(line),
         b'F' => find::row(line),
         b'A' => ask::row(line),
         b'T' => read::row(line),

@@ -1,7 +1,7 @@
 -- Invariant: what was found is the best of the first j places.
 use Prim.Native.Nat.{_≤_, _-_}
 use native.Mathlib.Numerals.{add-one}
-use Rattle.groups.specs.steps.Seeking.{Seeking}
+use Rattle.groups.specs.steps.NextPlace.{Seeking}
 use Rattle.groups.proofs.SeekLoop.{seek-start, seek-asks, seek-end}
 use borrow.Author.Needs.{needs}
 use Rattle.groups.proofs.best.Statement.{statement}

@@ -22,7 +22,7 @@ use Rattle.shortest.specs.Orders.{without}
 use Rattle.shortest.specs.steps.Choosing.{choose, most}
 use Rattle.groups.specs.Groups.{pairCells, pairsOf, Paired}
 use Rattle.groups.specs.steps.Marks.{bit, restOf}
-use Rattle.groups.specs.steps.Seeking.{cellOf}
+use Rattle.groups.specs.steps.NextPlace.{cellOf}
 
 abbrev pub Right : (ℕ → ℕ → ℕ) → (ℕ → ℕ) → List ℕ → Type 0
 Right w t R = (j : ℕ) → In j R → t j ≡ most w (length (without j R)) j (without j R)

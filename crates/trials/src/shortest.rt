@@ -1,0 +1,74 @@
+// The shortest legend of a tray.
+ghost use Prim.Native.Nat.{_≤_};
+ghost use lib.ListN.{length};
+use answers::Shortest;
+use case_lines::sums;
+use case_lines::table;
+use case_lines::writing;
+use case_lines::writing::put;
+
+// How many cells and bytes are lent, and where the letters start in the line.
+struct Rooms {
+    work: u32,
+    legend: u32,
+    at: usize,
+}
+
+fn read_rooms(line: &[u8]) -> Rooms
+    ensures { λ r. ⌜ r .at ≤ length (now (line .entry)) ⌝ }
+{
+    let work = table::field(line, table::start(line));
+    let legend_at = work.at;
+    let legend = table::field(line, legend_at);
+    Rooms {
+        work: work.value,
+        legend: legend.value,
+        at: legend.at,
+    }
+}
+
+fn answer(a: Shortest) {
+    io::write_all(1, b"L");
+    writing::refusal(a.number, a.detail);
+    put(a.legend);
+    put(a.count);
+    let order = a.order;
+    let mut i: usize = 0;
+    while i < 10 {
+        put(tables::number(order[i]));
+        i += 1;
+    }
+}
+
+fn seek(letters: &[u8], ends: &[u16], work: &mut [u16], legend: &mut [u8]) {
+    let a = seeking::shortest_legend(letters, ends, work, legend);
+    answer(a);
+    let n = table::least(a.legend, legend.len());
+    writing::bracketed(&legend[0..n]);
+    put(sums::bytes(0, legend));
+    writing::work(a.number, work);
+}
+
+fn try_tray(letters: &[u8], ends: &[u16], rooms: Rooms) {
+    let mut work = [7777u16; 32100];
+    let mut legend = [7u8; 2100];
+    let work_room = table::least(rooms.work, 32100);
+    let legend_room = table::least(rooms.legend, 2100);
+    seek(
+        letters,
+        ends,
+        &mut work[0..work_room],
+        &mut legend[0..legend_room],
+    );
+}
+
+pub fn row(line: &[u8]) {
+    let mut letters = [0u8; 2300];
+    let mut ends = [0u16; 300];
+    let rooms = read_rooms(line);
+    let at = rooms.at;
+    let tray = table::tray_at(line, at, &mut letters, &mut ends);
+    let size = tray.letters;
+    let slips = tray.ends;
+    try_tray(&letters[0..size], &ends[0..slips], rooms);
+}
