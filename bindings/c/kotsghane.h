@@ -4,7 +4,7 @@
  *
  * A tray is letters and ends: slip 1 runs from the start to ends[0], slip i from ends[i - 2] to ends[i - 1]. Every call takes any bytes, any ends and any
  * lengths; what cannot be done is refused, by a number and a detail in the answer (docs/REFUSALS.md). A refusal leaves every lent buffer as it was; only
- * the work area may differ, and only after 8, 9 and 14. On success the first part of each buffer is the outcome, and the rest is unchanged.
+ * the work area may differ, and only after 8, 9, 14 and 20. On success the first part of each buffer is the outcome, and the rest is unchanged.
  *
  * Each pointer comes with a length in elements and must point to as many; one with length 0 is never followed. What is lent for writing must not
  * overlap anything else that is lent. No call keeps a pointer, allocates, or unwinds.
@@ -27,7 +27,8 @@ enum {
     KOTSGHANE_MAX_TEXT = 2000,     /* letters of a text (12) */
     KOTSGHANE_WORK = 32000,        /* cells of the work area (7) */
     KOTSGHANE_MAX_FILE = 16384,    /* bytes of a tray file (16), and letters to lend for one (15) */
-    KOTSGHANE_FILE_ENDS = 1700     /* ends to lend for a tray file (15) */
+    KOTSGHANE_FILE_ENDS = 1700,    /* ends to lend for a tray file (15) */
+    KOTSGHANE_MAX_SHORTEST = 10    /* kept slips of which the shortest legend is sought (20) */
 };
 
 /* So many numbers make a record of each list. */
@@ -51,6 +52,15 @@ enum {
     KOTSGHANE_COMPOSED_NUMBERS
 };
 
+/* The answer of kotsghane_shortest: letters of the legend, how many slips are kept, and their numbers in the order in which they are laid, 0 past the
+ * count. All are 0 if refused. */
+enum {
+    KOTSGHANE_SHORTEST_LEGEND = 2,
+    KOTSGHANE_SHORTEST_COUNT,
+    KOTSGHANE_SHORTEST_ORDER,
+    KOTSGHANE_SHORTEST_NUMBERS = KOTSGHANE_SHORTEST_ORDER + KOTSGHANE_MAX_SHORTEST
+};
+
 /* The answer of kotsghane_find. */
 enum { KOTSGHANE_FOUND_MOVES = 2, KOTSGHANE_FOUND_COUNT, KOTSGHANE_FOUND_NUMBERS };
 
@@ -68,6 +78,12 @@ enum { KOTSGHANE_READ_LETTERS = 2, KOTSGHANE_READ_SLIPS, KOTSGHANE_READ_NUMBERS 
 void kotsghane_compose(const uint8_t *letters, size_t letters_len, const uint16_t *ends, size_t ends_len, uint16_t *work, size_t work_len,
                        uint8_t *legend, size_t legend_len, uint16_t *joins, size_t joins_len, uint16_t *places, size_t places_len,
                        uint32_t answer[KOTSGHANE_COMPOSED_NUMBERS]);
+
+/* Seeks the order of the kept slips whose legend is shortest; of several, the one that is smallest as a list of slip numbers. The legend is laid as one
+ * chain: each slip adds its letters beyond the overlap with the one before it. Lend KOTSGHANE_WORK cells; MAX_SHORTEST * MAX_SLIP letters suffice for any
+ * tray. Refusals 1 to 8 and 20, which is said before 8. */
+void kotsghane_shortest(const uint8_t *letters, size_t letters_len, const uint16_t *ends, size_t ends_len, uint16_t *work, size_t work_len,
+                        uint8_t *legend, size_t legend_len, uint32_t answer[KOTSGHANE_SHORTEST_NUMBERS]);
 
 /* Finds every occurrence of every slip in a text: by end place, then longer slips first, then lower numbers. Refusals 1 to 7 and 12 to 14; the detail of
  * 14 is how many occurrences there are. */

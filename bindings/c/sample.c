@@ -1,4 +1,4 @@
-/* Reads a tray file on standard input, composes it, and finds its slips in the legend: every call of kotsghane.h once. */
+/* Reads a tray file on standard input, composes it, finds its slips in the legend, and seeks the shortest legend: every call of kotsghane.h. */
 #include "kotsghane.h"
 #include <stdio.h>
 
@@ -15,8 +15,37 @@ static int refused(const char *call, const uint32_t *answer) {
     return answer[KOTSGHANE_NUMBER] != 0;
 }
 
+/* Says the shortest legend of k slips with n letters, in a buffer of so many letters. */
+static void say_shortest(size_t n, size_t k, size_t room) {
+    uint32_t shortest[KOTSGHANE_SHORTEST_NUMBERS];
+    kotsghane_shortest(letters, n, ends, k, work, KOTSGHANE_WORK, legend, room, shortest);
+    if (refused("shortest", shortest)) {
+        return;
+    }
+    printf("shortest legend %.*s, of slips", (int)shortest[KOTSGHANE_SHORTEST_LEGEND], (const char *)legend);
+    for (uint32_t i = 0; i < shortest[KOTSGHANE_SHORTEST_COUNT]; i++) {
+        printf(" %u", (unsigned)shortest[KOTSGHANE_SHORTEST_ORDER + i]);
+    }
+    printf("\n");
+}
+
+/* Says every slip that is found in a text. */
+static void say_found(size_t n, size_t k, const uint8_t *text, size_t length) {
+    uint32_t search[KOTSGHANE_FOUND_NUMBERS], slip[KOTSGHANE_SLIP_NUMBERS];
+    kotsghane_find(letters, n, ends, k, text, length, work, KOTSGHANE_WORK, found, sizeof found / sizeof *found, search);
+    if (refused("find", search)) {
+        return;
+    }
+    for (uint32_t i = 0; i < search[KOTSGHANE_FOUND_COUNT]; i++) {
+        const uint32_t *at = found + KOTSGHANE_OCCURRENCE * i;
+        kotsghane_slip(letters, n, ends, k, at[1], slip);
+        uint32_t start = slip[KOTSGHANE_SLIP_START], end = slip[KOTSGHANE_SLIP_END];
+        printf("slip %u, %.*s, ends at %u\n", (unsigned)at[1], (int)(end - start), (const char *)letters + start, (unsigned)at[0]);
+    }
+}
+
 int main(void) {
-    uint32_t read[KOTSGHANE_READ_NUMBERS], composed[KOTSGHANE_COMPOSED_NUMBERS], search[KOTSGHANE_FOUND_NUMBERS];
+    uint32_t read[KOTSGHANE_READ_NUMBERS], composed[KOTSGHANE_COMPOSED_NUMBERS];
     uint32_t slip[KOTSGHANE_SLIP_NUMBERS], pair[KOTSGHANE_PAIR_NUMBERS];
     size_t bytes = fread(file, 1, sizeof file, stdin);
     kotsghane_read_tray(file, bytes, letters, KOTSGHANE_MAX_FILE, ends, KOTSGHANE_FILE_ENDS, read);
@@ -42,16 +71,9 @@ int main(void) {
             printf("slip %u is set aside and stands at %u, %u letters compared\n", (unsigned)i + 1, place[0], place[2]);
         }
     }
-    kotsghane_find(letters, n, ends, k, legend, length, work, KOTSGHANE_WORK, found, sizeof found / sizeof *found, search);
-    if (refused("find", search)) {
-        return 1;
-    }
-    for (uint32_t i = 0; i < search[KOTSGHANE_FOUND_COUNT]; i++) {
-        const uint32_t *at = found + KOTSGHANE_OCCURRENCE * i;
-        kotsghane_slip(letters, n, ends, k, at[1], slip);
-        uint32_t start = slip[KOTSGHANE_SLIP_START], end = slip[KOTSGHANE_SLIP_END];
-        printf("slip %u, %.*s, ends at %u\n", (unsigned)at[1], (int)(end - start), (const char *)letters + start, (unsigned)at[0]);
-    }
+    say_found(n, k, legend, length);
+    say_shortest(n, k, sizeof legend);
+    say_shortest(n, k, 0);
     kotsghane_pair(letters, n, ends, k, 1, 1, pair);
     refused("pair", pair);
     kotsghane_slip(letters, n, ends, k, 0, slip);

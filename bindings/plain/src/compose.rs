@@ -89,6 +89,11 @@ fn is_aside(slips: &[&[u8]], i: usize) -> bool {
     slips.iter().any(longer) || slips[..i].contains(&x)
 }
 
+/// The kept slips, ascending: all that are not set aside.
+pub fn kept_slips(slips: &[&[u8]]) -> Vec<usize> {
+    (1..=slips.len()).filter(|&i| !is_aside(slips, i - 1)).collect()
+}
+
 /// The arcs between the kept slips: longer overlap first, then smaller overlap string, then lower right slip, then lower
 /// left slip.
 fn arcs(slips: &[&[u8]], kept: &[usize]) -> Vec<Join> {
@@ -143,8 +148,7 @@ impl Neighbours {
 
 /// The plain rule over the slips of an accepted tray, and the legend.
 pub fn compose(slips: &[&[u8]]) -> Composition {
-    let numbers = 1..=slips.len();
-    let kept: Vec<usize> = numbers.clone().filter(|&i| !is_aside(slips, i - 1)).collect();
+    let kept = kept_slips(slips);
     let mut chains = Neighbours {
         left: vec![None; slips.len() + 1],
         right: vec![None; slips.len() + 1],
@@ -176,7 +180,7 @@ pub fn compose(slips: &[&[u8]]) -> Composition {
         }
     };
     Composition {
-        places: numbers.map(place).collect(),
+        places: (1..=slips.len()).map(place).collect(),
         kept_letters: kept.iter().map(|&i| slips[i - 1].len()).sum(),
         joins,
         legend,

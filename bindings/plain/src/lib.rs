@@ -2,7 +2,7 @@
 //! slips, written only from the sentences of the rules. It shares no table, no loop and no order of work with the library.
 //! The numbers of the limits are those of the Rust crate.
 //!
-//! - [`tray`], [`fold`], [`mod@file`], [`compose`], [`find`], [`sheet`]: the plain program.
+//! - [`tray`], [`fold`], [`mod@file`], [`compose`], [`shortest`], [`find`], [`sheet`]: the plain program.
 //! - [`by_hand`]: what was worked out by hand.
 //! - [`made`]: made-up trays, texts and files, whole and damaged.
 //! - [`cases`]: the cases of the program `trials`, and what it must answer to each.
@@ -18,9 +18,12 @@ pub mod fold;
 mod limits;
 pub mod made;
 pub mod sheet;
+pub mod shortest;
 pub mod tray;
 
-pub use limits::{FILE_ENDS, MAX_FILE, MAX_LETTERS, MAX_SLIP, MAX_SLIPS, MAX_TEXT, PLACE_CELLS, WORK_CELLS};
+pub use limits::{
+    FILE_ENDS, MAX_FILE, MAX_LETTERS, MAX_SHORTEST, MAX_SLIP, MAX_SLIPS, MAX_TEXT, PLACE_CELLS, WORK_CELLS,
+};
 
 /// The occurrences that the list of the program `find` takes.
 pub const MAX_FOUND: usize = 8_000;

@@ -1,9 +1,10 @@
 //! Times the library and the plain program on the same trays and the same state of buffers: `cargo bench`.
-//! First the outcomes are compared, places included.
-use kotsghane::{compose, Composed, Join, Place, WORK_CELLS};
-use plain::compose::{compose_tray, try_places, Rooms};
+//! First the outcomes are compared, places included. Then the shortest legend of small die groups is timed beside composing.
+use kotsghane::{compose, shortest, Composed, Join, Place, Shortest, WORK_CELLS};
+use plain::compose::{compose_tray, kept_slips, try_places, Rooms};
 use plain::made::full::{different, many_inside, mixed_lengths};
 use plain::made::{slips, Chance, Shape, Slips};
+use plain::shortest::shortest_legend;
 use plain::tray::Tray;
 use plain::SIGNS;
 use std::hint::black_box;
@@ -81,6 +82,10 @@ impl Buffers {
     fn ours(&mut self, tray: &Tray, places: usize) -> Composed {
         let (legend, joins, places) = (&mut self.legend, &mut self.joins, &mut self.places[..places]);
         compose(&tray.letters, &tray.ends, &mut self.work, legend, joins, places)
+    }
+
+    fn shortest(&mut self, tray: &Tray) -> Shortest {
+        shortest(&tray.letters, &tray.ends, &mut self.work, &mut self.legend)
     }
 }
 
@@ -181,8 +186,8 @@ fn print_row(name: &str, trays: &[Timed]) {
     );
 }
 
-fn main() {
-    let mut buffers = Buffers::new();
+/// Composing full trays.
+fn full_trays(buffers: &mut Buffers) {
     println!("200 slips, 2,000 letters; microseconds a call, the mean of {TRAYS} trays");
     println!("| family | set aside | ours | all pairs | ratio | ours, turned back by 9 | trial of places alone |");
     println!("|---|---:|---:|---:|---:|---:|---:|");
@@ -191,8 +196,93 @@ fn main() {
         let made = |_| compare(&(family.make)(&mut chance));
         let mut trays: Vec<Timed> = (0..TRAYS).map(made).collect();
         for _ in 0..CALLS {
-            round(&mut trays, &mut buffers);
+            round(&mut trays, buffers);
         }
         print_row(family.name, &trays);
     }
+}
+
+/// Small die groups: so many slips of ten letters.
+struct Group {
+    name: &'static str,
+    make: fn(&mut Chance, usize) -> Slips,
+}
+
+const GROUPS: [Group; 3] = [
+    Group {
+        name: "random, 26 letters",
+        make: |chance, count| slips(Shape::Random, chance, count, 10, 10, &SIGNS[1..]),
+    },
+    Group {
+        name: "random, 2 letters",
+        make: |chance, count| slips(Shape::Random, chance, count, 10, 10, b"AB"),
+    },
+    Group {
+        name: "a single chain",
+        make: |chance, count| slips(Shape::Chain, chance, count, 10, 10, &SIGNS[1..]),
+    },
+];
+
+/// A small die group, and the least time of each call on it, in microseconds.
+struct Sought {
+    tray: Tray,
+    composing: f64,
+    shortest: f64,
+}
+
+/// A group of which all slips are kept. Seeks its shortest legend by both programs, and compares what they give.
+fn seek(chance: &mut Chance, group: &Group, count: usize) -> Sought {
+    let mut made = || Tray::of(&(group.make)(chance, count));
+    let mut tray = made();
+    while kept_slips(&tray.slips()).len() < count {
+        tray = made();
+    }
+    let mut outcome = Buffers::new();
+    let answer = outcome.shortest(&tray);
+    let made = shortest_legend(&tray, WORK_CELLS, 2_000).expect("few kept slips");
+    let order = answer.order[..answer.count as usize].iter();
+    assert!(order.map(|&slip| usize::from(slip)).eq(made.order));
+    assert_eq!(outcome.legend[..answer.legend as usize], made.legend);
+    Sought {
+        tray,
+        composing: f64::MAX,
+        shortest: f64::MAX,
+    }
+}
+
+/// The shortest legend beside composing the same tray.
+fn small_groups(buffers: &mut Buffers) {
+    println!("Slips of ten letters, all kept; microseconds a call, the mean of {TRAYS} trays");
+    println!("| family | kept | composing | shortest legend | ratio |");
+    println!("|---|---:|---:|---:|---:|");
+    for (seed, group) in GROUPS.iter().enumerate() {
+        for count in [5, 10] {
+            let mut chance = Chance::new(seed as u64);
+            let mut trays: Vec<Sought> = (0..TRAYS).map(|_| seek(&mut chance, group, count)).collect();
+            for _ in 0..CALLS {
+                for sought in trays.iter_mut() {
+                    buffers.reset();
+                    clock(&mut sought.composing, || buffers.ours(black_box(&sought.tray), 200));
+                }
+                for sought in trays.iter_mut() {
+                    buffers.reset();
+                    clock(&mut sought.shortest, || buffers.shortest(black_box(&sought.tray)));
+                }
+            }
+            let mean = |time: fn(&Sought) -> f64| trays.iter().map(time).sum::<f64>() / TRAYS as f64;
+            let (composing, shortest) = (mean(|t| t.composing), mean(|t| t.shortest));
+            let ratio = shortest / composing;
+            println!(
+                "| {} | {count} | {composing:.1} | {shortest:.1} | {ratio:.1} |",
+                group.name
+            );
+        }
+    }
+}
+
+fn main() {
+    let mut buffers = Buffers::new();
+    full_trays(&mut buffers);
+    println!();
+    small_groups(&mut buffers);
 }

@@ -3,6 +3,7 @@
 //! Slips of letters, together a tray, are joined by their overlaps into one legend, and found in a text. Full stops alone
 //! are no overlap. [`compose_tray`] and [`find_slips`] take care of all buffers; [`compose`] and [`find`] are for callers who
 //! lend their own. [`Tray::read`] reads a tray file, [`Tray::slip`] and [`Tray::overlap`] answer for one slip and for a pair.
+//! For few kept slips [`shortest_legend`], or [`shortest`] in lent buffers, seeks the shortest legend, not a good one.
 //!
 //! Letters are 27 signs: the capitals A to Z and the full stop. A tray file may have small letters, and U and J, which are
 //! not on the die: [`Tray::read`] files them as the die has them. No other call does.
@@ -27,12 +28,16 @@ mod asking;
 mod finding;
 mod limits;
 mod refusal;
+mod shortest;
 mod tray;
 
 pub use asking::{read_tray, Read};
 pub use finding::{find, find_slips, Finding, Found, Search};
-pub use limits::{FILE_ENDS, MAX_FILE, MAX_LETTERS, MAX_SLIP, MAX_SLIPS, MAX_TEXT, PLACE_CELLS, WORK_CELLS};
+pub use limits::{
+    FILE_ENDS, MAX_FILE, MAX_LETTERS, MAX_SHORTEST, MAX_SLIP, MAX_SLIPS, MAX_TEXT, PLACE_CELLS, WORK_CELLS,
+};
 pub use refusal::Refusal;
+pub use shortest::{shortest, shortest_legend, Shortest, ShortestLegend};
 pub use tray::{compose_tray, Legend, Tray};
 
 /// Two slips joined: the right one is laid behind the left one and shares `overlap` letters with it.

@@ -21,5 +21,8 @@ pub const MAX_FILE: usize = 16_384;
 /// So many ends are lent for a tray file (refusal 15).
 pub const FILE_ENDS: usize = 1_700;
 
+/// The most kept slips for which the shortest legend is sought (refusal 20).
+pub const MAX_SHORTEST: usize = 10;
+
 /// So many numbers a place has.
 pub const PLACE_CELLS: usize = 3;

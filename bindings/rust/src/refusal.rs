@@ -1,5 +1,5 @@
 //! What turns a call back.
-use crate::MAX_SLIP;
+use crate::{MAX_SHORTEST, MAX_SLIP};
 use std::error::Error;
 use std::fmt;
 
@@ -54,6 +54,7 @@ impl fmt::Display for Refusal {
                 f,
                 "line {d} of the tray file states another length than its letters have"
             ),
+            20 => write!(f, "the tray has over {MAX_SHORTEST} kept slips"),
             n => write!(f, "refused by {n}, detail {d}"),
         }
     }

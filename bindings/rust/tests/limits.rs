@@ -1,8 +1,10 @@
 //! The limits, and how many numbers a place has, stand in other files too, for other readers. There they are the same numbers.
-use kotsghane::{FILE_ENDS, MAX_FILE, MAX_LETTERS, MAX_SLIP, MAX_SLIPS, MAX_TEXT, PLACE_CELLS, WORK_CELLS};
+use kotsghane::{
+    FILE_ENDS, MAX_FILE, MAX_LETTERS, MAX_SHORTEST, MAX_SLIP, MAX_SLIPS, MAX_TEXT, PLACE_CELLS, WORK_CELLS,
+};
 
 /// Each with its names in the definitions and in the C header.
-const LIMITS: [(&str, &str, usize); 7] = [
+const LIMITS: [(&str, &str, usize); 8] = [
     ("maxSlips", "MAX_SLIPS", MAX_SLIPS),
     ("maxSlip", "MAX_SLIP", MAX_SLIP),
     ("maxLetters", "MAX_LETTERS", MAX_LETTERS),
@@ -10,6 +12,7 @@ const LIMITS: [(&str, &str, usize); 7] = [
     ("workNeed", "WORK", WORK_CELLS),
     ("maxFile", "MAX_FILE", MAX_FILE),
     ("endsNeed", "FILE_ENDS", FILE_ENDS),
+    ("maxShortest", "MAX_SHORTEST", MAX_SHORTEST),
 ];
 
 /// Each of these stands in that file of the repository, and no digit behind it.
@@ -45,4 +48,11 @@ fn the_c_header_has_them() {
 fn the_rules_have_the_longest_slip() {
     assert_stand("docs/RULES.md", [format!("A slip has 1 to {MAX_SLIP} letters")]);
     assert_stand("docs/REFUSALS.md", [format!("| 3 | a slip over {MAX_SLIP} letters |")]);
+}
+
+#[test]
+fn the_rules_have_the_most_kept_slips() {
+    let row = format!("more than {MAX_SHORTEST} kept slips");
+    assert_stand("docs/RULES.md", [row.clone()]);
+    assert_stand("docs/REFUSALS.md", [row]);
 }

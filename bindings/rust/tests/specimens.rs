@@ -215,7 +215,7 @@ fn edge_trays() {
 #[test]
 fn every_refusal_has_its_own_text() {
     let text = |number| Refusal { number, detail: 77 }.to_string();
-    let texts: Vec<String> = (1..=19).map(text).collect();
+    let texts: Vec<String> = (1..=20).map(text).collect();
     let with_detail = [2, 3, 6, 8, 9, 10, 11, 13, 14, 17, 18, 19];
     for (i, text) in texts.iter().enumerate() {
         assert_eq!(text.contains("77"), with_detail.contains(&(i + 1)), "{text}");

@@ -3,8 +3,9 @@ use super::{Lending, MARK_BYTE, MARK_CELL, MARK_NUMBER};
 use crate::compose::{self, compose_tray, Composition, Rooms};
 use crate::file::read_tray;
 use crate::find::{self, find_slips, Finding};
+use crate::shortest::shortest_legend;
 use crate::tray::Tray;
-use crate::{Refusal, PLACE_CELLS};
+use crate::{Refusal, MAX_SHORTEST, PLACE_CELLS};
 
 /// Small trays have all their slips and pairs asked for.
 const SMALL: usize = 12;
@@ -100,6 +101,24 @@ pub fn compose(tray: &Tray, lent: &Lending) -> String {
         told += &small(tray);
     }
     told
+}
+
+/// The shortest legend: its letters, how many slips are laid, and ten numbers, those past the count 0.
+pub fn shortest(tray: &Tray, work: usize, room: usize) -> String {
+    let fault = work_sum(compose::fault_before_c(tray, work), work);
+    let outcome = shortest_legend(tray, work, room);
+    let refused = match &outcome {
+        Err(refusal) => [refusal.number, refusal.detail],
+        Ok(_) => [0, 0],
+    };
+    let made = outcome.unwrap_or_default();
+    let counts = [made.legend.len(), made.order.len()];
+    let mut order = [0; MAX_SHORTEST];
+    order[..made.order.len()].copy_from_slice(&made.order);
+    let answer = line(&refused) + &line(&counts) + &line(&order);
+    let text: String = made.legend.iter().copied().map(char::from).collect();
+    let legend = Sum::over(&bytes(&made.legend), &[MARK_BYTE], room);
+    format!("L{answer} [{text}] {legend}{fault}")
 }
 
 /// All slips and pairs, with the numbers 0 and one above the count.

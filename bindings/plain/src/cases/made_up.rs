@@ -1,5 +1,5 @@
 //! Made-up cases. Each kind has a seed of its own: later kinds are added at the end, and old ones stay as they are.
-use super::{lending, Case, Lending, WHOLE, WHOLE_LIST};
+use super::{lending, shortest, Case, Lending, WHOLE, WHOLE_LIST};
 use crate::compose::compose;
 use crate::find::occurrences;
 use crate::made::damage::{damaged, stored, DAMAGES};
@@ -151,6 +151,48 @@ const KINDS: &[Kind] = &[
         seed: 117,
         count: 300,
         make: many_aside,
+    },
+    Kind {
+        name: "Small die groups",
+        seed: 118,
+        count: 1_400,
+        make: |chance, _| shortest::whole(&shortest::small(chance)),
+    },
+    Kind {
+        name: "Small die groups with stops",
+        seed: 119,
+        count: 500,
+        make: |chance, _| shortest::whole(&shortest::with_stops(chance)),
+    },
+    Kind {
+        name: "Small die groups with slips set aside",
+        seed: 120,
+        count: 300,
+        make: |chance, _| shortest::whole(&shortest::many_aside(chance)),
+    },
+    Kind {
+        name: "Small die groups with slips of any length",
+        seed: 121,
+        count: 200,
+        make: |chance, _| shortest::whole(&valid(chance, 7, MAX_SLIP)),
+    },
+    Kind {
+        name: "Small die groups in small rooms",
+        seed: 122,
+        count: 500,
+        make: shortest::small_room,
+    },
+    Kind {
+        name: "Die groups of 8 to 12 kept slips",
+        seed: 123,
+        count: 240,
+        make: shortest::more_kept,
+    },
+    Kind {
+        name: "Damaged trays and the shortest legend",
+        seed: 124,
+        count: 200,
+        make: shortest::damaged_tray,
     },
 ];
 

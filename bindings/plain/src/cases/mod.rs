@@ -4,6 +4,7 @@
 //! |---|---|
 //! | `- TEXT` | nothing: a heading, answered by itself |
 //! | `C WORK LEGEND JOINS PLACES TRAY` | composing, with so many cells, letters and numbers lent |
+//! | `L WORK LEGEND TRAY` | the shortest legend, with so many cells and letters lent |
 //! | `F WORK LIST TEXT TRAY` | finding, with so many cells and numbers lent |
 //! | `A LEFT RIGHT TRAY` | the tray check, the letters of slip LEFT, the overlap of LEFT and RIGHT |
 //! | `T LETTERS ENDS FILE` | reading a tray file, with so many letters and ends lent |
@@ -17,6 +18,7 @@ mod answers;
 mod code;
 pub mod edges;
 mod made_up;
+mod shortest;
 mod specimens;
 
 /// What a lent byte holds before the call.
@@ -63,6 +65,8 @@ pub enum Case {
     Heading(String),
     /// A tray, and how much is lent.
     Compose(Tray, Lending),
+    /// A tray, and how many cells and letters are lent for its shortest legend.
+    Shortest(Tray, usize, usize),
     /// A tray, a text, and how many cells and numbers are lent.
     Find(Tray, Vec<u8>, usize, usize),
     /// A tray, and two slip numbers.
@@ -81,6 +85,7 @@ impl Case {
                 let [work, legend, joins, places] = lent.numbers;
                 format!("C {work} {legend} {joins} {places} {}", code::tray(tray))
             }
+            Case::Shortest(tray, work, legend) => format!("L {work} {legend} {}", code::tray(tray)),
             Case::Find(tray, text, work, list) => {
                 format!("F {work} {list} {} {}", code::bytes(text), code::tray(tray))
             }
@@ -95,6 +100,7 @@ impl Case {
         match self {
             Case::Heading(_) => self.line(),
             Case::Compose(tray, lent) => answers::compose(tray, lent),
+            Case::Shortest(tray, work, legend) => answers::shortest(tray, *work, *legend),
             Case::Find(tray, text, work, list) => answers::find(tray, text, *work, *list),
             Case::Ask(tray, left, right) => answers::ask(tray, *left, *right),
             Case::Read(file, letters, ends) => answers::read(file, *letters, *ends),
@@ -105,7 +111,7 @@ impl Case {
 
 /// All cases: the edge trays, the specimens, and the made-up ones.
 pub fn all() -> Vec<Case> {
-    [edge_trays(), specimens::all(), made_up::all()].concat()
+    [edge_trays(), specimens::all(), shortest::specimens(), made_up::all()].concat()
 }
 
 fn edge_trays() -> Vec<Case> {

@@ -126,7 +126,7 @@ fn files() -> Vec<(&'static str, Vec<u8>)> {
 }
 
 /// A named case.
-fn named(name: &str, case: Case) -> [Case; 2] {
+pub fn named(name: &str, case: Case) -> [Case; 2] {
     [Case::Heading(name.to_string()), case]
 }
 

@@ -5,6 +5,7 @@ use crate::{MAX_LETTERS, SIGNS};
 pub mod damage;
 pub mod files;
 pub mod full;
+pub mod groups;
 pub mod stops;
 pub mod texts;
 pub mod typed;
