@@ -23,7 +23,7 @@ use Rattle.greedy.proofs.Chains.{last-append}
 use Rattle.shortest.proofs.Places.{weight-none}
 use Rattle.chains.specs.Pieces.{piecesIn, PiecesBehind}
 use Rattle.overlaps.specs.Pairs.{TwoSlips, Overlap}
-use Rattle.arranging.specs.Arranging.{chainOf, OrderAsks, Arranged}
+use Rattle.arranging.specs.Arranging.{orderPieces, OrderAsks, Arranged}
 use Rattle.arranging.specs.steps.OneSlip.{priorOf, pieceOf, SlipAsks, Shared, AddAsks, Added}
 
 prior-is : (xs : List ℕ) (m : ℕ) → (m ≡ 0 → ⊥) → priorOf xs m ≡ getD xs (m - 1) 0
@@ -95,12 +95,12 @@ last-prior xs (suc m) h = rw (take-suc xs m 0 h) (last-append 0 (take m xs) (get
 pub record Arranging (s es xs : List ℕ) (k m : ℕ) (ps ps′ : List ℕ) (n : ℕ) : Type 0 where
   pub upto : m ≤ k
   pub same : length ps′ ≡ length ps
-  pub pieces-are : piecesIn ps′ 0 m ≡ chainOf s es (take m xs)
-  pub need-is : n ≡ length (spelled (slipsOf s es) (chainOf s es (take m xs)))
+  pub pieces-are : piecesIn ps′ 0 m ≡ orderPieces s es (take m xs)
+  pub need-is : n ≡ length (spelled (slipsOf s es) (orderPieces s es (take m xs)))
   pub short : n ≤ m * maxSlip
 
 module _ (s es xs : List ℕ) where
-  chain-more : (m : ℕ) → m < length xs → chainOf s es (take (suc m) xs) ≡ chainOf s es (take m xs) ++ (pieceOf s es xs m ∷ [])
+  chain-more : (m : ℕ) → m < length xs → orderPieces s es (take (suc m) xs) ≡ orderPieces s es (take m xs) ++ (pieceOf s es xs m ∷ [])
   chain-more m h =
       rw (take-suc xs m 0 h, row-more (weight counted (slipsOf s es)) 0 (take m xs) (getD xs m 0), last-prior xs m (omega arith))
 
@@ -133,7 +133,7 @@ module _ (s es xs : List ℕ) where
             upto = omega arith;
             same = D .put .same ∙ G .same;
             pieces-are = (rw add-one at (D .put .pieces-are)) ∙ rw (G .pieces-are, chain);
-            need-is = rw (chain, each-append (added ss) (chainOf s es (take m xs)) (pieceOf s es xs m ∷ []), length-append, append-nil)
+            need-is = rw (chain, each-append (added ss) (orderPieces s es (take m xs)) (pieceOf s es xs m ∷ []), length-append, append-nil)
                 (omega (arith, G .need-is, D .letters));
             short = omega (arith, G .short, D .short);
           })

@@ -1,6 +1,6 @@
 -- From the shortest order to the legend, and what is refused.
 --   rows-behind        == where tray and work area are accepted, 20 and 8 are left
---   turned-back        == a refusal leaves the legend as it was
+--   turned-answer, turned-legend == the answer of a refusal, which leaves the legend as it was; found-..: of an order that was found
 --   too-many, too-short, laid-all == 20; 8; the legend is written
 use mathlib.Core.Path.{_≡_, refl, sym, ap, _∙_}
 use mathlib.Core.Bool.{true, false}
@@ -31,7 +31,7 @@ use Rattle.chains.specs.Pieces.{piecesIn}
 use Rattle.answers.specs.declared.Shortest.{Shortest}
 use Rattle.answers.specs.Shortest.{shortestFault, shortestOutcome, shortestRefused, shortestOf}
 use Rattle.answers.proofs.BeforeC.{rows-left}
-use Rattle.arranging.specs.Arranging.{chainOf, OrderAsks, Arranged}
+use Rattle.arranging.specs.Arranging.{orderPieces, OrderAsks, Arranged}
 use Rattle.laying.specs.Laying.{CanLay}
 use Rattle.laying.proofs.OrderFits.{order-fits}
 use Rattle.seeking.specs.steps.Seeking.{outcomeBy, OutcomeAsks, OrderSought, Written}
@@ -69,8 +69,9 @@ module _ (s es : List ℕ) (tray : trayFault s es .number ≡ 0) where
   unfolding shortestFault
   rows-behind w l h = rows-left s es tray w (row 20 (ltb maxShortest count) 0 ∷ (row 8 (ltb l need) need ∷ [])) h
 
-  refused-written : (f : Refusal) (n d : ℕ) (l : List ℕ) (r : Shortest) → f ≡ refusal (suc n) d → ((w : ℕ) → workNeed ≤ w → shortestFault s es w (length l) ≡ f) →
-      r ≡ shortestRefused f → Written s es l l r
+  refused-written :
+      (f : Refusal) (n d : ℕ) (l : List ℕ) (r : Shortest) → f ≡ refusal (suc n) d
+      → ((w : ℕ) → workNeed ≤ w → shortestFault s es w (length l) ≡ f) → r ≡ shortestRefused f → Written s es l l r
   refused-written f n d l r e h q =
       record {
         answer-is = λ w u. q ∙ turned-answer s es w l f n d e (h w u);
@@ -119,7 +120,7 @@ module _ (s es r : List ℕ) (k : ℕ) (S : OrderSought s es r k) where
 
   module _ (ps : List ℕ) (n : ℕ) (A : Arranged s es r k (replicate (2 * maxShortest) 0) ps n) where
     need-is : n ≡ need s es (S .tray)
-    need-is = A .need-is ∙ ap (λ ys. length (spelled ss (chainOf s es ys))) order-first
+    need-is = A .need-is ∙ ap (λ ys. length (spelled ss (orderPieces s es ys))) order-first
 
     pub need-small : n < 2 ^ 32
     need-small = omega (arith, need-is, shortest-whole ss .at-most-composed, legend-small s es (S .tray))
@@ -142,7 +143,7 @@ module _ (s es r : List ℕ) (k : ℕ) (S : OrderSought s es r k) where
           record {
             tray = S .tray;
             pairs = omega (arith, ap length (A .pieces-are), A .same, S .few);
-            fits = rw (A .pieces-are, order-first) (order-fits s es (chainOf s es xs) [] (row-behind counted ss 0 xs) (row-real 0 xs order-real));
+            fits = rw (A .pieces-are, order-first) (order-fits s es (orderPieces s es xs) [] (row-behind counted ss 0 xs) (row-real 0 xs order-real));
             room-is = rw (A .pieces-are, order-first) (omega (arith, need-is));
           }
         where

@@ -28,8 +28,8 @@ write-order-requires : tie.Need-write-order-requires
 write-order-requires c κs =
     let sought = c .before .before .before in
     let copied = sought .before .before .before in
-    write-can _ _ _ (start copied .pre) _ _ (built copied .build .ensures) _ _ (told copied .tell-kept .ensures) (search needs) _ (copied .kept-numbers .ensures)
-    _ _ (sought .seek-order .ensures)
+    write-can _ _ _ (start copied .pre) _ _ (built copied .build .ensures) _ _ (told copied .tell-kept .ensures) (search needs) _
+    (copied .kept-numbers .ensures) _ _ (sought .seek-order .ensures)
 
 same-length-2 : tie.Need-same-length-2
 same-length-2 c =
