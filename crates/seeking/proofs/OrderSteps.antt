@@ -31,6 +31,12 @@ use Rattle.groups.specs.Groups.{pairCells, pairsOf, Paired}
 use Rattle.pairing.specs.Pairs.{PairsAsk, PairsAre}
 use Rattle.seeking.specs.steps.Seeking.{tenOf, KeptAsks, KeptCopied, NamingAsks, Named, SeekAsks, Sought}
 
+-- one of the first k members
+pub first-in : (xs : List ℕ) (k a : ℕ) → a < k → k ≤ length xs → In (getD xs a 0) (take k xs)
+first-in xs k a h l =
+    let read : getD (take k xs) a 0 ≡ getD xs a 0 = getD-take k xs a 0 h in
+    rw read at (getD-in 0 (take k xs) a (omega (arith, length-take-le k xs l)))
+
 -- ten numbers
 pub ten-length : (xs : List ℕ) → length xs ≤ maxShortest → length (tenOf xs) ≡ maxShortest
 ten-length xs h = length-over xs (replicate maxShortest 0) h
@@ -128,8 +134,7 @@ module _ (s es xs : List ℕ) (k : ℕ) (w : List ℕ) (A : SeekAsks s es xs k w
             known = omega (arith, A .ten, A .few);
             listed = places-long;
             among = λ i h.
-                let read : getD (take k ps) i 0 ≡ getD ps i 0 = getD-take k ps i 0 h in
-                let inside : In (getD ps i 0) (take k ps) = rw read at (getD-in 0 (take k ps) i (omega (arith, length-take-le k ps places-long))) in
+                let inside : In (getD ps i 0) (take k ps) = first-in ps k i h places-long in
                 let all = choose-all (pairsOf w₁) k maxShortest (upFrom 0 k) (length-upFrom 0 k) in
                 omega (arith, in-upFrom 0 k (all-at (λ a. In a (upFrom 0 k)) chosen (getD ps i 0) all (rw places-are at inside)));
           }

@@ -9,9 +9,8 @@ use native.Mathlib.Omega.{arith}
 use borrow.Rule.Slice.PartMut.{same-len-mid}
 use lib.Dec.{ltb}
 use lib.ListN.{length, getD, take, drop, length-drop}
-use lib.Seq.{getD-take, length-take-le}
+use lib.Seq.{length-take-le}
 use Rattle.words.proofs.Members.{In}
-use Rattle.words.proofs.Picks.{getD-in}
 use Rattle.trays.specs.declared.Refusal.{Refusal}
 use Rattle.trays.specs.Limits.{maxShortest, workNeed}
 use Rattle.trays.specs.Slips.{slipsOf, numbers}
@@ -34,6 +33,7 @@ use Rattle.answers.specs.Composing.{beforeC}
 use Rattle.answers.specs.Shortest.{shortestFault, shortestRefused, ShortestSays}
 use Rattle.answers.proofs.BeforeC.{tray-first, work-first, work-same, work-kept}
 use Rattle.seeking.specs.steps.Seeking.{tenOf, KeptAsks, KeptCopied, SeekAsks, Sought, OrderSought, Written, Finished}
+use Rattle.seeking.proofs.OrderSteps.{first-in}
 use Rattle.seeking.proofs.WriteSteps.{turned-answer, turned-legend, too-many}
 
 module _ (s es w : List ℕ) (a : Buildable s es w) (nodes : ℕ) (w₁ : List ℕ) (b : Built s es w nodes w₁) (k : ℕ) (w₂ : List ℕ)
@@ -81,8 +81,7 @@ module _ (s es w : List ℕ) (a : Buildable s es w) (nodes : ℕ) (w₁ : List �
             few = few;
             ten = C .ten;
             real = λ i h.
-                let read : getD (take k xs) i 0 ≡ getD xs i 0 = getD-take k xs i 0 h in
-                let inside : In (getD xs i 0) (take k xs) = rw read at (getD-in 0 (take k xs) i (omega (arith, ap length first-kept, count-is))) in
+                let inside : In (getD xs i 0) (take k xs) = first-in xs k i h (omega (arith, C .ten, few)) in
                 kept-real s es (a .tray) (getD xs i 0) (rw first-kept at inside);
             rising = rw first-kept (kept-asc (slipsOf s es) (numbers (slipsOf s es)) (numbers-rise (slipsOf s es)));
             room = omega (arith, lent-long);

@@ -10,10 +10,8 @@ use borrow.Author.Tests.{lt-ltb, le-ltb}
 use native.Mathlib.Omega.{arith}
 use lib.Dec.{ltb}
 use lib.ListN.{length, getD, take, replicate}
-use lib.Seq.{getD-take}
 use Rattle.words.specs.Lists.{over}
 use Rattle.words.proofs.Members.{In}
-use Rattle.words.proofs.Picks.{getD-in}
 use Rattle.words.proofs.Sums.{All, is, in-held, held-in, length-sum}
 use Rattle.trays.specs.declared.Refusal.{Refusal}
 use Rattle.trays.specs.Limits.{maxShortest, workNeed}
@@ -35,7 +33,7 @@ use Rattle.arranging.specs.Arranging.{orderPieces, OrderAsks, Arranged}
 use Rattle.laying.specs.Laying.{CanLay}
 use Rattle.laying.proofs.OrderFits.{order-fits}
 use Rattle.seeking.specs.steps.Seeking.{outcomeBy, OutcomeAsks, OrderSought, Written}
-use Rattle.seeking.proofs.OrderSteps.{ten-length, ten-first}
+use Rattle.seeking.proofs.OrderSteps.{first-in, ten-length, ten-first}
 
 -- the two cases of the answer
 module _ (s es : List ℕ) (w : ℕ) (l : List ℕ) where
@@ -112,8 +110,7 @@ module _ (s es r : List ℕ) (k : ℕ) (S : OrderSought s es r k) where
         few = omega (arith, S .few);
         listed = omega (arith, ten, S .few);
         real = λ a h.
-            let read : getD (take k r) a 0 ≡ getD r a 0 = getD-take k r a 0 h in
-            let inside : In (getD r a 0) (take k r) = rw read at (getD-in 0 (take k r) a (omega (arith, order-long, ap length order-first))) in
+            let inside : In (getD r a 0) (take k r) = first-in r k a h (omega (arith, ten, S .few)) in
             order-real (getD r a 0) (rw order-first at inside);
         room = omega (arith, S .few);
       }
