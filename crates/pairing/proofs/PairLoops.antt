@@ -1,12 +1,15 @@
 -- The loops over the pairs: a cell more, a row more, all rows.
 use mathlib.Core.Path.{_≡_, refl, sym, _∙_}
+use mathlib.Core.Bool.{true}
 use mathlib.Core.Logic.{_⊎_, inl, inr}
 use mathlib.Core.List.{List}
 use Prim.Native.Nat.{ℕ, _+_, _*_, _^_, _≤_, _<_}
 use native.Mathlib.Decide.{ℕ-discrete}
 use native.Mathlib.Nat.{zero-add}
 use native.Mathlib.Omega.{arith}
+use lib.Dec.{leb}
 use lib.ListN.{length, getD, replicate}
+use borrow.Author.Tests.{leb-true}
 use Rattle.tables.specs.Tables.{Room, Put, Filled}
 use Rattle.tables.proofs.Tables.{put-here, put-other, filled-at, replicate-at}
 use Rattle.trays.specs.Limits.{maxShortest}
@@ -39,11 +42,13 @@ module _ (s es xs : List ℕ) (k : ℕ) where
   pub cell-fits : (a b : ℕ) {w : List ℕ} → RowAsks s es xs k a w → b < k → maxShortest * a + b < 2 ^ 64
   cell-fits a b A h = omega (arith, A .row, A .asks .few)
 
-  pub pair-asks : (a b l r : ℕ) {w : List ℕ} → RowAsks s es xs k a w → b < k → l ≡ getD xs a 0 → r ≡ getD xs b 0 → TwoSlips s es l r
-  pair-asks a b l r A h el er =
+  -- of any two places: that they are the right ones is for `pair-more`
+  pub pair-asks :
+      (a x y l r : ℕ) {w : List ℕ} → RowAsks s es xs k a w → x < k → y < k → l ≡ getD xs x 0 → r ≡ getD xs y 0 → TwoSlips s es l r
+  pair-asks a x y l r A hx hy el er =
       let P = A .asks in
-      let left = P .real a (A .row) in
-      let right = P .real b h in
+      let left = P .real x hx in
+      let right = P .real y hy in
       record {
         tray = P .tray;
         left-some = rw el (left .0);
@@ -102,8 +107,8 @@ module _ (s es xs : List ℕ) (k : ℕ) where
       earlier x y q (inr u) = absurd (omega arith)
 
   module _ (w₀ : List ℕ) (A : PairsAsk s es xs k w₀) where
-    pub clear-room : 0 + pairCells ≤ length w₀
-    clear-room = omega (arith, A .room)
+    pub clear-room : (n : ℕ) → leb n pairCells ≡ true → 0 + n ≤ length w₀
+    clear-room n h = omega (arith, A .room, leb-true n pairCells h)
 
     -- w₁ is the table when the loop begins
     module _ (n : ℕ) (w₁ : List ℕ) (F : Filled 0 n (replicate n 0) w₀ w₁) where
