@@ -2,6 +2,7 @@
 ghost use Prim.Native.Nat.{_≤_};
 ghost use lib.ListN.{length};
 use crate::pairs;
+use crate::shortest;
 use answers::Composed;
 use answers::Join;
 use answers::PLACE_CELLS;
@@ -30,16 +31,14 @@ struct Rooms {
 fn read_rooms(line: &[u8]) -> Rooms
     ensures { λ r. ⌜ r .at ≤ length (now (line .entry)) ⌝ }
 {
-    let work = table::field(line, table::start(line));
-    let legend_at = work.at;
-    let legend = table::field(line, legend_at);
-    let joins_at = legend.at;
+    let first = shortest::read_rooms(line);
+    let joins_at = first.at;
     let joins = table::field(line, joins_at);
     let places_at = joins.at;
     let places = table::field(line, places_at);
     Rooms {
-        work: work.value,
-        legend: legend.value,
+        work: first.work,
+        legend: first.legend,
         joins: joins.value,
         places: places.value,
         at: places.at,

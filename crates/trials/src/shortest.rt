@@ -7,14 +7,14 @@ use case_lines::table;
 use case_lines::writing;
 use case_lines::writing::put;
 
-// How many cells and bytes are lent, and where the letters start in the line.
-struct Rooms {
-    work: u32,
-    legend: u32,
-    at: usize,
+// How many cells and bytes are lent, and where the line goes on.
+pub struct Rooms {
+    pub work: u32,
+    pub legend: u32,
+    pub at: usize,
 }
 
-fn read_rooms(line: &[u8]) -> Rooms
+pub fn read_rooms(line: &[u8]) -> Rooms
     ensures { λ r. ⌜ r .at ≤ length (now (line .entry)) ⌝ }
 {
     let work = table::field(line, table::start(line));
