@@ -20,7 +20,7 @@ use Rattle.trays.proofs.Spans.{accepted-spanned}
 use Rattle.greedy.specs.Legends.{Piece, piece, added, spelled}
 use Rattle.greedy.specs.Orders.{weight, row}
 use Rattle.greedy.proofs.Chains.{last-append}
-use Rattle.shortest.proofs.Places.{weight-none}
+use Rattle.greedy.proofs.Letters.{weight-none}
 use Rattle.chains.specs.Pieces.{piecesIn, PiecesBehind}
 use Rattle.overlaps.specs.Pairs.{TwoSlips, Overlap}
 use Rattle.arranging.specs.Arranging.{orderPieces, OrderAsks, Arranged}

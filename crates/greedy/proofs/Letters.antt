@@ -19,7 +19,7 @@ use Rattle.words.specs.Lists.{each, lastOr}
 use Rattle.words.specs.Words.{begins, ends, standsIn, overlapFor}
 use Rattle.words.proofs.Tests.{tell, and-intro}
 use Rattle.words.proofs.Strings.{begins-here, ends-here, stands-drop}
-use Rattle.words.proofs.Overlaps.{overlapFor-fits, lay-overFor}
+use Rattle.words.proofs.Overlaps.{overlap-at-most, overlapFor-at-most, overlapFor-fits, lay-overFor}
 use Rattle.words.proofs.Sums.{sum, All, is, held, held-first, sum-append}
 use Rattle.trays.specs.Slips.{slip, total}
 use Rattle.greedy.specs.Joins.{Join, rightOf, leftOf, saved}
@@ -125,6 +125,10 @@ row-overlaps w p [] = refl
 row-overlaps w p (x ∷ xs) = omega (arith, row-overlaps w x xs)
 
 module _ (counts : List ℕ → Bool) (ss : List (List ℕ)) where
+  -- no slip has the number 0, so nothing is shared with it
+  pub weight-none : (k : ℕ) → weight counts ss 0 k ≡ 0
+  weight-none k = omega (arith, overlapFor-at-most counts [] (slip ss k), overlap-at-most [] (slip ss k))
+
   pub row-behind : (p : ℕ) (xs : List ℕ) → Order ss (slip ss p) (row (weight counts ss) p xs)
   row-behind p [] = tt
   row-behind p (x ∷ xs) = (over-overlap counts (slip ss p) (slip ss x), row-behind x xs)

@@ -3,7 +3,6 @@
 --   NAME-map        == NAME of the mapped list is NAME of the list, mapped where it is a list
 --   most-of         == what is chosen alike saves the same
 --   places-list     == a list is what stands at its places
---   weight-none     == behind no slip nothing is saved
 --   shortest-places == the shortest order of K is what stands at the places chosen
 -- A map f that tells apart the members of which P holds, and keeps their weights, keeps every comparison of the search, and so what is
 -- chosen. The starts p and q need not be members: it is enough that every member has the same weight behind both.
@@ -21,9 +20,8 @@ use Rattle.words.proofs.Members.{In, Asc, in-upFrom}
 use Rattle.words.proofs.Sums.{All, all-in, all-at}
 use Rattle.words.proofs.Picks.{asc-differ}
 use Rattle.words.proofs.Runs.{length-upFrom}
-use Rattle.words.proofs.Overlaps.{overlap-at-most, overlapFor-at-most}
-use Rattle.trays.specs.Slips.{slip}
 use Rattle.greedy.specs.Orders.{weight, along}
+use Rattle.greedy.proofs.Letters.{weight-none}
 use Rattle.shortest.specs.Orders.{without, shortestFor}
 use Rattle.shortest.specs.steps.Choosing.{greater, firstMost, choose, most}
 use Rattle.shortest.proofs.Firsts.{firstFrom-map, firstMost-in, firstMost-same}
@@ -103,9 +101,6 @@ places-in n = all-in (λ a. a < n) (upFrom 0 n) (λ a m. omega (arith, in-upFrom
 
 places-apart : (K : List ℕ) → Asc _<_ K → (a b : ℕ) → a < length K → b < length K → getD K a 0 ≡ getD K b 0 → a ≡ b
 places-apart K asc a b = asc-differ 0 _<_ (λ k h. omega arith) K a b asc
-
-pub weight-none : (counts : List ℕ → Bool) (ss : List (List ℕ)) (k : ℕ) → weight counts ss 0 k ≡ 0
-weight-none counts ss k = omega (arith, overlapFor-at-most counts [] (slip ss k), overlap-at-most [] (slip ss k))
 
 -- The start is a place q of its own, behind which nothing is saved.
 module _
