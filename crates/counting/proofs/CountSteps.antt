@@ -1,30 +1,19 @@
 -- Counting before writing: kept letters, saved letters, and what the legend needs.
-use mathlib.Core.Path.{_≡_, refl, sym, _∙_, ap, subst}
-use mathlib.Core.List.{List, [], _∷_, _++_, map, List·Memᴰ·head, List·Memᴰ·tail}
-use Prim.Native.Nat.{ℕ, zero, suc, _+_, _-_, _*_, _≤_, _<_}
+use mathlib.Core.Path.{_≡_, refl, sym, _∙_, ap}
+use mathlib.Core.List.{List, [], _∷_, _++_, map}
+use Prim.Native.Nat.{ℕ, zero, suc, _+_, _-_, _*_, _≤_}
 use native.Mathlib.Omega.{arith}
 use lib.ListN.{length, getD, take, drop}
 use Rattle.words.specs.Lists.{upFrom}
-use Rattle.words.proofs.Members.{In}
 use Rattle.tables.specs.Tables.{table}
 use Rattle.tables.proofs.Tables.{table-length, table-at, table-take, part-table}
 use Rattle.trays.specs.Limits.{maxSlips, workNeed}
-use Rattle.trays.specs.Slips.{slipsOf, numbers, total}
-use Rattle.trays.specs.Aside.{kept}
+use Rattle.trays.specs.Slips.{slipsOf, total}
 use Rattle.greedy.specs.Joins.{Join, saved}
-use Rattle.greedy.specs.Composing.{whole, joinsOf, keptLetters}
-use Rattle.greedy.proofs.Demand3.{composed}
 use Rattle.layout.specs.Layout.{KEPT, JOINS}
 use Rattle.layout.specs.Tables.{cell}
 use Rattle.layout.specs.Staging.{keptIn, joinIn, joinsIn}
-use Rattle.counting.specs.steps.Counting.{thirds, KeptReal, AfterWalk, LetterCountsAre}
-use Rattle.greedy.proofs.KeptSizes.{kept-real}
-
--- a member of a list at a place
-at-in : (xs : List ℕ) (i : ℕ) → i < length xs → In (getD xs i 0) xs
-at-in [] i h = absurd (omega arith)
-at-in (x ∷ xs) zero h = List·Memᴰ·head refl
-at-in (x ∷ xs) (suc i) h = List·Memᴰ·tail (at-in xs i (omega arith))
+use Rattle.counting.specs.steps.Counting.{thirds, KeptReal, CountAsks, LetterCountsAre}
 
 saved-more : (js : List Join) (j : Join) → saved (js ++ (j ∷ [])) ≡ saved js + j .overlap
 saved-more [] j = omega arith
@@ -50,15 +39,15 @@ keptPart w = take (KEPT + 200 - KEPT) (drop KEPT w)
 abbrev joinsPart : List ℕ → List ℕ
 joinsPart w = take (JOINS + 600 - JOINS) (drop JOINS w)
 
-module _ (s es w : List ℕ) (k j : ℕ) (a : AfterWalk s es w k j) where
-  pub kept-part : keptPart w ≡ table w KEPT maxSlips
+module _ (s es w : List ℕ) (k j : ℕ) (a : CountAsks s es w k j) where
+  kept-part : keptPart w ≡ table w KEPT maxSlips
   kept-part = part-table w KEPT maxSlips (KEPT + 200) refl
 
   joins-part : joinsPart w ≡ table w JOINS 600
   joins-part = part-table w JOINS 600 (JOINS + 600) refl
 
-  pub first-kept : take k (keptPart w) ≡ kept (slipsOf s es) (numbers (slipsOf s es))
-  first-kept = rw kept-part (table-take w KEPT k maxSlips (a .few-kept) ∙ a .kept-is)
+  first-kept : take k (keptPart w) ≡ keptIn w k
+  first-kept = rw kept-part (table-take w KEPT k maxSlips (a .few-kept))
 
   pub kept-asks : KeptReal s es (keptPart w) k
   kept-asks =
@@ -67,17 +56,8 @@ module _ (s es w : List ℕ) (k j : ℕ) (a : AfterWalk s es w k j) where
         tray = a .tray;
         enough = omega (arith, a .few-kept);
         few = a .few-kept;
-        real = λ i h. rw (← (first-at i h)) (kept-real s es (a .tray) (getD (keptIn w k) i 0) (in-kept-list i h));
+        real = λ i h. rw (kept-part, table-at w KEPT maxSlips i (omega (arith, a .few-kept))) (a .real i h);
       }
-    where
-      size : length (keptIn w k) ≡ k
-      size = table-length w KEPT k (omega (arith, a .room, a .few-kept))
-
-      in-kept-list : (i : ℕ) → i < k → In (getD (keptIn w k) i 0) (kept (slipsOf s es) (numbers (slipsOf s es)))
-      in-kept-list i h = subst (λ (l : List ℕ). In (getD (keptIn w k) i 0) l) (a .kept-is) (at-in (keptIn w k) i (omega (arith, size)))
-
-      first-at : (i : ℕ) → i < k → getD (keptIn w k) i 0 ≡ getD (keptPart w) i 0
-      first-at i h = table-at w KEPT k i h ∙ sym (ap (λ (l : List ℕ). getD l i 0) kept-part ∙ table-at w KEPT maxSlips i (omega (arith, a .few-kept)))
 
   pub joins-asks : (j ≤ 200) × (3 * j ≤ length (joinsPart w))
   joins-asks =
@@ -85,19 +65,14 @@ module _ (s es w : List ℕ) (k j : ℕ) (a : AfterWalk s es w k j) where
       (a .few-joins, omega (arith, a .few-joins))
 
   module _ (n m : ℕ) (e : n ≡ total (slipsOf s es) (take k (keptPart w))) (f : m ≡ thirds (joinsPart w) j) where
-    letters-are : n ≡ keptLetters (whole (slipsOf s es))
+    letters-are : n ≡ total (slipsOf s es) (keptIn w k)
     letters-are = e ∙ rw first-kept
 
-    saved-are : m ≡ saved (joinsOf (whole (slipsOf s es)))
-    saved-are = f ∙ rw (joins-part, thirds-saved w (a .room) j (a .few-joins), a .joins-are)
+    saved-are : m ≡ saved (joinsIn w j)
+    saved-are = f ∙ rw (joins-part, thirds-saved w (a .room) j (a .few-joins))
 
     pub saved-fits : m ≤ n
-    saved-fits = omega (arith, letters-are, saved-are, composed (slipsOf s es) .saving)
+    saved-fits = omega (arith, letters-are, saved-are, a .saves)
 
-    pub counts-are : LetterCountsAre s es (record { letters = n; saved = m; need = n - m })
-    counts-are =
-        record {
-          letters-are = letters-are;
-          saved-are = saved-are;
-          need-is = omega (arith, letters-are, saved-are, composed (slipsOf s es) .saving);
-        }
+    pub counts-are : LetterCountsAre s es w k j (record { letters = n; saved = m; need = n - m })
+    counts-are = record { letters-are = letters-are; saved-are = saved-are; need-is = omega (arith, saved-fits) }

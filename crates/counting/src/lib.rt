@@ -3,7 +3,7 @@ ghost use mathlib.Core.Path.{_≡_};
 ghost use Prim.Native.Nat.{_+_, _*_, _≤_};
 ghost use lib.ListN.{length, take};
 ghost use Rattle.trays.specs.Slips.{slipsOf, total};
-ghost use Rattle.counting.specs.steps.Counting.{thirds, KeptReal, AfterWalk, LetterCountsAre};
+ghost use Rattle.counting.specs.steps.Counting.{thirds, KeptReal, CountAsks, LetterCountsAre};
 use layout::JOINS;
 use layout::KEPT;
 
@@ -52,8 +52,8 @@ pub fn count_letters(
     k: usize,
     joins: usize,
 ) -> LetterCounts
-    requires { ⌜ AfterWalk (now letters) (now ends) (now work) k joins ⌝ }
-    ensures { λ r. ⌜ LetterCountsAre (now (letters .entry)) (now (ends .entry)) r ⌝ }
+    requires { ⌜ CountAsks (now letters) (now ends) (now work) k joins ⌝ }
+    ensures { λ r. ⌜ LetterCountsAre (now (letters .entry)) (now (ends .entry)) (now (work .entry)) k joins r ⌝ }
 {
     let all = kept_letters(letters, ends, &work[KEPT..KEPT + 200], k);
     let saved = saved_letters(&work[JOINS..JOINS + 600], joins);

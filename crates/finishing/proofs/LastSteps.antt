@@ -9,33 +9,37 @@ use lib.Dec.{eqb, ltb}
 use lib.ListN.{length, getD, take, length-replicate, length-map}
 use Rattle.words.specs.Lists.{upFrom}
 use Rattle.words.proofs.Tests.{by-test, or-left, or-right}
+use Rattle.words.proofs.Members.{In}
+use Rattle.words.proofs.Picks.{getD-in}
 use Rattle.words.proofs.Sums.{All}
 use Rattle.words.proofs.Runs.{length-upFrom}
 use Rattle.tables.specs.Tables.{table}
-use Rattle.tables.proofs.Tables.{table-length, table-take, table-same}
+use Rattle.tables.proofs.Tables.{table-length, table-at, table-take, table-same}
 use Rattle.trays.specs.declared.Refusal.{Refusal}
 use Rattle.trays.specs.Limits.{maxSlips}
-use Rattle.trays.specs.Slips.{numbers}
+use Rattle.trays.specs.Slips.{numbers, total}
 use Rattle.trays.specs.Aside.{counted}
 use Rattle.trays.specs.Faults.{refusal, written}
 use Rattle.trays.proofs.Accepted.{accepted-tells, slips-count}
-use Rattle.greedy.specs.Joins.{Join, rightOf}
-use Rattle.greedy.specs.Composing.{whole, joinsOf, legendOf}
+use Rattle.greedy.specs.Joins.{Join, rightOf, saved}
+use Rattle.greedy.specs.Composing.{whole, joinsOf, legendOf, keptLetters}
 use Rattle.greedy.specs.Legends.{pieces, piecesFor}
 use Rattle.greedy.proofs.Relabel.{plain-in}
 use Rattle.greedy.proofs.Demand3.{composed}
 use Rattle.greedy.proofs.KeptSizes.{TraySlips, traySlips, kept-real, kept-few, kept-small, legend-small, pieces-count}
 use Rattle.chains.specs.Pieces.{piecesIn}
 use Rattle.chains.proofs.NeighbourPieces.{pieces-by}
-use Rattle.layout.specs.Layout.{KEPT, JOINS}
-use Rattle.layout.specs.Staging.{joinIn, joinsIn}
+use Rattle.layout.specs.Layout.{KEPT, JOINS, PLACES}
+use Rattle.layout.specs.Tables.{cell}
+use Rattle.layout.specs.Staging.{keptIn, joinIn, joinsIn}
 use Rattle.answers.specs.declared.Composed.{Composed}
-use Rattle.answers.specs.Composing.{refusedBy}
+use Rattle.answers.specs.Composing.{refusedBy, placeCells, flatPlaces}
 use Rattle.counting.specs.declared.LetterCounts.{LetterCounts}
-use Rattle.counting.specs.steps.Counting.{AfterWalk, LetterCountsAre}
-use Rattle.counting.proofs.CountSteps.{kept-part, kept-asks}
-use Rattle.writing.specs.steps.Writing.{piecesHere, StageAsks, PiecesStaged, WritingAsks, Written}
-use Rattle.finishing.specs.steps.Finishing.{Joined, Finished, OutcomeAsks, outcomeBy}
+use Rattle.counting.specs.steps.Counting.{CountAsks, LetterCountsAre}
+use Rattle.writing.specs.steps.Writing.{piecesHere, StageAsks, PiecesStaged, WritingAsks, PlacesWritten, Written}
+use Rattle.finishing.specs.steps.Finishing.{AfterWalk, Joined, Finished, OutcomeAsks, outcomeBy}
+use Rattle.finishing.proofs.PiecesFit.{pieces-fit, pieces-places}
+use Rattle.finishing.proofs.PlacesFlat.{places-all}
 use Rattle.finishing.proofs.FinishSteps.{legend-short, lists-short, nothing-short, answer-composed, turned-back, flat-table}
 
 right-most : (m i : ℕ) (js : List Join) → All (λ j. j .right ≤ m) js → rightOf i js ≤ m
@@ -61,6 +65,13 @@ module _ (s es w : List ℕ) (k j : ℕ) (left right overs : List ℕ) (a : Join
   count-kept : k ≡ length K
   count-kept = sym (table-length w KEPT k (omega (arith, walked .room, walked .few-kept))) ∙ ap length (walked .kept-is)
 
+  kept-at : (i : ℕ) → i < k → (1 ≤ cell w KEPT i) × (cell w KEPT i ≤ length es)
+  kept-at i h =
+      let size : length (keptIn w k) ≡ k = table-length w KEPT k (omega (arith, walked .room, walked .few-kept)) in
+      let m : In (getD (keptIn w k) i 0) K =
+      subst (λ (l : List ℕ). In (getD (keptIn w k) i 0) l) (walked .kept-is) (getD-in 0 (keptIn w k) i (omega (arith, size))) in
+      rw (← (table-at w KEPT k i h)) (kept-real s es (walked .tray) (getD (keptIn w k) i 0) m)
+
   first-kept : take k (table w KEPT maxSlips) ≡ K
   first-kept = table-take w KEPT k maxSlips (walked .few-kept) ∙ walked .kept-is
 
@@ -82,15 +93,14 @@ module _ (s es w : List ℕ) (k j : ℕ) (left right overs : List ℕ) (a : Join
   pub stage-can : StageAsks w k j left right overs
   stage-can =
       let n = a .neighbours in
-      let r = kept-asks s es w k j walked in
       record {
         room = walked .room;
         few-joins = walked .few-joins;
         asks =
             record {
               enough = omega (arith, table-length w KEPT maxSlips (omega (arith, walked .room)), walked .few-kept);
-              real = λ i h. let q = r .real i h in let e =
-                  ap (λ (l : List ℕ). getD l i 0) (kept-part s es w k j walked) in (omega (arith, q .0), omega (arith, q .1, few-ends));
+              real = λ i h. let q = kept-at i h in let e =
+                  table-at w KEPT maxSlips i (omega (arith, walked .few-kept)) in (omega (arith, q .0), omega (arith, q .1, few-ends));
               lefts = n .lefts;
               rights = n .rights;
               over-all = n .over-all;
@@ -100,17 +110,40 @@ module _ (s es w : List ℕ) (k j : ℕ) (left right overs : List ℕ) (a : Join
             };
       }
 
-  module _ (c : LetterCounts) (h : LetterCountsAre s es c) where
+  saves : saved (joinsIn w j) + length (legendOf (whole ss)) ≡ total ss (keptIn w k)
+  saves = rw (walked .joins-are, walked .kept-is) (sym (composed ss .saving))
+
+  pub count-can : CountAsks s es w k j
+  count-can =
+      record {
+        room = walked .room;
+        tray = walked .tray;
+        few-kept = walked .few-kept;
+        real = kept-at;
+        few-joins = walked .few-joins;
+        saves = omega (arith, saves);
+      }
+
+  module _ (c : LetterCounts) (h : LetterCountsAre s es w k j c) where
+    letters-are : c .letters ≡ keptLetters (whole ss)
+    letters-are = h .letters-are ∙ rw (walked .kept-is)
+
+    saved-are : c .saved ≡ saved (joinsOf (whole ss))
+    saved-are = h .saved-are ∙ rw (walked .joins-are)
+
+    need-is : c .need ≡ length (legendOf (whole ss))
+    need-is = omega (arith, h .need-is, h .letters-are, h .saved-are, saves)
+
     pub small-need : c .need < 2 ^ 32
-    small-need = omega (arith, h .need-is, legend-small s es (walked .tray))
+    small-need = omega (arith, need-is, legend-small s es (walked .tray))
 
     pub outcome-can : OutcomeAsks (length es) k c j
     outcome-can =
         record {
           slips-fit = omega (arith, few-ends);
           kept-fit = omega (arith, walked .few-kept);
-          letters-fit = omega (arith, h .letters-are, kept-small s es (walked .tray));
-          saved-fit = omega (arith, h .letters-are, h .saved-are, kept-small s es (walked .tray), composed ss .saving);
+          letters-fit = omega (arith, letters-are, kept-small s es (walked .tray));
+          saved-fit = omega (arith, h .need-is, letters-are, kept-small s es (walked .tray));
           need-fit = small-need;
           joins-fit = omega (arith, walked .few-joins);
         }
@@ -122,14 +155,14 @@ module _ (s es w : List ℕ) (k j : ℕ) (left right overs : List ℕ) (a : Join
       pub last-legend : (r : Composed) → length l < c .need → r ≡ refusedBy (refusal 8 (c .need)) → Finished s es w w l l jr pr r
       last-legend r q e =
           turned-back s es w l jr pr (refusal 8 (c .need)) 7 (c .need) r refl
-          (legend-short s es w (walked .tray) (walked .room) (length l) jr pr (omega (arith, h .need-is)) ∙ ap (refusal 8) (sym (h .need-is))) e
+          (legend-short s es w (walked .tray) (walked .room) (length l) jr pr (omega (arith, need-is)) ∙ ap (refusal 8) (sym (need-is))) e
 
       module _ (q : c .need ≤ length l) where
         short-list : (r : Composed) → ltb jr (length (joinsOf (whole ss))) || ltb pr (length ss) ≡ true → r ≡ refusedBy (refusal 9 j) →
             Finished s es w w l l jr pr r
         short-list r t e =
             turned-back s es w l jr pr (refusal 9 j) 8 j r refl
-            (lists-short s es w (walked .tray) (walked .room) (length l) jr pr (omega (arith, h .need-is)) t ∙ ap (refusal 9) (sym count-plain)) e
+            (lists-short s es w (walked .tray) (walked .room) (length l) jr pr (omega (arith, need-is)) t ∙ ap (refusal 9) (sym count-plain)) e
 
         pub last-joins : (r : Composed) → jr < j → r ≡ refusedBy (refusal 9 j) → Finished s es w w l l jr pr r
         last-joins r u e = short-list r
@@ -138,35 +171,47 @@ module _ (s es w : List ℕ) (k j : ℕ) (left right overs : List ℕ) (a : Join
         pub last-places : (r : Composed) → pr < length es → r ≡ refusedBy (refusal 9 j) → Finished s es w w l l jr pr r
         last-places r u e = short-list r (or-right (ltb jr (length (joinsOf (whole ss)))) _ (lt-ltb pr (length ss) (omega (arith, slips-count s es)))) e
 
-        pub write-can : (xs : List ℕ) → PiecesStaged w k j left right overs xs → WritingAsks s es w l xs k (c .need)
-        write-can xs p =
-            record {
-              room = walked .room;
-              tray = walked .tray;
-              need-is = h .need-is;
-              space = q;
-              pieces = record {
-                size = p .size;
-                count-is = count-kept;
-                are = subst (λ (n : ℕ). piecesIn xs 0 n ≡ piecesFor counted ss (numbers ss))
-                    (pieces-count s es (walked .tray) ∙ sym count-kept) (rw here-pieces at (p .are));
-              };
-            }
+        module _ (xs : List ℕ) (p : PiecesStaged w k j left right overs xs) where
+          pieces-are : piecesIn xs 0 k ≡ piecesFor counted ss (numbers ss)
+          pieces-are =
+              subst (λ (n : ℕ). piecesIn xs 0 n ≡ piecesFor counted ss (numbers ss)) (pieces-count s es (walked .tray) ∙ sym count-kept)
+              (rw here-pieces at (p .are))
 
-        pub last-good : (w′ l′ : List ℕ) (r : Composed) → j ≤ jr → length es ≤ pr → Written s es w w′ l l′ → r ≡ outcomeBy (length es) k c j →
-            Finished s es w w′ l l′ jr pr r
-        last-good w′ l′ r u v d o =
-            let f = nothing-short s es w (walked .tray) (walked .room) (length l) jr pr (omega (arith, h .need-is)) (omega (arith, count-plain))
-            (omega (arith, slips-count s es)) in
-            let b = d .placed .below in
-            record {
-              answer-is = o ∙ rw (← (slips-count s es), count-kept, h .letters-are, h .saved-are, h .need-is, count-plain)
-                  (sym (answer-composed s es (length w) (length l) jr pr f));
-              legend-is = d .legend-is ∙ sym (ap (λ (g : Refusal). written g (legendOf (whole ss)) l) f);
-              same = b .same;
-              joins-are = λ z. rw o
-                  (table-same w w′ JOINS (3 * j) (b .same) (λ i o. b .cells (JOINS + i) (omega (arith, walked .few-joins)))
-                  ∙ flat-table w (walked .room) j (walked .few-joins)
-                  ∙ rw (walked .joins-are));
-              places-are = λ z. rw o (d .placed .places-are);
-            }
+          pub write-can : WritingAsks s es w l xs k (c .need)
+          write-can =
+              record {
+                room = walked .room;
+                pieces =
+                    record {
+                      tray = walked .tray;
+                      pairs = omega (arith, p .size, walked .few-kept);
+                      fits = rw pieces-are (pieces-fit s es (walked .tray));
+                      places = rw pieces-are (pieces-places s es (walked .tray));
+                      short = rw pieces-are (omega (arith, legend-small s es (walked .tray)));
+                    };
+                need-is = need-is ∙ rw pieces-are;
+                space = q;
+              }
+
+          all-places : (w′ : List ℕ) → PlacesWritten s es w w′ xs k → table w′ PLACES (placeCells * length es) ≡ flatPlaces (whole ss)
+          all-places w′ d =
+              sym (table-take w′ PLACES (placeCells * length es) (placeCells * maxSlips) (omega (arith, few-ends)))
+              ∙ rw (d .places-are, pieces-are, ← (slips-count s es)) (places-all s es (walked .tray))
+
+          pub last-good : (w′ l′ : List ℕ) (r : Composed) → j ≤ jr → length es ≤ pr → Written s es w w′ l l′ xs k → r ≡ outcomeBy (length es) k c j →
+              Finished s es w w′ l l′ jr pr r
+          last-good w′ l′ r u v d o =
+              let f = nothing-short s es w (walked .tray) (walked .room) (length l) jr pr (omega (arith, need-is)) (omega (arith, count-plain))
+              (omega (arith, slips-count s es)) in
+              let b = d .placed .below in
+              record {
+                answer-is = o ∙ rw (← (slips-count s es), count-kept, letters-are, saved-are, need-is, count-plain)
+                    (sym (answer-composed s es (length w) (length l) jr pr f));
+                legend-is = d .legend-is ∙ rw pieces-are (sym (ap (λ (g : Refusal). written g (legendOf (whole ss)) l) f));
+                same = b .same;
+                joins-are = λ z. rw o
+                    (table-same w w′ JOINS (3 * j) (b .same) (λ i o. b .cells (JOINS + i) (omega (arith, walked .few-joins)))
+                    ∙ flat-table w (walked .room) j (walked .few-joins)
+                    ∙ rw (walked .joins-are));
+                places-are = λ z. rw o (all-places w′ (d .placed));
+              }

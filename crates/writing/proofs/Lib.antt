@@ -1,5 +1,3 @@
--- Laws of the pieces of a tray, and of writing them.
-pub mod PlacesFlat
-pub mod PiecesFit
+-- Laws of staging pieces, and of writing their legend and places.
 pub mod StageSteps
 pub mod WriteSteps

@@ -1,29 +1,23 @@
 -- Staging the pieces, and writing the places, step by step through the parts of the work area.
-use mathlib.Core.Path.{_≡_, refl, sym, _∙_, ap}
+use mathlib.Core.Path.{_≡_, refl, _∙_, ap}
 use mathlib.Core.List.{List}
-use Prim.Native.Nat.{ℕ, _+_, _-_, _*_, _≤_, _<_}
+use Prim.Native.Nat.{ℕ, _+_, _-_, _*_, _≤_}
 use native.Mathlib.Omega.{arith}
-use lib.ListN.{length, getD, take, drop, replicate, length-replicate, getD-replicate}
+use lib.ListN.{length, take, drop, replicate, length-replicate}
 use borrow.Rule.Slice.PartMut.{putMid}
 use Rattle.tables.specs.Tables.{table, Filled}
-use Rattle.tables.proofs.Tables.{table-take, part-table, part-filled}
+use Rattle.tables.proofs.Tables.{part-table, part-filled}
 use Rattle.trays.specs.Limits.{maxSlips, workNeed}
-use Rattle.trays.specs.Slips.{slipsOf, numbers}
-use Rattle.trays.specs.Aside.{counted}
-use Rattle.trays.proofs.Accepted.{accepted-tells, slips-count}
-use Rattle.greedy.specs.Legends.{piecesFor}
-use Rattle.greedy.specs.Composing.{whole, legendOf}
-use Rattle.greedy.proofs.KeptSizes.{kept-few, legend-small}
+use Rattle.trays.specs.Slips.{slipsOf}
+use Rattle.trays.proofs.Accepted.{accepted-tells}
 use Rattle.chains.specs.Pieces.{piecesIn}
 use Rattle.chains.specs.Chains.{piecesBy, PiecesAsk}
 use Rattle.chains.specs.Pieces.{PiecesBehind}
 use Rattle.placing.specs.Places.{placedBy, asideBy, PlacesAsk, AsideAsk}
 use Rattle.placing.proofs.PlacesAre.{placed-length, aside-length}
 use Rattle.layout.specs.Layout.{KEPT, PLACES}
-use Rattle.answers.specs.Composing.{placeCells, flatPlaces}
-use Rattle.writing.specs.steps.Writing.{piecesHere, StageAsks, PiecesStaged, PlacingAsks, PlacesWritten}
-use Rattle.writing.proofs.PiecesFit.{pieces-once, pieces-which, pieces-places}
-use Rattle.writing.proofs.PlacesFlat.{places-flat}
+use Rattle.answers.specs.Composing.{placeCells}
+use Rattle.writing.specs.steps.Writing.{piecesHere, StageAsks, PiecesStaged, placesHere, PlacingAsks, PlacesWritten}
 
 -- the part `&work[KEPT..KEPT + 200]` is the table
 kept-part : (w : List ℕ) → take (KEPT + maxSlips - KEPT) (drop KEPT w) ≡ table w KEPT maxSlips
@@ -63,7 +57,7 @@ module _ (s es w t xs : List ℕ) (k : ℕ) (a : PlacingAsks s es w t xs k) (w�
   ss = slipsOf s es
 
   few : placeCells * length es ≤ size
-  few = omega (arith, accepted-tells s es (a .tray) .few)
+  few = omega (arith, accepted-tells s es (a .pieces .tray) .few)
 
   long : length w₁ ≡ length w
   long = f .only .same
@@ -76,12 +70,7 @@ module _ (s es w t xs : List ℕ) (k : ℕ) (a : PlacingAsks s es w t xs k) (w�
 
   pub places-asks : PlacesAsk s es xs k (mine w₁)
   places-asks =
-      record {
-        tray = a .tray;
-        pairs = omega (arith, a .pieces .size, a .pieces .count-is, kept-few s es (a .tray));
-        places = omega (arith, few, blank-length);
-        fits = rw (a .pieces .are) (pieces-places s es (a .tray));
-      }
+      record { tray = a .pieces .tray; pairs = a .pieces .pairs; places = omega (arith, few, blank-length); fits = a .pieces .places }
 
   module _ (p₁ : List ℕ) (e₁ : p₁ ≡ placedBy ss (mine w₁) 1 (piecesIn xs 0 k)) where
     first-length : length p₁ ≡ size
@@ -96,14 +85,14 @@ module _ (s es w t xs : List ℕ) (k : ℕ) (a : PlacingAsks s es w t xs k) (w�
     pub aside-asks : AsideAsk s es t (mine (back w₁ p₁))
     aside-asks =
         record {
-          tray = a .tray;
-          short = omega (arith, ap length (a .legend-is), legend-small s es (a .tray));
+          tray = a .pieces .tray;
+          short = omega (arith, ap length (a .legend-is), a .pieces .short);
           places = omega (arith, few, ap length again, first-length);
         }
 
     module _ (p₂ : List ℕ) (e₂ : p₂ ≡ asideBy ss t (mine (back w₁ p₁)) (length es)) where
-      second-is : p₂ ≡ asideBy ss (legendOf (whole ss)) (placedBy ss (replicate size 0) 1 (piecesFor counted ss (numbers ss))) (length ss)
-      second-is = e₂ ∙ rw (again, e₁, blank, a .pieces .are, a .legend-is, slips-count s es)
+      second-is : p₂ ≡ placesHere s es xs k
+      second-is = e₂ ∙ rw (again, e₁, blank, a .legend-is)
 
       second-length : length p₂ ≡ size
       second-length = rw (e₂, again) (aside-length ss t p₁ (length es) ∙ first-length)
@@ -114,20 +103,7 @@ module _ (s es w t xs : List ℕ) (k : ℕ) (a : PlacingAsks s es w t xs k) (w�
       pub places-same : length (back (back w₁ p₁) p₂) ≡ length w
       places-same = second .only .same ∙ first .only .same ∙ long
 
-      all-flat : take (placeCells * length ss) p₂ ≡ flatPlaces (whole ss)
-      all-flat =
-          rw second-is
-          (places-flat ss (replicate size 0) room zeros (pieces-once s es (a .tray)) (pieces-which s es (a .tray))
-          (placed-length ss (piecesFor counted ss (numbers ss)) (replicate size 0) 1)
-          (rw (← second-is) (omega (arith, second-length, few, slips-count s es))))
-        where
-          room : placeCells * length ss ≤ length {A = ℕ} (replicate size 0)
-          room = rw (length-replicate {A = ℕ} size 0) (omega (arith, few, slips-count s es))
-
-          zeros : (i : ℕ) → i < length ss → getD {A = ℕ} (replicate size 0) (placeCells * i + 1) 0 ≡ 0
-          zeros i h = getD-replicate size (placeCells * i + 1) 0 0 (omega (arith, few, slips-count s es))
-
-      pub places-given : PlacesWritten s es w (back (back w₁ p₁) p₂)
+      pub places-given : PlacesWritten s es w (back (back w₁ p₁) p₂) xs k
       places-given =
           record {
             below =
@@ -138,7 +114,5 @@ module _ (s es w t xs : List ℕ) (k : ℕ) (a : PlacingAsks s es w t xs k) (w�
                       ∙ first .only .kept p (λ q. absurd (omega (arith, q .from)))
                       ∙ f .only .kept p (λ q. absurd (omega (arith, q .from)));
                 };
-            places-are =
-                sym (table-take (back (back w₁ p₁) p₂) PLACES (placeCells * length es) size few)
-                ∙ rw (second .cells, ← (slips-count s es)) all-flat;
+            places-are = second .cells ∙ second-is;
           }

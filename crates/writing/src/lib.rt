@@ -32,7 +32,7 @@ pub fn pieces_of(
     pieces
 }
 
-// The places of all slips, in the work area: those of the pieces, then those of the slips set aside.
+// The places of all slips, in the work area: those of the first `k` pieces, then those of the other slips.
 fn write_places(
     letters: &[u8],
     ends: &[u16],
@@ -42,14 +42,14 @@ fn write_places(
     k: usize,
 )
     requires { ⌜ PlacingAsks (now letters) (now ends) (now work) (now legend) (now pieces) k ⌝ }
-    ensures { λ _. ⌜ PlacesWritten (now (letters .entry)) (now (ends .entry)) (now (work .entry)) (now (work .exit)) ⌝ }
+    ensures { λ _. ⌜ PlacesWritten (now (letters .entry)) (now (ends .entry)) (now (work .entry)) (now (work .exit)) (now (pieces .entry)) k ⌝ }
 {
     tables::clear(work, PLACES, CELLS);
     placing::kept_places(letters, ends, pieces, k, &mut work[PLACES..PLACES + CELLS]);
     placing::aside_places(letters, ends, legend, &mut work[PLACES..PLACES + CELLS]);
 }
 
-// The legend, then the places.
+// The legend of the first `k` pieces, then the places.
 pub fn write_out(
     letters: &[u8],
     ends: &[u16],
@@ -60,7 +60,8 @@ pub fn write_out(
     need: usize,
 )
     requires { ⌜ WritingAsks (now letters) (now ends) (now work) (now legend) (now pieces) k need ⌝ }
-    ensures { λ _. ⌜ Written (now (letters .entry)) (now (ends .entry)) (now (work .entry)) (now (work .exit)) (now (legend .entry)) (now (legend .exit)) ⌝ }
+    ensures { λ _. ⌜ Written (now (letters .entry)) (now (ends .entry)) (now (work .entry)) (now (work .exit)) (now (legend .entry)) (now (legend .exit))
+        (now (pieces .entry)) k ⌝ }
 {
     laying::lay(letters, ends, pieces, 0, k, legend);
     write_places(letters, ends, work, &legend[..need], pieces, k);

@@ -1,7 +1,10 @@
-use Rattle.finishing.proofs.LastSteps.{stage-can, small-need, outcome-can, last-legend, last-joins, last-places, write-can, last-good}
+use Rattle.finishing.proofs.LastSteps.{count-can, stage-can, small-need, outcome-can, last-legend, last-joins, last-places, write-can, last-good}
 use borrow.Author.Needs.{needs}
 use Rattle.finishing.proofs.finish.Statement.{statement}
 use Rattle.finishing.proofs.finish.Tie as tie
+
+count-letters-requires : tie.Need-count-letters-requires
+count-letters-requires c κs = search count-can
 
 cast-refused : tie.Need-cast-refused
 cast-refused c = record { fits = search small-need }
@@ -34,10 +37,10 @@ start told =
 
 returns-4 : tie.Need-returns-4
 returns-4 c =
-    last-good _ _ _ _ _ _ _ _ (start c .pre) _ (search needs) _ _ _ (search needs) _ _ _ (search needs) (search needs) (written c .write-out .ensures)
+    last-good _ _ _ _ _ _ _ _ (start c .pre) _ (search needs) _ _ _ (search needs) _ (search needs) _ _ _ (search needs) (search needs) (written c .write-out .ensures)
     (c .outcome .ensures)
 
 pub finish-spec : {M : Type 1} → statement M
-finish-spec = tie.close (tie.spec (λ c κs. search needs) cast-refused (λ c κs. search needs) (λ c. search needs) returns (λ c. search needs)
+finish-spec = tie.close (tie.spec count-letters-requires cast-refused (λ c κs. search needs) (λ c. search needs) returns (λ c. search needs)
     (λ c κs. search needs) (λ c. search needs) returns-2 (λ c. search needs) (λ c κs. search needs) (λ c. search needs) returns-3
     pieces-of-requires (λ c. search needs) write-out-requires outcome-requires (λ c. search needs) (λ c. search needs) returns-4)

@@ -1,21 +1,30 @@
 -- The last step of composing: what it asks and leaves.
---   Joined      == the work area and the lists of neighbours after the walk
+--   AfterWalk   == the work area after the walk: kept slips and joins
+--   Joined      == so, and the lists of neighbours
 --   outcomeBy   == the answer made of the counts
 --   Finished    == what the last step leaves
 use mathlib.Core.Path.{_≡_}
 use mathlib.Core.List.{List}
-use Prim.Native.Nat.{ℕ, _*_, _^_, _<_}
+use Prim.Native.Nat.{ℕ, _*_, _^_, _≤_, _<_}
 use lib.ListN.{length}
 use Rattle.tables.specs.Tables.{table}
+use Rattle.trays.specs.Limits.{maxSlips, workNeed}
 use Rattle.trays.specs.Slips.{slipsOf}
-use Rattle.trays.specs.Faults.{written}
-use Rattle.greedy.specs.Composing.{whole, joinsOf, legendOf}
+use Rattle.trays.specs.Faults.{trayFault, written}
+use Rattle.greedy.specs.Composing.{whole, keptOf, joinsOf, legendOf}
 use Rattle.layout.specs.Layout.{JOINS, PLACES}
-use Rattle.layout.specs.Staging.{joinsIn, Neighbours}
+use Rattle.layout.specs.Staging.{keptIn, joinsIn, Neighbours}
 use Rattle.answers.specs.declared.Composed.{Composed}
 use Rattle.answers.specs.Composing.{composeFault, composedOf, flatJoins, placeCells, flatPlaces}
 use Rattle.counting.specs.declared.LetterCounts.{LetterCounts}
-use Rattle.counting.specs.steps.Counting.{AfterWalk}
+
+pub record AfterWalk (s es w : List ℕ) (k j : ℕ) : Type 0 where
+  pub room : workNeed ≤ length w
+  pub tray : trayFault s es .number ≡ 0
+  pub kept-is : keptIn w k ≡ keptOf (whole (slipsOf s es))
+  pub few-kept : k ≤ maxSlips
+  pub joins-are : joinsIn w j ≡ joinsOf (whole (slipsOf s es))
+  pub few-joins : j ≤ maxSlips
 
 pub record Joined (s es w : List ℕ) (k j : ℕ) (left right overs : List ℕ) : Type 0 where
   pub walked : AfterWalk s es w k j

@@ -1,26 +1,27 @@
 -- What composing writes: what each step asks and gives.
 --   piecesHere                  == the pieces by the lists of neighbours
 --   StageAsks, PiecesStaged     == what staging them asks and gives
---   Pieces                      == the pieces of the tray, as numbers
---   WritingAsks, Written        == the same for the legend and the places
---   PlacingAsks, PlacesWritten  == and for the places alone
+--   legendHere, placesHere      == the legend of the first k pieces of a list, and the places of all slips in it
+--   Layable                     == these pieces can be laid and placed
+--   WritingAsks, Written        == what writing the legend and the places asks and gives
+--   PlacingAsks, PlacesWritten  == the same for the places alone
 use mathlib.Core.Path.{_≡_}
 use mathlib.Core.List.{List}
 use Prim.Native.Nat.{ℕ, _+_, _*_, _≤_}
 use lib.ListN.{length, take, replicate}
-use Rattle.words.specs.Lists.{over}
+use Rattle.words.specs.Lists.{over, All}
 use Rattle.tables.specs.Tables.{table}
-use Rattle.trays.specs.Limits.{maxSlips, workNeed}
-use Rattle.trays.specs.Slips.{slipsOf, numbers}
-use Rattle.trays.specs.Aside.{kept, counted}
+use Rattle.trays.specs.Limits.{maxSlips, maxLetters, workNeed}
+use Rattle.trays.specs.Slips.{slipsOf}
 use Rattle.trays.specs.Faults.{trayFault}
-use Rattle.greedy.specs.Composing.{whole, legendOf}
-use Rattle.greedy.specs.Legends.{Piece, piecesFor}
+use Rattle.greedy.specs.Legends.{Piece, spelled}
 use Rattle.chains.specs.Pieces.{piecesIn}
 use Rattle.chains.specs.Chains.{piecesBy, PiecesAsk}
+use Rattle.laying.specs.Laying.{PieceFits}
+use Rattle.placing.specs.Places.{Placeable, placedBy, asideBy}
 use Rattle.layout.specs.Layout.{KEPT, PLACES}
 use Rattle.layout.specs.Numbered.{SameBelow}
-use Rattle.answers.specs.Composing.{placeCells, flatPlaces}
+use Rattle.answers.specs.Composing.{placeCells}
 
 -- the pieces by the lists of neighbours, and what staging them asks and gives
 abbrev pub piecesHere : List ℕ → ℕ → ℕ → List ℕ → List ℕ → List ℕ → List Piece
@@ -35,28 +36,37 @@ pub record PiecesStaged (w : List ℕ) (k j : ℕ) (left right overs xs : List �
   pub size : length xs ≡ 2 * maxSlips
   pub are : piecesIn xs 0 (length (piecesHere w k j left right overs)) ≡ piecesHere w k j left right overs
 
-pub record Pieces (s es : List ℕ) (k : ℕ) (xs : List ℕ) : Type 0 where
-  pub size : length xs ≡ 2 * maxSlips
-  pub count-is : k ≡ length (kept (slipsOf s es) (numbers (slipsOf s es)))
-  pub are : piecesIn xs 0 k ≡ piecesFor counted (slipsOf s es) (numbers (slipsOf s es))
+abbrev pub legendHere : List ℕ → List ℕ → List ℕ → ℕ → List ℕ
+legendHere s es xs k = spelled (slipsOf s es) (piecesIn xs 0 k)
+
+-- the places of the pieces, then those of the slips that are not among them
+abbrev pub placesHere : List ℕ → List ℕ → List ℕ → ℕ → List ℕ
+placesHere s es xs k =
+    let ss = slipsOf s es in
+    asideBy ss (legendHere s es xs k) (placedBy ss (replicate (placeCells * maxSlips) 0) 1 (piecesIn xs 0 k)) (length es)
+
+pub record Layable (s es xs : List ℕ) (k : ℕ) : Type 0 where
+  pub tray : trayFault s es .number ≡ 0
+  pub pairs : 2 * k ≤ length xs
+  pub fits : All (PieceFits s es) (piecesIn xs 0 k)
+  pub places : Placeable s es 1 (piecesIn xs 0 k)
+  pub short : length (legendHere s es xs k) ≤ maxLetters
 
 pub record WritingAsks (s es w l xs : List ℕ) (k need : ℕ) : Type 0 where
   pub room : workNeed ≤ length w
-  pub tray : trayFault s es .number ≡ 0
-  pub need-is : need ≡ length (legendOf (whole (slipsOf s es)))
+  pub pieces : Layable s es xs k
+  pub need-is : need ≡ length (legendHere s es xs k)
   pub space : need ≤ length l
-  pub pieces : Pieces s es k xs
 
-pub record PlacingAsks (s es w t : List ℕ) (xs : List ℕ) (k : ℕ) : Type 0 where
+pub record PlacingAsks (s es w t xs : List ℕ) (k : ℕ) : Type 0 where
   pub room : workNeed ≤ length w
-  pub tray : trayFault s es .number ≡ 0
-  pub legend-is : t ≡ legendOf (whole (slipsOf s es))
-  pub pieces : Pieces s es k xs
+  pub pieces : Layable s es xs k
+  pub legend-is : t ≡ legendHere s es xs k
 
-pub record PlacesWritten (s es w w′ : List ℕ) : Type 0 where
+pub record PlacesWritten (s es w w′ xs : List ℕ) (k : ℕ) : Type 0 where
   pub below : SameBelow PLACES w w′
-  pub places-are : table w′ PLACES (placeCells * length es) ≡ flatPlaces (whole (slipsOf s es))
+  pub places-are : table w′ PLACES (placeCells * maxSlips) ≡ placesHere s es xs k
 
-pub record Written (s es w w′ l l′ : List ℕ) : Type 0 where
-  pub legend-is : l′ ≡ over (legendOf (whole (slipsOf s es))) l
-  pub placed : PlacesWritten s es w w′
+pub record Written (s es w w′ l l′ xs : List ℕ) (k : ℕ) : Type 0 where
+  pub legend-is : l′ ≡ over (legendHere s es xs k) l
+  pub placed : PlacesWritten s es w w′ xs k

@@ -1,20 +1,25 @@
 -- The places, slip by slip, are those of the rules.
+--   places-all == so for the pieces of a tray's own joins
 use mathlib.Core.Path.{_≡_, sym, _∙_, ap}
 use mathlib.Core.Bool.{true, false, not}
 use mathlib.Core.List.{List, [], _∷_}
 use Prim.Native.Nat.{ℕ, suc, _+_, _*_, _/_, _%_, _≤_, _<_}
 use native.Mathlib.Omega.{arith}
-use lib.ListN.{length, getD, take}
+use lib.ListN.{length, getD, take, replicate, length-replicate, getD-replicate}
 use lib.Seq.{ext-getD, getD-take, length-take-le}
 use Rattle.words.proofs.Tests.{by-test}
-use Rattle.trays.specs.Slips.{slip, numbers}
+use Rattle.trays.specs.Limits.{maxSlips}
+use Rattle.trays.specs.Slips.{slipsOf, slip, numbers}
 use Rattle.trays.specs.Aside.{isAside, counted}
+use Rattle.trays.specs.Faults.{trayFault}
+use Rattle.trays.proofs.Accepted.{accepted-tells, slips-count}
 use Rattle.greedy.specs.Legends.{Piece, piecesFor, placeIn, lowest, tried, placeFor}
 use Rattle.greedy.specs.Composing.{whole, legendOf}
 use Rattle.placing.specs.Places.{placedBy, asideBy}
-use Rattle.placing.proofs.PlacesAre.{isLaid, LaidOnce, numberOf, placed-here, placed-other, aside-at}
+use Rattle.placing.proofs.PlacesAre.{isLaid, LaidOnce, numberOf, placed-here, placed-other, aside-at, placed-length, aside-length}
 use Rattle.answers.specs.Composing.{placeCells, placeNumbers, flatPlaces}
 use Rattle.answers.proofs.FlatLists.{places-length, places-at}
+use Rattle.finishing.proofs.PiecesFit.{pieces-once, pieces-which}
 
 module _ (ss : List (List ℕ)) (xs : List ℕ) (room : placeCells * length ss ≤ length xs)
     (blank : (k : ℕ) → k < length ss → getD xs (placeCells * k + 1) 0 ≡ 0) where
@@ -48,7 +53,7 @@ module _ (ss : List (List ℕ)) (xs : List ℕ) (room : placeCells * length ss �
         let one : numberOf old k 1 ≡ 1 = placed-here ss ps xs 1 k 1 once o (omega arith) (omega arith) in
         a ∙ rw one (placed-here ss ps xs 1 k j once o l (omega arith) ∙ ap (λ (ns : List ℕ). getD ns j 0) (kept-numbers (suc k) t)))
 
-    pub places-flat : placeCells * length ss ≤ length after → take (placeCells * length ss) after ≡ flatPlaces (whole ss)
+    places-flat : placeCells * length ss ≤ length after → take (placeCells * length ss) after ≡ flatPlaces (whole ss)
     places-flat l =
         let size : length (take (placeCells * length ss) after) ≡ placeCells * length ss = length-take-le (placeCells * length ss) after l in
         ext-getD 0 (take (placeCells * length ss) after) (flatPlaces (whole ss)) (size ∙ sym (places-length ss))
@@ -59,3 +64,19 @@ module _ (ss : List (List ℕ)) (xs : List ℕ) (room : placeCells * length ss �
         let few : k < length ss = omega arith in
         getD-take (placeCells * length ss) after i 0 (omega arith)
         ∙ ap (λ (n : ℕ). getD after n 0) e ∙ cell-is k j few (omega arith) ∙ sym (places-at ss k j i few (omega arith) e))
+
+-- so for the pieces of an accepted tray's own joins, from cells of 0
+pub places-all : (s es : List ℕ) → trayFault s es .number ≡ 0 →
+    let ss = slipsOf s es in
+    take (placeCells * length ss)
+    (asideBy ss (legendOf (whole ss)) (placedBy ss (replicate (placeCells * maxSlips) 0) 1 (piecesFor counted ss (numbers ss))) (length ss))
+    ≡ flatPlaces (whole ss)
+places-all s es acc =
+    let ss = slipsOf s es in
+    let zeros = replicate {A = ℕ} (placeCells * maxSlips) 0 in
+    let few : placeCells * length ss ≤ placeCells * maxSlips = omega (arith, accepted-tells s es acc .few, slips-count s es) in
+    let size : length zeros ≡ placeCells * maxSlips = length-replicate {A = ℕ} (placeCells * maxSlips) 0 in
+    let laid = placedBy ss zeros 1 (piecesFor counted ss (numbers ss)) in
+    let placed = placed-length ss (piecesFor counted ss (numbers ss)) zeros 1 in
+    places-flat ss zeros (omega (arith, few, size)) (λ i h. getD-replicate (placeCells * maxSlips) (placeCells * i + 1) 0 0 (omega (arith, few)))
+    (pieces-once s es acc) (pieces-which s es acc) placed (omega (arith, few, size, placed, aside-length ss (legendOf (whole ss)) laid (length ss)))
