@@ -11,10 +11,11 @@ use Prim.Native.Nat.{ℕ}
 use Prim.Native.String.{String}
 use Rattle.words.specs.Quoted.{word}
 use Rattle.trays.specs.Slips.{numbers}
-use Rattle.greedy.specs.Composing.{whole, joinsOf}
+use Rattle.trays.specs.Faults.{refusal}
+use Rattle.greedy.specs.Composing.{usual, whole, joinsOf}
 use Rattle.answers.specs.declared.Join.{Join}
 use Rattle.answers.specs.declared.Place.{Place}
-use Rattle.answers.specs.Composing.{flatPlaces}
+use Rattle.answers.specs.Composing.{composeFault, flatPlaces}
 use Rattle.answers.specs.Records.{joinRecord, placeRecord}
 
 abbrev joined : ℕ → ℕ → ℕ → Join
@@ -38,7 +39,7 @@ abbrev specimen : List String → List Join → List Place → Specimen
 specimen ws js ps = record { tray = ws; records = record { joins = js; places = ps } }
 
 abbrev pub recordsOf : List (List ℕ) → Records
-recordsOf ss = record { joins = map joinRecord (joinsOf (whole ss)); places = map (placeRecord (whole ss)) (numbers ss) }
+recordsOf ss = record { joins = map joinRecord (joinsOf (whole usual ss)); places = map (placeRecord (whole usual ss)) (numbers ss) }
 
 pub specimens : List Specimen
 specimens =
@@ -59,5 +60,19 @@ unfolding specimens
 specimens-computed = refl
 
 -- as numbers: place, mark, letters compared
-pub flat-computed : flatPlaces (whole (map word ("AAB" ∷ "AAAAB" ∷ []))) ≡ 3 ∷ 0 ∷ 5 ∷ 1 ∷ 1 ∷ 0 ∷ []
+pub flat-computed : flatPlaces (whole usual (map word ("AAB" ∷ "AAAAB" ∷ []))) ≡ 3 ∷ 0 ∷ 5 ∷ 1 ∷ 1 ∷ 0 ∷ []
 flat-computed = refl
+
+-- the rows in their order, of the tray AB, BC and of one that is refused: settings, tray, work area, legend, lists
+pub rows-computed :
+    (composeFault (record { least = 0 }) (word "A#") (1 ∷ 2 ∷ []) 0 0 0 0
+    ∷ composeFault (record { least = 33 }) (word "ABBC") (2 ∷ 4 ∷ []) 31999 0 0 0
+    ∷ composeFault (record { least = 32 }) (word "A#") (1 ∷ 2 ∷ []) 31999 0 0 0
+    ∷ composeFault (record { least = 2 }) (word "ABBC") (2 ∷ 4 ∷ []) 31999 3 0 0
+    ∷ composeFault (record { least = 2 }) (word "ABBC") (2 ∷ 4 ∷ []) 32000 3 0 0
+    ∷ composeFault (record { least = 1 }) (word "ABBC") (2 ∷ 4 ∷ []) 32000 3 0 2
+    ∷ composeFault (record { least = 2 }) (word "ABBC") (2 ∷ 4 ∷ []) 32000 4 0 2
+    ∷ [])
+    ≡ (refusal 21 0 ∷ refusal 21 0 ∷ refusal 6 2 ∷ refusal 7 0 ∷ refusal 8 4 ∷ refusal 9 1 ∷ refusal 0 0 ∷ [])
+unfolding composeFault
+rows-computed = refl

@@ -1,5 +1,5 @@
 -- Computed specimens of the shortest legend: the answer, and what stands in the legend's buffer afterwards, worked out by hand from the rules.
---   Sought    == a tray, the cells and the letters lent, and the answer
+--   Sought    == a least overlap, a tray, the cells and the letters lent, and the answer
 --   computed  == the answer to it by the definition
 use mathlib.Core.Path.{_≡_, refl}
 use mathlib.Core.List.{List, [], _∷_, map}
@@ -9,12 +9,13 @@ use lib.ListN.{replicate}
 use Rattle.words.specs.Quoted.{word}
 use Rattle.trays.specs.Slips.{slipsOf}
 use Rattle.trays.specs.Faults.{written}
-use Rattle.greedy.specs.Composing.{whole}
+use Rattle.greedy.specs.Composing.{usual, whole}
 use Rattle.shortest.specs.Orders.{shortestLegend}
 use Rattle.answers.specs.declared.Shortest.{Shortest}
 use Rattle.answers.specs.Shortest.{shortestFault, shortestOf}
 
 pub record Sought : Type 0 where
+  pub least : ℕ
   pub letters : String
   pub ends : List ℕ
   pub cells : ℕ
@@ -27,26 +28,32 @@ found n k xs = record { number = 0; detail = 0; legend = n; count = k; order = x
 abbrev refused : ℕ → ℕ → Shortest
 refused n d = record { number = n; detail = d; legend = 0; count = 0; order = replicate 10 0 }
 
-abbrev sought : String → List ℕ → ℕ → ℕ → Shortest → Sought
-sought s es w l r = record { letters = s; ends = es; cells = w; room = l; answer = r }
+abbrev sought : ℕ → String → List ℕ → ℕ → ℕ → Shortest → Sought
+sought m s es w l r = record { least = m; letters = s; ends = es; cells = w; room = l; answer = r }
 
 abbrev pub soughts : List Sought
 soughts =
-    sought "" [] 32000 0 (found 0 0 (replicate 10 0))
+    sought 1 "" [] 32000 0 (found 0 0 (replicate 10 0))
     -- CA, AB, ADA: five letters, just so many are lent
-    ∷ sought "CAABADA" (2 ∷ 4 ∷ 7 ∷ []) 32000 5 (found 5 3 (1 ∷ 3 ∷ 2 ∷ replicate 7 0))
-    ∷ sought "CAABADA" (2 ∷ 4 ∷ 7 ∷ []) 32000 4 (refused 8 5)
+    ∷ sought 1 "CAABADA" (2 ∷ 4 ∷ 7 ∷ []) 32000 5 (found 5 3 (1 ∷ 3 ∷ 2 ∷ replicate 7 0))
+    ∷ sought 1 "CAABADA" (2 ∷ 4 ∷ 7 ∷ []) 32000 4 (refused 8 5)
+    -- with a least overlap of 2 nothing is shared
+    ∷ sought 2 "CAABADA" (2 ∷ 4 ∷ 7 ∷ []) 32000 7 (found 7 3 (1 ∷ 2 ∷ 3 ∷ replicate 7 0))
+    -- the settings before the tray and the work area
+    ∷ sought 0 "A#" (1 ∷ 2 ∷ []) 0 0 (refused 21 0)
+    ∷ sought 33 "CAABADA" (2 ∷ 4 ∷ 7 ∷ []) 31999 7 (refused 21 0)
     -- eleven slips are kept: 20 before 8, and 7 before 20; nothing is sought
-    ∷ sought "ABCDEFGHIJK" (1 ∷ 2 ∷ 3 ∷ 4 ∷ 5 ∷ 6 ∷ 7 ∷ 8 ∷ 9 ∷ 10 ∷ 11 ∷ []) 32000 0 (refused 20 0)
-    ∷ sought "ABCDEFGHIJK" (1 ∷ 2 ∷ 3 ∷ 4 ∷ 5 ∷ 6 ∷ 7 ∷ 8 ∷ 9 ∷ 10 ∷ 11 ∷ []) 31999 0 (refused 7 0)
+    ∷ sought 1 "ABCDEFGHIJK" (1 ∷ 2 ∷ 3 ∷ 4 ∷ 5 ∷ 6 ∷ 7 ∷ 8 ∷ 9 ∷ 10 ∷ 11 ∷ []) 32000 0 (refused 20 0)
+    ∷ sought 1 "ABCDEFGHIJK" (1 ∷ 2 ∷ 3 ∷ 4 ∷ 5 ∷ 6 ∷ 7 ∷ 8 ∷ 9 ∷ 10 ∷ 11 ∷ []) 31999 0 (refused 7 0)
     -- the tray before the work area
-    ∷ sought "A#" (1 ∷ 2 ∷ []) 0 0 (refused 6 2)
+    ∷ sought 1 "A#" (1 ∷ 2 ∷ []) 0 0 (refused 6 2)
     -- twelve slips of which one is kept
-    ∷ sought "AAAAAAAAAAAA" (1 ∷ 2 ∷ 3 ∷ 4 ∷ 5 ∷ 6 ∷ 7 ∷ 8 ∷ 9 ∷ 10 ∷ 11 ∷ 12 ∷ []) 32000 1 (found 1 1 (1 ∷ replicate 9 0))
+    ∷ sought 1 "AAAAAAAAAAAA" (1 ∷ 2 ∷ 3 ∷ 4 ∷ 5 ∷ 6 ∷ 7 ∷ 8 ∷ 9 ∷ 10 ∷ 11 ∷ 12 ∷ []) 32000 1 (found 1 1 (1 ∷ replicate 9 0))
     ∷ []
 
 abbrev computed : Sought → Sought
-computed x = sought (x .letters) (x .ends) (x .cells) (x .room) (shortestOf (word (x .letters)) (x .ends) (x .cells) (x .room))
+computed x =
+    sought (x .least) (x .letters) (x .ends) (x .cells) (x .room) (shortestOf (record { least = x .least }) (word (x .letters)) (x .ends) (x .cells) (x .room))
 
 pub soughts-computed : map computed soughts ≡ soughts
 unfolding shortestFault shortestOf
@@ -54,7 +61,7 @@ soughts-computed = refl
 
 -- the legend's buffer, five letters of six written, and as it was
 abbrev buffer : String → List ℕ → String → List ℕ
-buffer s es old = written (shortestFault (word s) es 32000 6) (shortestLegend (whole (slipsOf (word s) es))) (word old)
+buffer s es old = written (shortestFault usual (word s) es 32000 6) (shortestLegend (whole usual (slipsOf (word s) es))) (word old)
 
 pub buffer-written : buffer "CAABADA" (2 ∷ 4 ∷ 7 ∷ []) "......" ≡ word "CADAB."
 unfolding shortestFault

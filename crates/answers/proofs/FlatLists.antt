@@ -10,7 +10,7 @@ use Rattle.words.proofs.Runs.{length-upFrom, upFrom-at}
 use Rattle.words.proofs.FlatLists.{flat-length, flat-at}
 use Rattle.trays.specs.Slips.{numbers}
 use Rattle.greedy.specs.Joins.{Join, join}
-use Rattle.greedy.specs.Composing.{whole}
+use Rattle.greedy.specs.Composing.{Composing}
 use Rattle.matching.specs.Occurrences.{Occurrence, occurrence}
 use Rattle.answers.specs.Composing.{joinNumbers, flatJoins, placeCells, placeNumbers, flatPlaces}
 use Rattle.answers.specs.Finding.{foundNumbers, flatFound}
@@ -30,12 +30,12 @@ pub found-at : (fs : List Occurrence) (i j at : ℕ) → i < length fs → j < 2
 found-at = flat-at 2 foundNumbers (λ f. refl) (occurrence 0 0)
 
 -- of places the index counts slips: slip i + 1
-module _ (ss : List (List ℕ)) where
-  pub places-length : length (flatPlaces (whole ss)) ≡ placeCells * length ss
-  places-length = flat-length placeCells (placeNumbers (whole ss)) (λ i. refl) (numbers ss) ∙ rw (length-upFrom 1 (length ss))
+module _ (c : Composing) where
+  pub places-length : length (flatPlaces c) ≡ placeCells * length (c .slips)
+  places-length = flat-length placeCells (placeNumbers c) (λ i. refl) (numbers (c .slips)) ∙ rw (length-upFrom 1 (length (c .slips)))
 
-  pub places-at : (i j at : ℕ) → i < length ss → j < placeCells → at ≡ placeCells * i + j →
-      getD (flatPlaces (whole ss)) at 0 ≡ getD (placeNumbers (whole ss) (suc i)) j 0
+  pub places-at : (i j at : ℕ) → i < length (c .slips) → j < placeCells → at ≡ placeCells * i + j →
+      getD (flatPlaces c) at 0 ≡ getD (placeNumbers c (suc i)) j 0
   places-at i j at h l e =
-      flat-at placeCells (placeNumbers (whole ss)) (λ n. refl) 0 (numbers ss) i j at (rw (length-upFrom 1 (length ss)) h) l e
-      ∙ ap (λ (n : ℕ). getD (placeNumbers (whole ss) n) j 0) (upFrom-at 1 (length ss) i h ∙ one-add i)
+      flat-at placeCells (placeNumbers c) (λ n. refl) 0 (numbers (c .slips)) i j at (rw (length-upFrom 1 (length (c .slips))) h) l e
+      ∙ ap (λ (n : ℕ). getD (placeNumbers c n) j 0) (upFrom-at 1 (length (c .slips)) i h ∙ one-add i)

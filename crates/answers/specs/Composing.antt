@@ -1,6 +1,7 @@
--- Composing: refusals 7, 8 and 9 behind those of the tray, the answer, and what each buffer holds afterwards.
---   beforeC s es w        == what turns composing back before place C
---   composeFault          == what turns composing back: legend room l, room for j joins and p places
+-- Composing: refusals 7, 8 and 9 behind those of the settings and the tray, the answer, and what each buffer holds afterwards.
+--   beforeC g s es w      == what turns composing back before place C, with the settings g
+--   roomRows c l j p      == place C: legend room l, room for j joins and p places
+--   composeFault          == what turns composing back
 --   composedOf            == the answer
 --   joinNumbers j         == a join as numbers: left slip, right slip, overlap; flatJoins js == the joins as numbers
 --   placeCells            == so many numbers a place has
@@ -13,25 +14,27 @@ use lib.Dec.{ltb}
 use lib.ListN.{length}
 use Rattle.words.specs.Lists.{each}
 use Rattle.trays.specs.declared.Refusal.{Refusal}
+use Rattle.trays.specs.declared.Settings.{Settings}
 use Rattle.trays.specs.Slips.{slipsOf, numbers}
 use Rattle.trays.specs.Aside.{isAside}
-use Rattle.trays.specs.Faults.{row, firstRow, trayRows}
+use Rattle.trays.specs.Faults.{row, firstRow, setRows}
 use Rattle.greedy.specs.Joins.{Join, saved}
 use Rattle.greedy.specs.Composing.{Composing, whole, keptOf, joinsOf, legendOf, placeOf, comparedOf, keptLetters}
 use Rattle.answers.specs.WorkArea.{workRow}
 use Rattle.answers.specs.declared.Composed.{Composed}
 
-unfoldable pub beforeC : List ℕ → List ℕ → ℕ → Refusal
-beforeC s es w = firstRow (trayRows s es ++ (workRow w ∷ []))
+unfoldable pub beforeC : Settings → List ℕ → List ℕ → ℕ → Refusal
+beforeC g s es w = firstRow (setRows (g .least) s es ++ (workRow w ∷ []))
 
 -- Rules, place C: the legend is longer than its buffer; more joins than the list takes, or fewer than one record of places a slip.
-unfoldable pub composeFault : List ℕ → List ℕ → ℕ → ℕ → ℕ → ℕ → Refusal
-composeFault s es w l j p =
-    let c = whole (slipsOf s es) in
+abbrev pub roomRows : Composing → ℕ → ℕ → ℕ → List Refusal
+roomRows c l j p =
     let need = length (legendOf c) in
     let joins = length (joinsOf c) in
-    firstRow (trayRows s es
-    ++ (workRow w ∷ (row 8 (ltb l need) need ∷ (row 9 (ltb j joins || ltb p (length (c .slips))) joins ∷ []))))
+    row 8 (ltb l need) need ∷ (row 9 (ltb j joins || ltb p (length (c .slips))) joins ∷ [])
+
+unfoldable pub composeFault : Settings → List ℕ → List ℕ → ℕ → ℕ → ℕ → ℕ → Refusal
+composeFault g s es w l j p = firstRow (setRows (g .least) s es ++ (workRow w ∷ roomRows (whole g (slipsOf s es)) l j p))
 
 -- the answer to a tray that is composed
 abbrev pub outcomeOf : Composing → Composed
@@ -50,10 +53,12 @@ outcomeOf c =
 abbrev pub refusedBy : Refusal → Composed
 refusedBy f = record { number = f .number; detail = f .detail; slips = 0; kept = 0; letters = 0; saved = 0; legend = 0; joins = 0 }
 
-unfoldable pub composedOf : List ℕ → List ℕ → ℕ → ℕ → ℕ → ℕ → Composed
-composedOf s es w l j p =
-    let f = composeFault s es w l j p in
-    elim (f .number) [ zero ↦ outcomeOf (whole (slipsOf s es)) | suc n ↦ refusedBy f ]
+-- the answer where f is what turns the tray back
+abbrev pub composedBy : Refusal → Composing → Composed
+composedBy f c = elim (f .number) [ zero ↦ outcomeOf c | suc n ↦ refusedBy f ]
+
+unfoldable pub composedOf : Settings → List ℕ → List ℕ → ℕ → ℕ → ℕ → ℕ → Composed
+composedOf g s es w l j p = composedBy (composeFault g s es w l j p) (whole g (slipsOf s es))
 
 abbrev pub joinNumbers : Join → List ℕ
 joinNumbers j = j .left ∷ (j .right ∷ (j .overlap ∷ []))

@@ -5,6 +5,7 @@ use mathlib.Core.Path.{_≡_}
 use mathlib.Core.List.{List}
 use Prim.Native.Nat.{ℕ, _-_, _/_}
 use lib.ListN.{length}
+use Rattle.trays.specs.declared.Settings.{Settings}
 use Rattle.trays.specs.Slips.{slipsOf}
 use Rattle.trays.specs.declared.Refusal.{Refusal}
 use Rattle.trays.specs.Faults.{written}
@@ -14,12 +15,12 @@ use Rattle.answers.specs.declared.Composed.{Composed}
 use Rattle.answers.specs.Composing.{beforeC, composeFault, composedOf, flatJoins, placeCells, flatPlaces}
 
 -- so many records a list takes
-abbrev pub flatFault : List ℕ → List ℕ → List ℕ → List ℕ → List ℕ → List ℕ → Refusal
-flatFault s es w l j p = composeFault s es (length w) (length l) (length j / 3) (length p / placeCells)
+abbrev pub flatFault : Settings → List ℕ → List ℕ → List ℕ → List ℕ → List ℕ → List ℕ → Refusal
+flatFault g s es w l j p = composeFault g s es (length w) (length l) (length j / 3) (length p / placeCells)
 
-pub record ComposeFlat (s es w w′ l l′ j j′ p p′ : List ℕ) (r : Composed) : Type 0 where
-  pub answer-is : r ≡ composedOf s es (length w) (length l) (length j / 3) (length p / placeCells)
-  pub legend-is : l′ ≡ written (flatFault s es w l j p) (legendOf (whole (slipsOf s es))) l
-  pub joins-are : j′ ≡ written (flatFault s es w l j p) (flatJoins (joinsOf (whole (slipsOf s es)))) j
-  pub places-are : p′ ≡ written (flatFault s es w l j p) (flatPlaces (whole (slipsOf s es))) p
-  pub work-is : WorkKept (beforeC s es (length w)) w w′
+pub record ComposeFlat (g : Settings) (s es w w′ l l′ j j′ p p′ : List ℕ) (r : Composed) : Type 0 where
+  pub answer-is : r ≡ composedOf g s es (length w) (length l) (length j / 3) (length p / placeCells)
+  pub legend-is : l′ ≡ written (flatFault g s es w l j p) (legendOf (whole g (slipsOf s es))) l
+  pub joins-are : j′ ≡ written (flatFault g s es w l j p) (flatJoins (joinsOf (whole g (slipsOf s es)))) j
+  pub places-are : p′ ≡ written (flatFault g s es w l j p) (flatPlaces (whole g (slipsOf s es))) p
+  pub work-is : WorkKept (beforeC g s es (length w)) w w′

@@ -1,13 +1,15 @@
 -- What composing a tray into lent lists of records promises: the answer, and what each buffer holds afterwards.
 --   joinRecord j    == the record of a join: left slip, right slip, overlap
 --   placeRecord c i == the record of slip i: its number, its place, kept or set aside, the letters compared
---   ComposeSays     == the promise, for every input: tray s, es; work area w, legend l, joins js, places ps before, and w′, l′, js′, ps′ after; answer r
+--   ComposeSays     == the promise, for every input: settings g; tray s, es; work area w, legend l, joins js, places ps before, and w′, l′, js′, ps′
+--                      after; answer r
 use mathlib.Core.Path.{_≡_}
 use mathlib.Core.Bool.{not}
 use mathlib.Core.List.{List, map}
 use Prim.Native.Nat.{ℕ}
 use lib.ListN.{length}
 use Rattle.trays.specs.declared.Refusal.{Refusal}
+use Rattle.trays.specs.declared.Settings.{Settings}
 use Rattle.trays.specs.Slips.{slipsOf, numbers}
 use Rattle.trays.specs.Aside.{isAside}
 use Rattle.trays.specs.Faults.{written}
@@ -29,13 +31,13 @@ placeRecord c i =
     record { slip = i; place = placeOf c i; kept = not (isAside (c .slips) (c .members) i); compared = comparedOf c i }
 
 -- the refusal, given the lengths of what was lent
-abbrev pub faultOf : List ℕ → List ℕ → List ℕ → List ℕ → List Join → List Place → Refusal
-faultOf s es w l js ps = composeFault s es (length w) (length l) (length js) (length ps)
+abbrev pub faultOf : Settings → List ℕ → List ℕ → List ℕ → List ℕ → List Join → List Place → Refusal
+faultOf g s es w l js ps = composeFault g s es (length w) (length l) (length js) (length ps)
 
 -- On success the first part of each buffer is the outcome and the rest is unchanged; a refusal leaves each as it was, but for the work area from place C on.
-pub record ComposeSays (s es w w′ l l′ : List ℕ) (js js′ : List Join) (ps ps′ : List Place) (r : Composed) : Type 0 where
-  pub answer-is : r ≡ composedOf s es (length w) (length l) (length js) (length ps)
-  pub legend-is : l′ ≡ written (faultOf s es w l js ps) (legendOf (whole (slipsOf s es))) l
-  pub joins-are : js′ ≡ written (faultOf s es w l js ps) (map joinRecord (joinsOf (whole (slipsOf s es)))) js
-  pub places-are : ps′ ≡ written (faultOf s es w l js ps) (map (placeRecord (whole (slipsOf s es))) (numbers (slipsOf s es))) ps
-  pub work-is : WorkKept (beforeC s es (length w)) w w′
+pub record ComposeSays (g : Settings) (s es w w′ l l′ : List ℕ) (js js′ : List Join) (ps ps′ : List Place) (r : Composed) : Type 0 where
+  pub answer-is : r ≡ composedOf g s es (length w) (length l) (length js) (length ps)
+  pub legend-is : l′ ≡ written (faultOf g s es w l js ps) (legendOf (whole g (slipsOf s es))) l
+  pub joins-are : js′ ≡ written (faultOf g s es w l js ps) (map joinRecord (joinsOf (whole g (slipsOf s es)))) js
+  pub places-are : ps′ ≡ written (faultOf g s es w l js ps) (map (placeRecord (whole g (slipsOf s es))) (numbers (slipsOf s es))) ps
+  pub work-is : WorkKept (beforeC g s es (length w)) w w′

@@ -1,7 +1,8 @@
--- The shortest legend: refusals 20 and 8 behind those of the tray and 7, the answer, and what each buffer holds afterwards.
---   shortestFault s es w l == what turns the call back, with a work area of w cells and room for l letters
---   shortestOf s es w l    == the answer
---   ShortestSays           == the promise, for every input: tray s, es; work area w and legend l before, w′ and l′ after; answer r
+-- The shortest legend: refusals 20 and 8 behind those of the settings, of the tray and 7, the answer, and what each buffer holds afterwards.
+--   shortestRows c l         == place C: room for l letters
+--   shortestFault g s es w l == what turns the call back, with the settings g, a work area of w cells and room for l letters
+--   shortestOf g s es w l    == the answer
+--   ShortestSays             == the promise, for every input: settings g; tray s, es; work area w and legend l before, w′ and l′ after; answer r
 use mathlib.Core.Path.{_≡_}
 use mathlib.Core.List.{List, [], _∷_, _++_}
 use Prim.Native.Nat.{ℕ, zero, suc}
@@ -10,8 +11,9 @@ use lib.ListN.{length, replicate}
 use Rattle.words.specs.Lists.{over}
 use Rattle.trays.specs.declared.Refusal.{Refusal}
 use Rattle.trays.specs.Limits.{maxShortest}
+use Rattle.trays.specs.declared.Settings.{Settings}
 use Rattle.trays.specs.Slips.{slipsOf}
-use Rattle.trays.specs.Faults.{row, firstRow, trayRows, written}
+use Rattle.trays.specs.Faults.{row, firstRow, setRows, written}
 use Rattle.greedy.specs.Composing.{Composing, whole, keptOf}
 use Rattle.shortest.specs.Orders.{shortestOrder, shortestLegend}
 use Rattle.answers.specs.WorkArea.{workRow, WorkKept}
@@ -19,11 +21,11 @@ use Rattle.answers.specs.declared.Shortest.{Shortest}
 use Rattle.answers.specs.Composing.{beforeC}
 
 -- Rules, place C: more than 10 slips are kept, checked first; the legend is longer than its buffer.
-unfoldable pub shortestFault : List ℕ → List ℕ → ℕ → ℕ → Refusal
-shortestFault s es w l =
-    let c = whole (slipsOf s es) in
-    let need = length (shortestLegend c) in
-    firstRow (trayRows s es ++ (workRow w ∷ (row 20 (ltb maxShortest (length (keptOf c))) 0 ∷ (row 8 (ltb l need) need ∷ []))))
+abbrev pub shortestRows : Composing → ℕ → List Refusal
+shortestRows c l = let need = length (shortestLegend c) in row 20 (ltb maxShortest (length (keptOf c))) 0 ∷ (row 8 (ltb l need) need ∷ [])
+
+unfoldable pub shortestFault : Settings → List ℕ → List ℕ → ℕ → ℕ → Refusal
+shortestFault g s es w l = firstRow (setRows (g .least) s es ++ (workRow w ∷ shortestRows (whole g (slipsOf s es)) l))
 
 -- a count and ten numbers, 0 past the count
 abbrev pub shortestOutcome : Composing → Shortest
@@ -39,12 +41,14 @@ shortestOutcome c =
 abbrev pub shortestRefused : Refusal → Shortest
 shortestRefused f = record { number = f .number; detail = f .detail; legend = 0; count = 0; order = replicate maxShortest 0 }
 
-unfoldable pub shortestOf : List ℕ → List ℕ → ℕ → ℕ → Shortest
-shortestOf s es w l =
-    let f = shortestFault s es w l in
-    elim (f .number) [ zero ↦ shortestOutcome (whole (slipsOf s es)) | suc n ↦ shortestRefused f ]
+-- the answer where f is what turns the call back
+abbrev pub shortestBy : Refusal → Composing → Shortest
+shortestBy f c = elim (f .number) [ zero ↦ shortestOutcome c | suc n ↦ shortestRefused f ]
 
-pub record ShortestSays (s es w w′ l l′ : List ℕ) (r : Shortest) : Type 0 where
-  pub answer-is : r ≡ shortestOf s es (length w) (length l)
-  pub legend-is : l′ ≡ written (shortestFault s es (length w) (length l)) (shortestLegend (whole (slipsOf s es))) l
-  pub work-is : WorkKept (beforeC s es (length w)) w w′
+unfoldable pub shortestOf : Settings → List ℕ → List ℕ → ℕ → ℕ → Shortest
+shortestOf g s es w l = shortestBy (shortestFault g s es w l) (whole g (slipsOf s es))
+
+pub record ShortestSays (g : Settings) (s es w w′ l l′ : List ℕ) (r : Shortest) : Type 0 where
+  pub answer-is : r ≡ shortestOf g s es (length w) (length l)
+  pub legend-is : l′ ≡ written (shortestFault g s es (length w) (length l)) (shortestLegend (whole g (slipsOf s es))) l
+  pub work-is : WorkKept (beforeC g s es (length w)) w w′

@@ -1,5 +1,6 @@
 -- The demands on the definitions, proved.
 use Rattle.greedy.proofs.Demand3.{demand-3}
+use Rattle.greedy.proofs.FewerJoins.{fewer-joins}
 use Rattle.greedy.proofs.StopFree.{stop-free}
 use Rattle.greedy.proofs.Placed.{all-tried}
 use Rattle.matching.proofs.States.{few-moves}
@@ -7,4 +8,12 @@ use Rattle.shortest.proofs.Shortest.{shortest-legends}
 use Rattle.claims.specs.Claims.{Demands}
 
 pub demands : Demands
-demands = record { third = demand-3; stop-free = stop-free; all-tried = all-tried; shortest = shortest-legends; few-moves = few-moves }
+demands =
+    record {
+      third = demand-3;
+      fewer-joins = fewer-joins;
+      stop-free = stop-free;
+      all-tried = all-tried;
+      shortest = shortest-legends;
+      few-moves = few-moves;
+    }

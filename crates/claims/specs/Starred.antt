@@ -16,7 +16,7 @@ use Rattle.trays.specs.Aside.{isAside, kept}
 use Rattle.trays.specs.Answers.{pairOf}
 use Rattle.trays.specs.Faults.{trayFault}
 use Rattle.greedy.specs.Joins.{Join, join, saved}
-use Rattle.greedy.specs.Composing.{whole, joinsOf, walkOf, legendOf, placeOf, keptLetters}
+use Rattle.greedy.specs.Composing.{usual, whole, joinsOf, walkOf, legendOf, placeOf, keptLetters}
 use Rattle.matching.specs.Moves.{moves}
 use Rattle.matching.specs.Occurrences.{Occurrence, occurrence, occurrences}
 
@@ -35,7 +35,7 @@ abbrev pub line : ℕ → ℕ → ℕ → Mark → SheetLine
 line i n p m = record { number = i; letters = n; place = p; mark = m }
 
 abbrev pub lineOf : List (List ℕ) → ℕ → SheetLine
-lineOf ss i = line i (length (slip ss i)) (placeOf (whole ss) i) (elim (isAside ss (numbers ss) i) [ true ↦ S | false ↦ K ])
+lineOf ss i = line i (length (slip ss i)) (placeOf (whole usual ss) i) (elim (isAside ss (numbers ss) i) [ true ↦ S | false ↦ K ])
 
 pub record Sheet : Type 0 where
   -- slips, kept, kept letters, saved, legend length
@@ -47,13 +47,13 @@ pub record Sheet : Type 0 where
 
 abbrev pub sheetOf : List (List ℕ) → Sheet
 sheetOf ss =
-    let js = joinsOf (whole ss) in
-    let t = legendOf (whole ss) in
+    let js = joinsOf (whole usual ss) in
+    let t = legendOf (whole usual ss) in
     record {
-      header = length ss ∷ length (kept ss (numbers ss)) ∷ keptLetters (whole ss) ∷ saved js ∷ length t ∷ [];
+      header = length ss ∷ length (kept ss (numbers ss)) ∷ keptLetters (whole usual ss) ∷ saved js ∷ length t ∷ [];
       lines = map (lineOf ss) (numbers ss);
       by-plain-rule = js;
-      by-walk = walkOf (whole ss);
+      by-walk = walkOf (whole usual ss);
       legend = t;
     }
 
@@ -70,7 +70,7 @@ pub data Told : Type 0 where
 
 abbrev pub answer : List ℕ → List ℕ → Asked → Told
 answer s es composing = sheet (sheetOf (slipsOf s es))
-answer s es (overlap-of i j) = pair (pairOf s es i j)
+answer s es (overlap-of i j) = pair (pairOf 1 s es i j)
 answer s es (finding-in t) = finds (moves (slipsOf s es) (word t)) (occurrences (slipsOf s es) (word t))
 
 pub record Specimen : Type 0 where

@@ -1,12 +1,14 @@
 -- Computed specimens of the definitions on composing. The outcomes are worked out by hand from the rules' sentences and computed here
 -- from the definitions. Modules are checked in the order of their names: an edited definition is refused here first.
 --   Outcome        == all that the definitions say of one tray
---   outcomeOf ss   == the outcome of the slips ss
+--   outcomeOf g ss == the outcome of the slips ss with the settings g
 --   Specimen       == a tray, written as words, and the outcome that the rules gives
 --   starred        == the trays that the rules marks for proof
 --   telling        == trays at which a misread rule has another outcome
 --   compared       == trays, and the letters compared for each slip; texts, and those compared to find a word in them
 --   tight          == a tray and a text that holds it, at which the bound of demand 3 is met with equality
+--   set            == trays with settings at which a misread rule has another outcome
+--   least-needed   == a tray and a text at which the bound fails, since the least overlap is 2
 --   stops-needed   == a tray and a text at which the bound fails, since a slip begins with a stop
 use mathlib.Core.Path.{_≡_, refl}
 use mathlib.Core.Bool.{true, false}
@@ -15,11 +17,12 @@ use Prim.Native.Nat.{ℕ, _+_}
 use Prim.Native.String.{String}
 use Rattle.words.specs.Words.{nonEmpty}
 use Rattle.words.specs.Quoted.{word}
+use Rattle.trays.specs.declared.Settings.{Settings}
 use Rattle.trays.specs.Slips.{numbers}
 use Rattle.trays.specs.Aside.{kept}
 use Rattle.greedy.specs.Joins.{Join, join, plainFor, saved}
 use Rattle.greedy.specs.Legends.{tried}
-use Rattle.greedy.specs.Composing.{whole, joinsOf, walkOf, legendOf, placeOf, comparedOf, keptLetters}
+use Rattle.greedy.specs.Composing.{usual, whole, keptOf, joinsOf, walkOf, legendOf, placeOf, comparedOf, keptLetters}
 use Rattle.greedy.specs.Claims.{holdsAll, stopFree, bound}
 
 pub record Outcome : Type 0 where
@@ -31,16 +34,16 @@ pub record Outcome : Type 0 where
   pub saving : ℕ
   pub letters : ℕ
 
-abbrev pub outcomeOf : List (List ℕ) → Outcome
-outcomeOf ss =
+abbrev pub outcomeOf : Settings → List (List ℕ) → Outcome
+outcomeOf g ss =
     record {
       kept-slips = kept ss (numbers ss);
-      by-plain-rule = joinsOf (whole ss);
-      by-walk = walkOf (whole ss);
-      legend = legendOf (whole ss);
-      places = map (placeOf (whole ss)) (numbers ss);
-      saving = saved (joinsOf (whole ss));
-      letters = keptLetters (whole ss);
+      by-plain-rule = joinsOf (whole g ss);
+      by-walk = walkOf (whole g ss);
+      legend = legendOf (whole g ss);
+      places = map (placeOf (whole g ss)) (numbers ss);
+      saving = saved (joinsOf (whole g ss));
+      letters = keptLetters (whole g ss);
     }
 
 pub record Specimen : Type 0 where
@@ -117,20 +120,61 @@ telling =
     ∷ specimen ("CA" ∷ "AB" ∷ "ADA" ∷ []) (1 ∷ 2 ∷ 3 ∷ []) (join 1 2 1 ∷ []) "CABADA" (1 ∷ 2 ∷ 4 ∷ []) 1 7
     ∷ []
 
-abbrev pub computed : Specimen → Outcome
-computed s = outcomeOf (map word (s .tray))
+abbrev pub computed : Settings → Specimen → Outcome
+computed g s = outcomeOf g (map word (s .tray))
 
-pub starred-computed : map computed starred ≡ map (λ s. s .outcome) starred
+pub starred-computed : map (computed usual) starred ≡ map (λ s. s .outcome) starred
 unfolding starred
 starred-computed = refl
 
-pub telling-computed : map computed telling ≡ map (λ s. s .outcome) telling
+pub telling-computed : map (computed usual) telling ≡ map (λ s. s .outcome) telling
 unfolding telling
 telling-computed = refl
 
+-- each behind its least overlap
+pub set : List (ℕ × Specimen)
+set =
+    (2, specimen ("AB" ∷ "BC" ∷ []) (1 ∷ 2 ∷ []) [] "ABBC" (1 ∷ 3 ∷ []) 0 4)
+    -- as many letters as the least overlap are enough
+    ∷ (2, specimen ("ABC" ∷ "BCD" ∷ []) (1 ∷ 2 ∷ []) (join 1 2 2 ∷ []) "ABCD" (1 ∷ 2 ∷ []) 2 6)
+    ∷ (3, specimen ("ABC" ∷ "BCD" ∷ []) (1 ∷ 2 ∷ []) [] "ABCBCD" (1 ∷ 4 ∷ []) 0 6)
+    -- a stop is a letter, but stops alone do not count
+    ∷ (2, specimen ("X.A" ∷ ".AB" ∷ []) (1 ∷ 2 ∷ []) (join 1 2 2 ∷ []) "X.AB" (1 ∷ 2 ∷ []) 2 6)
+    ∷ (2, specimen ("X.." ∷ "..A" ∷ []) (1 ∷ 2 ∷ []) [] "X....A" (1 ∷ 4 ∷ []) 0 6)
+    -- without the join of one letter there are two chains
+    ∷ (
+      2,
+      specimen
+          ("AKI" ∷ "ELE" ∷ "KIKI" ∷ "KIRA" ∷ "LEA" ∷ [])
+          (1 ∷ 2 ∷ 3 ∷ 4 ∷ 5 ∷ [])
+          (join 1 3 2 ∷ join 3 4 2 ∷ join 2 5 2 ∷ [])
+          "AKIKIRAELEA"
+          (1 ∷ 8 ∷ 2 ∷ 4 ∷ 9 ∷ [])
+          6
+          17,
+    )
+    -- a slip that stands in a longer one is set aside, however short
+    ∷ (
+      3,
+      specimen
+          ("IMPCAES" ∷ "AES" ∷ "CAESAVG" ∷ "VGPIVS" ∷ "SIMP" ∷ [])
+          (1 ∷ 3 ∷ 4 ∷ 5 ∷ [])
+          (join 1 3 4 ∷ join 5 1 3 ∷ [])
+          "VGPIVSSIMPCAESAVG"
+          (8 ∷ 12 ∷ 11 ∷ 1 ∷ 7 ∷ [])
+          7
+          24,
+    )
+    ∷ (32, specimen ("AVG" ∷ "VG" ∷ "VGP" ∷ []) (1 ∷ 3 ∷ []) [] "AVGVGP" (1 ∷ 2 ∷ 4 ∷ []) 0 6)
+    ∷ []
+
+pub set-computed : map (λ s. computed (record { least = s .0 }) (s .1)) set ≡ map (λ s. s .1 .outcome) set
+unfolding set
+set-computed = refl
+
 -- kept slips 0
 abbrev pub comparedIn : List String → List ℕ
-comparedIn ws = let ss = map word ws in map (comparedOf (whole ss)) (numbers ss)
+comparedIn ws = let ss = map word ws in map (comparedOf (whole usual ss)) (numbers ss)
 
 pub compared :
     -- from the first letter on it would be 9
@@ -151,8 +195,16 @@ abbrev pub tightTray : List (List ℕ)
 tightTray = map word ("CA" ∷ "AB" ∷ "ADA" ∷ [])
 
 pub tight :
-    (holdsAll tightTray (kept tightTray (numbers tightTray)) (word "CADAB") ≡ true) × (keptLetters (whole tightTray) ≡ bound (whole tightTray) (word "CADAB"))
+    (holdsAll tightTray (kept tightTray (numbers tightTray)) (word "CADAB") ≡ true)
+    × (keptLetters (whole usual tightTray) ≡ bound (whole usual tightTray) (word "CADAB"))
 tight = (refl, refl)
+
+-- with a least overlap of 2 the text saves what the joins do not
+pub least-needed :
+    let ss = map word ("AB" ∷ "BC" ∷ []) in
+    let c = whole (record { least = 2 }) ss in
+    (stopFree ss (keptOf c) ≡ true) × (holdsAll ss (keptOf c) (word "ABC") ≡ true) × (keptLetters c ≡ 4) × (bound c (word "ABC") ≡ 3)
+least-needed = (refl, refl, refl, refl)
 
 abbrev pub stopTray : List (List ℕ)
 stopTray = map word ("A." ∷ ".B" ∷ [])
@@ -161,11 +213,11 @@ stopTray = map word ("A." ∷ ".B" ∷ [])
 pub stops-needed :
     (stopFree stopTray (numbers stopTray) ≡ false)
     × (holdsAll stopTray (kept stopTray (numbers stopTray)) (word "A.B") ≡ true)
-    × (keptLetters (whole stopTray) ≡ 4) × (bound (whole stopTray) (word "A.B") ≡ 3)
+    × (keptLetters (whole usual stopTray) ≡ 4) × (bound (whole usual stopTray) (word "A.B") ≡ 3)
 stops-needed = (refl, refl, refl, refl)
 
 -- by the rule on stops, and as if all overlaps counted
-pub stops-tell : (joinsOf (whole stopTray) ≡ []) × (plainFor nonEmpty stopTray (numbers stopTray) ≡ join 1 2 1 ∷ [])
+pub stops-tell : (joinsOf (whole usual stopTray) ≡ []) × (plainFor nonEmpty stopTray (numbers stopTray) ≡ join 1 2 1 ∷ [])
 stops-tell = (refl, refl)
 
 -- a stop at the end, or behind the first letter, is none at the beginning

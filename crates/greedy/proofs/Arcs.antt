@@ -1,6 +1,7 @@
 -- The arcs, their members and their order.
 --   Prior ss a b          == arc a is taken before arc b
 --   byStrings, byNumbers  == the order of arcs with equal overlaps; with equal overlap strings
+--   ordered counts ss K   == the arcs in their order
 --   IsArc counts ss K a   == a joins two different slips of K, with their overlap, of which the string counts
 -- The order of arcs is lexicographic: overlaps falling, overlap strings, right slips and left slips rising.
 use mathlib.Core.Path.{_≡_, sym, ap, _∙_}
@@ -10,14 +11,14 @@ use mathlib.Core.Logic.{inl, inr}
 use Prim.Native.Nat.{ℕ, _≤_}
 use native.Mathlib.Omega.{arith}
 use lib.Dec.{eqb, ltb}
-use lib.ListN.{take}
+use lib.ListN.{length, take}
 use borrow.Author.Tests.{ltb-true, eqb-false, not-true, ne-eqb}
 use Rattle.words.specs.Lists.{each, inOrder}
 use Rattle.words.specs.Words.{same, before, overlap, overlapFor}
 use Rattle.words.proofs.Tests.{both, not-both}
 use Rattle.words.proofs.Members.{In, Sorts, in-each, each-in, inOrder-sorts}
 use Rattle.words.proofs.Orders.{up, down, strings, lex-irr, lex-cases, lex-tr, lex-con}
-use Rattle.words.proofs.Overlaps.{Counts, overlapFor-yes, overlapFor-some, some-overlapFor}
+use Rattle.words.proofs.Overlaps.{Counts, overlap-length, overlapFor-yes, overlapFor-some, some-overlapFor}
 use Rattle.trays.specs.Slips.{slip}
 use Rattle.greedy.specs.Joins.{Join, join, arc, arcs, stringOf, firstArc}
 use Rattle.greedy.proofs.Takes.{some-eqb, in-cond}
@@ -25,7 +26,7 @@ use Rattle.greedy.proofs.Takes.{some-eqb, in-cond}
 abbrev pub byNumbers : Join → Join → Bool
 byNumbers a b = ltb (a .right) (b .right) || (eqb (a .right) (b .right) && ltb (a .left) (b .left))
 
-abbrev byStrings : List (List ℕ) → Join → Join → Bool
+abbrev pub byStrings : List (List ℕ) → Join → Join → Bool
 byStrings ss a b = before (stringOf ss a) (stringOf ss b) || (same (stringOf ss a) (stringOf ss b) && byNumbers a b)
 
 module _ (ss : List (List ℕ)) where
@@ -69,8 +70,14 @@ pub record IsArc (counts : List ℕ → Bool) (ss : List (List ℕ)) (K : List �
   pub counted : counts (stringOf ss a) ≡ true
 
 module _ (counts : List ℕ → Bool) (ss : List (List ℕ)) (K : List ℕ) where
-  pub arcs-sorted : Sorts (Prior ss) (arcs counts ss K) (inOrder (firstArc ss) (arcs counts ss K))
+  abbrev pub ordered : List Join
+  ordered = inOrder (firstArc ss) (arcs counts ss K)
+
+  pub arcs-sorted : Sorts (Prior ss) (arcs counts ss K) ordered
   arcs-sorted = inOrder-sorts (firstArc ss) (firstArc-tr ss) (firstArc-con ss) (arcs counts ss K)
+
+  pub string-length : (a : Join) → IsArc counts ss K a → length (stringOf ss a) ≡ a .overlap
+  string-length a h = rw (h .size) (overlap-length (slip ss (a .left)) (slip ss (a .right)))
 
   pub in-arcs : (a : Join) → In a (arcs counts ss K) → IsArc counts ss K a
   in-arcs a m =

@@ -3,6 +3,7 @@ use mathlib.Core.List.{List}
 use Prim.Native.Nat.{ℕ, _≤_, _<_}
 use lib.ListN.{length}
 use Rattle.words.proofs.Members.{In, Asc, in-upFrom, asc-upFrom}
+use Rattle.trays.specs.declared.Settings.{Settings}
 use Rattle.trays.specs.Slips.{numbers, slipsOf}
 use Rattle.trays.specs.Aside.{kept, counted}
 use Rattle.greedy.specs.Composing.{whole}
@@ -19,15 +20,17 @@ numbers-rise ss = asc-upFrom 1 (length ss)
 pub numbers-positive : (ss : List (List ℕ)) (i : ℕ) → In i (numbers ss) → 1 ≤ i
 numbers-positive ss i h = in-upFrom 1 (length ss) h .0
 
-pub composed : (ss : List (List ℕ)) → Greedy (whole ss)
-composed ss =
-    let r = kept-rep ss (numbers ss) (numbers-rise ss) (numbers-positive ss) counted in
+pub composed : (g : Settings) (ss : List (List ℕ)) → Greedy (whole g ss)
+composed g ss =
+    let counts = counted (g .least) in
+    let r = kept-rep ss (numbers ss) (numbers-rise ss) (numbers-positive ss) counts in
     record {
-      one-list = walk-is-plain ss;
-      saving = saving-of counted ss (r .1);
-      legend-holds = holds-of counted ss (r .1);
-      at-most-twice = λ free. rw (plain-free ss (kept ss (numbers ss)) free) (kept-at-most-twice ss (numbers ss) (numbers-rise ss) (numbers-positive ss));
+      one-list = walk-is-plain g ss;
+      saving = saving-of counts ss (r .1);
+      legend-holds = holds-of counts ss (r .1);
+      at-most-twice = λ one free.
+          rw (plain-free ss (g .least) one (kept ss (numbers ss)) free) (kept-at-most-twice ss (numbers ss) (numbers-rise ss) (numbers-positive ss));
     }
 
 pub demand-3 : Demand-3
-demand-3 s es accepted = composed (slipsOf s es)
+demand-3 g s es accepted = composed g (slipsOf s es)

@@ -1,6 +1,6 @@
 -- How many slips of an accepted tray are kept, with how many letters, in how many pieces, and how long the legend is.
 --   traySlips s es  == the slips of a tray, and the kept ones
---   joins-rep       == the chains of its joins
+--   joins-rep       == the chains of its joins, with any settings
 use mathlib.Core.Path.{_≡_, refl, sym, _∙_, ap}
 use mathlib.Core.Bool.{Bool, not}
 use mathlib.Core.List.{List, [], _∷_}
@@ -13,6 +13,7 @@ use Rattle.words.proofs.Tests.{by-test}
 use Rattle.words.proofs.Members.{In, in-upFrom, those-yes, those-no}
 use Rattle.words.proofs.Sums.{sum, length-sum}
 use Rattle.trays.specs.Limits.{maxSlips, maxLetters}
+use Rattle.trays.specs.declared.Settings.{Settings}
 use Rattle.trays.specs.Slips.{slipsFrom, slipsOf, slip, numbers, total}
 use Rattle.trays.specs.Aside.{isAside, kept, counted}
 use Rattle.trays.specs.Faults.{trayFault}
@@ -66,16 +67,10 @@ traySlips s es = let ss = slipsOf s es in record { ss = ss; K = kept ss (numbers
 module _ (s es : List ℕ) (acc : trayFault s es .number ≡ 0) where
   open TraySlips (traySlips s es) using (ss, K)
 
-  pub joins-rep : (Ds : List Chain) × Rep (weight counted ss) K (plainFor counted ss K) Ds
-  joins-rep = kept-rep ss (numbers ss) (numbers-rise ss) (numbers-positive ss) counted
-
   pub kept-real : (i : ℕ) → In i K → (1 ≤ i) × (i ≤ length es)
   kept-real i h =
       let r = in-upFrom 1 (length ss) (in-kept ss (numbers ss) h .0) in
       (r .0, omega (arith, r .1, slips-count s es))
-
-  pub pieces-count : length (piecesFor counted ss (numbers ss)) ≡ length K
-  pieces-count = sym (length-sum (piecesFor counted ss (numbers ss))) ∙ pieces-numbers (joins-rep .1) (λ i. 1) ∙ length-sum K
 
   pub kept-few : length K ≤ maxSlips
   kept-few = omega (
@@ -95,5 +90,15 @@ module _ (s es : List ℕ) (acc : trayFault s es .number ≡ 0) where
     accepted-tells s es acc .small,
   )
 
-  pub legend-small : length (legendOf (whole ss)) ≤ maxLetters
-  legend-small = omega (arith, kept-small, saving-of counted ss (joins-rep .1))
+  module _ (g : Settings) where
+    abbrev counts : List ℕ → Bool
+    counts = counted (g .least)
+
+    pub joins-rep : (Ds : List Chain) × Rep (weight counts ss) K (plainFor counts ss K) Ds
+    joins-rep = kept-rep ss (numbers ss) (numbers-rise ss) (numbers-positive ss) counts
+
+    pub pieces-count : length (piecesFor counts ss (numbers ss)) ≡ length K
+    pieces-count = sym (length-sum (piecesFor counts ss (numbers ss))) ∙ pieces-numbers (joins-rep .1) (λ i. 1) ∙ length-sum K
+
+    pub legend-small : length (legendOf (whole g ss)) ≤ maxLetters
+    legend-small = omega (arith, kept-small, saving-of counts ss (joins-rep .1))

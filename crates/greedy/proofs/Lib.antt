@@ -14,6 +14,7 @@ pub mod Links
 pub mod TextOrder
 pub mod Bound
 pub mod StopFree
+pub mod FewerJoins
 pub mod Demand3
 pub mod Linked
 pub mod Threads

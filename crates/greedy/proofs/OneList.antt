@@ -4,7 +4,6 @@
 --   counting counts ss K i   == the beginnings of slip i that count
 --   visited counts ss K      == the beginnings that the walk visits, in its order
 --   candidates counts ss K   == the candidates of the walk, in its order
---   ordered counts ss K      == the arcs in their order
 -- The walk takes its candidates (walk-takes). They ascend by the order of arcs, and every arc is among them. A candidate of a pair of
 -- different slips does not precede the arc of that pair, since no string that ends l and begins r is longer than the overlap; and a pair
 -- of one slip is refused from the start. So what is taken of the candidates is taken of the arcs (take-thin).
@@ -24,16 +23,17 @@ use Rattle.words.proofs.Tests.{not-both}
 use Rattle.words.proofs.Members.{In, Asc, Sorts, Less, in-each, each-in, in-those, those-in, asc-each, inOrder-sorts, asc-upFrom, in-upFrom}
 use Rattle.words.proofs.Orders.{up, down, strings, lex-first, lex-then, lex-cases}
 use Rattle.words.proofs.Strings.{begins-take, begins-prefix, endsProperly-ends}
-use Rattle.words.proofs.Overlaps.{Counts, counts-some, overlap-length, overlap-fits, overlap-met, met-overlap, suffix-counts}
+use Rattle.words.proofs.Overlaps.{Counts, counts-some, overlap-fits, overlap-met, met-overlap, suffix-counts}
+use Rattle.trays.specs.declared.Settings.{Settings}
 use Rattle.trays.specs.Slips.{slip, numbers}
 use Rattle.trays.specs.Aside.{kept, counted}
 use Rattle.trays.proofs.Kept.{kept-asc, in-kept, kept-proper}
 use Rattle.trays.proofs.Stops.{counted-counts}
-use Rattle.greedy.specs.Joins.{Join, join, arcs, stringOf, firstArc, plainFor}
+use Rattle.greedy.specs.Joins.{Join, join, stringOf, firstArc, plainFor}
 use Rattle.greedy.specs.Composing.{whole, joinsOf, walkOf}
 use Rattle.greedy.specs.Walk.{prefixesTo, sooner, walkFor}
 use Rattle.greedy.proofs.Takes.{sound-nil, refused-last, Cover, take-thin}
-use Rattle.greedy.proofs.Arcs.{Prior, firstArc-irr, firstArc-tr, firstArc-not, IsArc, arcs-sorted, in-arcs, arcs-in, byNumbers}
+use Rattle.greedy.proofs.Arcs.{Prior, firstArc-irr, firstArc-tr, firstArc-not, IsArc, ordered, arcs-sorted, string-length, in-arcs, arcs-in, byNumbers}
 use Rattle.greedy.proofs.Nodes.{sooner-tr, sooner-con, prefix-in}
 use Rattle.greedy.proofs.Visits.{tie, tiesTo, ties, Tied, in-tie, in-tiesTo, in-ties, ties-in, walk-takes}
 
@@ -93,9 +93,6 @@ module _ (counts : List ℕ → Bool) (ss : List (List ℕ)) (K : List ℕ) wher
   abbrev candidates : List Join
   candidates = each (ties ss K K) visited
 
-  abbrev ordered : List Join
-  ordered = inOrder (firstArc ss) (arcs counts ss K)
-
   visited-sorted : Sorts (Less sooner) (each counting K) visited
   visited-sorted = inOrder-sorts sooner sooner-tr sooner-con (each counting K)
 
@@ -112,7 +109,7 @@ module _ (counts : List ℕ → Bool) (ss : List (List ℕ)) (K : List ℕ) wher
         let s = slip ss (a .left) in
         let t = slip ss (a .right) in
         let x = stringOf ss a in
-        let e : length x ≡ a .overlap = rw (h .size) (overlap-length s t) in
+        let e = string-length counts ss K a h in
         let p = prefix-in (a .overlap) (length t) t (omega (arith, counts-some counts (R .rule) x (h .counted))) (omega (arith, overlap-fits s t)) in
         each-in (ties ss K K) (visited-sorted .into x (each-in counting (h .right-in) (those-in counts p (h .counted))))
         (ties-in ss K K x a (h .left-in) (h .right-in) (record {
@@ -121,7 +118,7 @@ module _ (counts : List ℕ → Bool) (ss : List (List ℕ)) (K : List ℕ) wher
           size = sym e;
         }))
 
-    candidate-covered : (c : Join) → In c candidates → Cover (Prior ss) ordered [] c
+    candidate-covered : (c : Join) → In c candidates → Cover (Prior ss) (ordered counts ss K) [] c
     candidate-covered c m =
         let (x, e, l, r, t) = in-candidates c m in
         let s = slip ss (c .left) in
@@ -143,7 +140,7 @@ module _ (counts : List ℕ → Bool) (ss : List (List ℕ)) (K : List ℕ) wher
     pub one-list : walkFor counts ss K ≡ plainFor counts ss K
     one-list =
         walk-takes ss K (R .ascending) (R .positive) visited [] sound-nil
-        ∙ take-thin (Prior ss) (λ a e. not-both (firstArc ss a a) e (firstArc-irr ss a)) (firstArc-tr ss) candidates ordered []
+        ∙ take-thin (Prior ss) (λ a e. not-both (firstArc ss a a) e (firstArc-irr ss a)) (firstArc-tr ss) candidates (ordered counts ss K) []
         (arcs-sorted counts ss K .asc) (ties-asc ss K visited (R .ascending) (visited-sorted .asc))
         (λ a m. arc-in-candidates a (in-arcs counts ss K a (arcs-sorted counts ss K .back a m))) candidate-covered
         (λ c m. R .positive (c .left) (in-candidates c m .2)) sound-nil
@@ -159,7 +156,8 @@ kept-ready counts ss M C a p =
       proper = kept-proper ss M;
     }
 
-pub walk-is-plain : (ss : List (List ℕ)) → walkOf (whole ss) ≡ joinsOf (whole ss)
-walk-is-plain ss =
-    one-list counted ss (kept ss (numbers ss))
-    (kept-ready counted ss (numbers ss) counted-counts (asc-upFrom 1 (length ss)) (λ k m. in-upFrom 1 (length ss) m .0))
+pub walk-is-plain : (g : Settings) (ss : List (List ℕ)) → walkOf (whole g ss) ≡ joinsOf (whole g ss)
+walk-is-plain g ss =
+    let counts = counted (g .least) in
+    one-list counts ss (kept ss (numbers ss))
+    (kept-ready counts ss (numbers ss) (counted-counts (g .least)) (asc-upFrom 1 (length ss)) (λ k m. in-upFrom 1 (length ss) m .0))

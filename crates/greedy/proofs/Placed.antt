@@ -7,7 +7,7 @@
 -- A slip set aside stands in a longer one, or equals a lower one; going on from there the slips grow longer or their numbers fall, so a
 -- kept slip is reached. The legend holds the kept slips, and what stands in a text fits at its lowest place.
 use mathlib.Core.Path.{_≡_, ap, subst}
-use mathlib.Core.Bool.{true, _&&_}
+use mathlib.Core.Bool.{Bool, true, _&&_}
 use mathlib.Core.Logic.{inl, inr}
 use mathlib.Core.List.{List, [], _∷_}
 use Prim.Native.Nat.{ℕ, zero, suc, _+_, _-_, _*_, _≤_, _<_}
@@ -22,6 +22,7 @@ use Rattle.words.proofs.Sums.{in-held}
 use Rattle.words.proofs.Orders.{same-is}
 use Rattle.words.proofs.Strings.{begins-refl, begins-length, begins-stands, stands-drop, stands-trans}
 use Rattle.trays.specs.Limits.{maxSlips, maxSlip, maxLetters}
+use Rattle.trays.specs.declared.Settings.{Settings}
 use Rattle.trays.specs.Slips.{slip, numbers}
 use Rattle.trays.specs.Aside.{asideFor, isAside, counted}
 use Rattle.trays.specs.Faults.{trayFault}
@@ -93,36 +94,47 @@ module _ (s es : List ℕ) (acc : trayFault s es .number ≡ 0) where
             (g, m, stands-trans (slip ss i) (slip ss k) (slip ss g) (n .holds) t)
       ]
 
-  laid : (i : ℕ) → In i K →
-      (1 ≤ placeIn ss i 1 (piecesFor counted ss (numbers ss))) ×
-      (begins (slip ss i) (drop (placeIn ss i 1 (piecesFor counted ss (numbers ss)) - 1) (legendOf (whole ss))) ≡ true)
-  laid i m = laid-at counted ss (joins-rep s es acc .1) i (in-held i K m)
+  module _ (g : Settings) where
+    abbrev counts : List ℕ → Bool
+    counts = counted (g .least)
 
-  pub legend-every : (i : ℕ) → 1 ≤ i → i ≤ length es → standsIn (slip ss i) (legendOf (whole ss)) ≡ true
-  legend-every i p l =
-      let (k, m, t) = aside-held (left i) i p l (omega arith) in
-      stands-trans (slip ss i) (slip ss k) (legendOf (whole ss)) t
-      (stands-drop (placeIn ss k 1 (piecesFor counted ss (numbers ss)) - 1) (slip ss k) (legendOf (whole ss)) (laid k m .1))
+    laid : (i : ℕ) → In i K →
+        (1 ≤ placeIn ss i 1 (piecesFor counts ss (numbers ss))) ×
+        (begins (slip ss i) (drop (placeIn ss i 1 (piecesFor counts ss (numbers ss)) - 1) (legendOf (whole g ss))) ≡ true)
+    laid i m = laid-at counts ss (joins-rep s es acc g .1) i (in-held i K m)
 
-  pub place-fits : (i : ℕ) → 1 ≤ i → i ≤ length es → placeOf (whole ss) i + length (slip ss i) ≤ suc (length (legendOf (whole ss)))
-  place-fits i p l =
-      by-test (isAside ss (numbers ss) i)
-      (λ e. rw (e, placeFor) (omega (arith, lowest-fits 1 (slip ss i) (legendOf (whole ss)) (legend-every i p l))))
-      (λ e.
-      let r = laid i (kept-in ss (numbers ss) (upFrom-in 1 (length ss) i p (omega (arith, slips-count s es))) e) in
-      let k = placeIn ss i 1 (piecesFor counted ss (numbers ss)) - 1 in
-      rw (e, placeFor) (omega (arith, r .0, accepted-spanned s es acc .some i p l, begins-length (slip ss i) (drop k (legendOf (whole ss))) (r .1), length-drop k (legendOf (whole ss)))))
+    pub legend-every : (i : ℕ) → 1 ≤ i → i ≤ length es → standsIn (slip ss i) (legendOf (whole g ss)) ≡ true
+    legend-every i p l =
+        let (k, m, t) = aside-held (left i) i p l (omega arith) in
+        stands-trans (slip ss i) (slip ss k) (legendOf (whole g ss)) t
+        (stands-drop (placeIn ss k 1 (piecesFor counts ss (numbers ss)) - 1) (slip ss k) (legendOf (whole g ss)) (laid k m .1))
 
-  pub place-most : (i : ℕ) → 1 ≤ i → i ≤ length es → placeOf (whole ss) i ≤ length (legendOf (whole ss))
-  place-most i p l = omega (arith, place-fits i p l, accepted-spanned s es acc .some i p l)
+    pub place-fits : (i : ℕ) → 1 ≤ i → i ≤ length es → placeOf (whole g ss) i + length (slip ss i) ≤ suc (length (legendOf (whole g ss)))
+    place-fits i p l =
+        by-test (isAside ss (numbers ss) i)
+        (λ e. rw (e, placeFor) (omega (arith, lowest-fits 1 (slip ss i) (legendOf (whole g ss)) (legend-every i p l))))
+        (λ e.
+        let r = laid i (kept-in ss (numbers ss) (upFrom-in 1 (length ss) i p (omega (arith, slips-count s es))) e) in
+        let k = placeIn ss i 1 (piecesFor counts ss (numbers ss)) - 1 in
+        rw (e, placeFor)
+        (omega (
+          arith,
+          r .0,
+          accepted-spanned s es acc .some i p l,
+          begins-length (slip ss i) (drop k (legendOf (whole g ss))) (r .1),
+          length-drop k (legendOf (whole g ss)),
+        )))
 
-  compared-most : (i : ℕ) → 1 ≤ i → i ≤ length es → comparedOf (whole ss) i ≤ maxSlip * maxLetters
-  compared-most i p l =
-      by-test (isAside ss (numbers ss) i)
-      (λ e.
-      rw e
-      (omega (arith, tried-most maxSlip (slip ss i) (legendOf (whole ss)) (accepted-spanned s es acc .short i p l), legend-small s es acc)))
-      (λ e. rw e (omega arith))
+    pub place-most : (i : ℕ) → 1 ≤ i → i ≤ length es → placeOf (whole g ss) i ≤ length (legendOf (whole g ss))
+    place-most i p l = omega (arith, place-fits i p l, accepted-spanned s es acc .some i p l)
+
+    compared-most : (i : ℕ) → 1 ≤ i → i ≤ length es → comparedOf (whole g ss) i ≤ maxSlip * maxLetters
+    compared-most i p l =
+        by-test (isAside ss (numbers ss) i)
+        (λ e.
+        rw e
+        (omega (arith, tried-most maxSlip (slip ss i) (legendOf (whole g ss)) (accepted-spanned s es acc .short i p l), legend-small s es acc g)))
+        (λ e. rw e (omega arith))
 
 pub all-tried : All-tried
-all-tried s es acc i p l = record { fits = omega (arith, place-fits s es acc i p l); small = omega (arith, compared-most s es acc i p l) }
+all-tried g s es acc i p l = record { fits = omega (arith, place-fits s es acc g i p l); small = omega (arith, compared-most s es acc g i p l) }

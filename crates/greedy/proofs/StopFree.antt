@@ -1,9 +1,9 @@
--- Where no kept slip begins with a stop, the rule on stops changes nothing.
+-- With a least overlap of 1, and where no kept slip begins with a stop, every overlap that has a letter counts.
 --   plain-agree     == two rules that give the slips of K the same overlaps make the same joins
 --   plain-free      == so the joins are those of all overlaps that have a letter, where no slip of K begins with a stop
 --   stopFree-at     == none of the slips begins with a stop
 --   stopFree-kept   == no slip begins with a stop: so no kept slip does
-use mathlib.Core.Path.{_≡_, sym, _∙_}
+use mathlib.Core.Path.{_≡_, refl, sym, _∙_}
 use mathlib.Core.Bool.{Bool, true, false}
 use mathlib.Core.List.{List, [], _∷_}
 use Prim.Native.Nat.{ℕ}
@@ -20,7 +20,7 @@ use Rattle.trays.proofs.Kept.{in-kept}
 use Rattle.trays.proofs.Stops.{overlapFor-free}
 use Rattle.greedy.specs.Joins.{arc, arcs, plainFor}
 use Rattle.greedy.specs.Legends.{placeFor}
-use Rattle.greedy.specs.Composing.{Composing, whole, keptOf}
+use Rattle.greedy.specs.Composing.{Composing, usual, whole, keptOf}
 use Rattle.greedy.specs.Claims.{stopFree, AllCount, Stop-free}
 
 module _ (counts counts′ : List ℕ → Bool) (ss : List (List ℕ)) (K : List ℕ)
@@ -40,14 +40,14 @@ module _ (ss : List (List ℕ)) where
   stopFree-kept M h =
       rw (any-none (λ i. begins (stop ∷ []) (slip ss i)) (kept ss M) (λ i m. stopFree-at M h i (in-kept ss M m .0)))
 
-  pub plain-free : (K : List ℕ) → stopFree ss K ≡ true → plainFor counted ss K ≡ plainFor nonEmpty ss K
-  plain-free K h =
-      plain-agree counted nonEmpty ss K
-      (λ l r m n. overlapFor-free (slip ss l) (slip ss r) (stopFree-at K h r n) ∙ sym (overlapFor-nonEmpty (slip ss l) (slip ss r)))
+  pub plain-free : (m : ℕ) → m ≡ 1 → (K : List ℕ) → stopFree ss K ≡ true → plainFor (counted m) ss K ≡ plainFor nonEmpty ss K
+  plain-free m one K h =
+      plain-agree (counted m) nonEmpty ss K
+      (λ l r i n. overlapFor-free m one (slip ss l) (slip ss r) (stopFree-at K h r n) ∙ sym (overlapFor-nonEmpty (slip ss l) (slip ss r)))
 
-pub all-count : (c : Composing) → stopFree (c .slips) (keptOf c) ≡ true → AllCount c
-all-count c h =
-    let e = plain-free (c .slips) (keptOf c) h in
+pub all-count : (c : Composing) → c .least ≡ 1 → stopFree (c .slips) (keptOf c) ≡ true → AllCount c
+all-count c one h =
+    let e = plain-free (c .slips) (c .least) one (keptOf c) h in
     record {
       joins-are = e;
       legend-is = rw e;
@@ -56,4 +56,4 @@ all-count c h =
     }
 
 pub stop-free : Stop-free
-stop-free s es accepted = all-count (whole (slipsOf s es))
+stop-free s es accepted = all-count (whole usual (slipsOf s es)) refl

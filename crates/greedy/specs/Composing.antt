@@ -1,12 +1,17 @@
--- What is composed: slips, and the numbers of those that take part. Requests widen this record, and everything that is composed is a function of it.
---   whole ss        == the slips ss, every one a member
+-- What is composed: slips, the numbers of those that take part, and the least overlap. Requests widen this record, and everything that is composed is a
+-- function of it.
+--   usual           == the settings that the programs pass: every overlap that has a letter may count
+--   whole g ss      == the slips ss, every one a member, with the settings g
+--   rule c          == which overlap strings count
 --   keptOf c        == the kept members
 --   joinsOf c       == the joins of the plain rule; walkOf c == those of the walk
 --   piecesOf c      == the pieces of the legend; legendOf c == its letters
 --   placeOf c i     == the place of slip i; comparedOf c i == the letters compared to find it
 --   keptLetters c   == the letters of the kept members, counted together
+use mathlib.Core.Bool.{Bool}
 use mathlib.Core.List.{List}
 use Prim.Native.Nat.{ℕ}
+use Rattle.trays.specs.declared.Settings.{Settings}
 use Rattle.trays.specs.Slips.{numbers, total}
 use Rattle.trays.specs.Aside.{kept, counted}
 use Rattle.greedy.specs.Joins.{Join, plainFor}
@@ -16,30 +21,37 @@ use Rattle.greedy.specs.Legends.{Piece, piecesFor, legendFor, placeFor, 
 pub record Composing : Type 0 where
   pub slips : List (List ℕ)
   pub members : List ℕ
+  pub least : ℕ
 
-abbrev pub whole : List (List ℕ) → Composing
-whole ss = record { slips = ss; members = numbers ss }
+abbrev pub usual : Settings
+usual = record { least = 1 }
+
+abbrev pub whole : Settings → List (List ℕ) → Composing
+whole g ss = record { slips = ss; members = numbers ss; least = g .least }
+
+abbrev pub rule : Composing → List ℕ → Bool
+rule c = counted (c .least)
 
 abbrev pub keptOf : Composing → List ℕ
 keptOf c = kept (c .slips) (c .members)
 
 abbrev pub joinsOf : Composing → List Join
-joinsOf c = plainFor counted (c .slips) (keptOf c)
+joinsOf c = plainFor (rule c) (c .slips) (keptOf c)
 
 abbrev pub walkOf : Composing → List Join
-walkOf c = walkFor counted (c .slips) (keptOf c)
+walkOf c = walkFor (rule c) (c .slips) (keptOf c)
 
 abbrev pub piecesOf : Composing → List Piece
-piecesOf c = piecesFor counted (c .slips) (c .members)
+piecesOf c = piecesFor (rule c) (c .slips) (c .members)
 
 abbrev pub legendOf : Composing → List ℕ
-legendOf c = legendFor counted (c .slips) (c .members)
+legendOf c = legendFor (rule c) (c .slips) (c .members)
 
 abbrev pub placeOf : Composing → ℕ → ℕ
-placeOf c i = placeFor counted (c .slips) (c .members) i
+placeOf c i = placeFor (rule c) (c .slips) (c .members) i
 
 abbrev pub comparedOf : Composing → ℕ → ℕ
-comparedOf c i = comparedFor counted (c .slips) (c .members) i
+comparedOf c i = comparedFor (rule c) (c .slips) (c .members) i
 
 -- Rules: kept letters is the sum of the kept slips' lengths.
 abbrev pub keptLetters : Composing → ℕ

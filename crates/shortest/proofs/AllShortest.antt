@@ -1,6 +1,6 @@
 -- Shortest legends worked out by hand, computed from the definitions: each tells the rule from a likely misreading.
 --   Short    == a tray, the order of its kept slips, and their legend
---   shorts   == the list
+--   shorts   == the list; set == with settings, each behind its least overlap
 use mathlib.Core.Path.{_≡_, refl}
 use mathlib.Core.Bool.{true}
 use mathlib.Core.List.{List, [], _∷_, map}
@@ -8,7 +8,8 @@ use Prim.Native.Nat.{ℕ}
 use Prim.Native.String.{String}
 use lib.ListN.{length}
 use Rattle.words.specs.Quoted.{word}
-use Rattle.greedy.specs.Composing.{whole}
+use Rattle.trays.specs.declared.Settings.{Settings}
+use Rattle.greedy.specs.Composing.{usual, whole}
 use Rattle.greedy.specs.Claims.{holdsAll}
 use Rattle.shortest.specs.Orders.{shortestOrder, shortestLegend}
 
@@ -42,13 +43,26 @@ shorts =
     ∷ short ("AKI" ∷ "ELE" ∷ "KIKI" ∷ "KIRA" ∷ "LEA" ∷ []) (2 ∷ 5 ∷ 1 ∷ 3 ∷ 4 ∷ []) "ELEAKIKIRA"
     ∷ []
 
-abbrev computed : Short → Short
-computed s =
-    let c = whole (map word (s .tray)) in
+abbrev computed : Settings → Short → Short
+computed g s =
+    let c = whole g (map word (s .tray)) in
     record { tray = s .tray; order = shortestOrder c; legend = shortestLegend c }
 
-pub shorts-computed : map computed shorts ≡ shorts
+pub shorts-computed : map (computed usual) shorts ≡ shorts
 shorts-computed = refl
+
+abbrev pub set : List (ℕ × Short)
+set =
+    (2, short ("AB" ∷ "BA" ∷ []) (1 ∷ 2 ∷ []) "ABBA")
+    ∷ (2, short ("CA" ∷ "AB" ∷ "ADA" ∷ []) (1 ∷ 2 ∷ 3 ∷ []) "CAABADA")
+    -- what is left of the overlaps decides the order too
+    ∷ (1, short ("ABY" ∷ "XAB" ∷ "BX" ∷ []) (3 ∷ 2 ∷ 1 ∷ []) "BXABY")
+    ∷ (2, short ("ABY" ∷ "XAB" ∷ "BX" ∷ []) (2 ∷ 1 ∷ 3 ∷ []) "XABYBX")
+    ∷ (3, short ("ABY" ∷ "XAB" ∷ "BX" ∷ []) (1 ∷ 2 ∷ 3 ∷ []) "ABYXABBX")
+    ∷ []
+
+pub set-computed : map (λ s. (s .0, computed (record { least = s .0 }) (s .1))) set ≡ set
+set-computed = refl
 
 -- Where a kept slip begins with a stop, a text may be shorter: A.B holds A. and .B and has three letters, their legend four.
 abbrev stops : List (List ℕ)
@@ -57,5 +71,11 @@ stops = map word ("A." ∷ ".B" ∷ [])
 pub shorter-held : holdsAll stops (1 ∷ 2 ∷ []) (word "A.B") ≡ true
 shorter-held = refl
 
-pub shorter-text : (length (word "A.B") ≡ 3) × (length (shortestLegend (whole stops)) ≡ 4)
+pub shorter-text : (length (word "A.B") ≡ 3) × (length (shortestLegend (whole usual stops)) ≡ 4)
 shorter-text = (refl, refl)
+
+-- So it may with a least overlap of 2: ABC holds AB and BC.
+pub shorter-by-one :
+    let ss = map word ("AB" ∷ "BC" ∷ []) in
+    (holdsAll ss (1 ∷ 2 ∷ []) (word "ABC") ≡ true) × (length (word "ABC") ≡ 3) × (length (shortestLegend (whole (record { least = 2 }) ss)) ≡ 4)
+shorter-by-one = (refl, refl, refl)

@@ -20,6 +20,7 @@ use Rattle.words.proofs.Tests.{tell, same-test, not-both}
 use Rattle.words.proofs.Members.{In, Asc, those-yes, those-no}
 use Rattle.words.proofs.Orders.{before-irr, before-tr}
 use Rattle.words.proofs.Sums.{sum, All, is, held, held-in, all-held, all-in, all-at}
+use Rattle.trays.specs.declared.Settings.{Settings}
 use Rattle.trays.specs.Slips.{numbers, slip, slipsOf, total}
 use Rattle.trays.specs.Aside.{kept, counted}
 use Rattle.trays.proofs.Kept.{kept-asc, kept-apart}
@@ -89,8 +90,8 @@ along-over :
 along-over counts ss K h p [] a = omega arith
 along-over counts ss K h p (x ∷ xs) a = omega (arith, h (slip ss p) x (a .0), along-over counts ss K h x xs (a .1))
 
-pub stopFree-plain : (ss : List (List ℕ)) (K : List ℕ) → stopFree ss K ≡ true → Plain counted ss K
-stopFree-plain ss K free x k m = omega (arith, overlapFor-free x (slip ss k) (stopFree-at ss K free k m))
+pub stopFree-plain : (m : ℕ) → m ≡ 1 → (ss : List (List ℕ)) (K : List ℕ) → stopFree ss K ≡ true → Plain (counted m) ss K
+stopFree-plain m one ss K free x k i = omega (arith, overlapFor-free m one x (slip ss k) (stopFree-at ss K free k i))
 
 module _ (counts : List ℕ → Bool) (ss : List (List ℕ)) where
   -- the row behind slip 0 is the whole chain, since slip 0 has no letter
@@ -186,29 +187,30 @@ times-held i (x ∷ xs) =
       | inr e ↦ rw (those-no (eqb i) x xs e, e) (omega (arith, times-held i xs))
     ]
 
-pub shortest-whole : (ss : List (List ℕ)) → Optimal (whole ss)
-shortest-whole ss =
+pub shortest-whole : (g : Settings) (ss : List (List ℕ)) → Optimal (whole g ss)
+shortest-whole g ss =
+    let counts = counted (g .least) in
     let M = numbers ss in
     let K = kept ss M in
     let asc = numbers-rise ss in
     let positive = numbers-positive ss in
-    let xs₀ = shortestFor counted ss K in
+    let xs₀ = shortestFor counts ss K in
     let counts-as : (xs : List ℕ) → ((i : ℕ) → times i xs ≡ times i K) → (x : ℕ) → held x xs ≡ held x K =
     λ xs h x. sym (times-held x xs) ∙ h x ∙ times-held x K in
     record {
-      an-order = λ i. times-held i xs₀ ∙ shortest-order counted ss K (is i) ∙ sym (times-held i K);
-      least = λ xs h. shortest-least counted ss K xs (counts-as xs h);
+      an-order = λ i. times-held i xs₀ ∙ shortest-order counts ss K (is i) ∙ sym (times-held i K);
+      least = λ xs h. shortest-least counts ss K xs (counts-as xs h);
       first = λ xs h e.
-          elim (shortest-first counted ss K (kept-asc ss M asc) xs (counts-as xs h) e) [
+          elim (shortest-first counts ss K (kept-asc ss M asc) xs (counts-as xs h) e) [
             | inl d ↦ rw d (before-irr xs)
             | inr d ↦
                 elim (tell (before xs xs₀))
                 [ inl t ↦ absurd (not-both (before xs xs) (before-tr xs xs₀ xs t d) (before-irr xs)) | inr t ↦ t ]
           ];
-      legend-holds = shortest-holds counted ss K;
-      at-most-composed = shortest-composed counted ss M asc positive;
-      no-text-shorter = λ free. kept-shortest-text counted ss M asc positive (stopFree-plain ss K free);
+      legend-holds = shortest-holds counts ss K;
+      at-most-composed = shortest-composed counts ss M asc positive;
+      no-text-shorter = λ one free. kept-shortest-text counts ss M asc positive (stopFree-plain (g .least) one ss K free);
     }
 
 pub shortest-legends : Shortest-legends
-shortest-legends s es accepted = shortest-whole (slipsOf s es)
+shortest-legends g s es accepted = shortest-whole g (slipsOf s es)

@@ -13,8 +13,7 @@ use Prim.Native.Nat.{ℕ, zero, suc}
 use lib.Dec.{eqb, ltb}
 use lib.ListN.{length}
 use Rattle.words.specs.Lists.{each}
-use Rattle.trays.specs.Aside.{counted}
-use Rattle.greedy.specs.Composing.{Composing, keptOf}
+use Rattle.greedy.specs.Composing.{Composing, keptOf, rule}
 use Rattle.greedy.specs.Orders.{orderLegend}
 
 abbrev pub without : ℕ → List ℕ → List ℕ
@@ -45,7 +44,7 @@ abbrev pub shortestFor : (List ℕ → Bool) → List (List ℕ) → List ℕ �
 shortestFor counts ss K = firstLeast (λ xs. length (orderLegend counts ss xs)) [] (orders (length K) K)
 
 abbrev pub shortestOrder : Composing → List ℕ
-shortestOrder c = shortestFor counted (c .slips) (keptOf c)
+shortestOrder c = shortestFor (rule c) (c .slips) (keptOf c)
 
 abbrev pub shortestLegend : Composing → List ℕ
-shortestLegend c = orderLegend counted (c .slips) (shortestOrder c)
+shortestLegend c = orderLegend (rule c) (c .slips) (shortestOrder c)

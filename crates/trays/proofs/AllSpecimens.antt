@@ -19,7 +19,7 @@ use Rattle.trays.specs.declared.Pair.{Pair}
 use Rattle.trays.specs.Limits.{maxSlips, maxSlip}
 use Rattle.trays.specs.Slips.{numbers}
 use Rattle.trays.specs.Aside.{kept, counted}
-use Rattle.trays.specs.Faults.{firstRow, trayRowsFor, trayFault, slipFault, pairFault, refusal}
+use Rattle.trays.specs.Faults.{firstRow, trayRowsFor, trayFault, setFault, slipFault, pairFault, refusal}
 use Rattle.trays.specs.Answers.{stretchOf, pairOf}
 
 pub record Specimen (A B : Type 0) : Type 0 where
@@ -54,8 +54,13 @@ kept-members = refl
 
 -- stops alone do not count; a string that begins or ends with a stop may
 pub counted-specimens :
-    map (λ w. counted (word w)) ("" ∷ "." ∷ ".." ∷ ".A" ∷ "A." ∷ ".A." ∷ "B" ∷ []) ≡ (false ∷ false ∷ false ∷ true ∷ true ∷ true ∷ true ∷ [])
+    map (λ w. counted 1 (word w)) ("" ∷ "." ∷ ".." ∷ ".A" ∷ "A." ∷ ".A." ∷ "B" ∷ []) ≡ (false ∷ false ∷ false ∷ true ∷ true ∷ true ∷ true ∷ [])
 counted-specimens = refl
+
+-- as many letters as the least overlap are enough, one fewer are not
+pub least-specimens :
+    map (λ w. counted 2 (word w)) ("" ∷ "B" ∷ ".." ∷ ".A" ∷ "AB" ∷ "ABC" ∷ []) ≡ (false ∷ false ∷ false ∷ true ∷ true ∷ true ∷ [])
+least-specimens = refl
 
 pub overlap-specimens : List (Specimen (String × String) ℕ)
 overlap-specimens =
@@ -67,7 +72,7 @@ overlap-specimens =
     ∷ specimen (".A..", "A..B") 3
     ∷ []
 
-pub overlaps-computed : map (λ s. overlapFor counted (word (s .given .0)) (word (s .given .1))) overlap-specimens ≡ map (λ s. s .value) overlap-specimens
+pub overlaps-computed : map (λ s. overlapFor (counted 1) (word (s .given .0)) (word (s .given .1))) overlap-specimens ≡ map (λ s. s .value) overlap-specimens
 unfolding overlap-specimens
 overlaps-computed = refl
 
@@ -133,7 +138,7 @@ abbrev pub stretchAt : ℕ → List ℕ
 stretchAt i = stretchOf (word "AVGCAESAVG") (3 ∷ 10 ∷ []) i
 
 abbrev pub pairAt : ℕ → ℕ → Pair
-pairAt i j = pairOf (word "AVGCAESAVG") (3 ∷ 10 ∷ []) i j
+pairAt i j = pairOf 1 (word "AVGCAESAVG") (3 ∷ 10 ∷ []) i j
 
 abbrev pair : ℕ → ℕ → ℕ → Pair
 pair n d k = record { number = n; detail = d; letters = k }
@@ -148,6 +153,23 @@ unfolding pairFault
 pairs = refl
 
 -- A. and .B: the overlap of stops alone is none
-pub stopped-pair : pairOf (word "A..B") (2 ∷ 4 ∷ []) 1 2 ≡ pair 0 0 0
+pub stopped-pair : pairOf 1 (word "A..B") (2 ∷ 4 ∷ []) 1 2 ≡ pair 0 0 0
 unfolding pairFault
 stopped-pair = refl
+
+-- CAESAVG, AVG share three letters: 3 is the highest setting at which these count, and 32 the highest at which the call is not turned back; 0 and 33 are
+-- turned back before anything else
+abbrev pairSet : ℕ → Pair
+pairSet m = pairOf m (word "CAESAVGAVG") (7 ∷ 10 ∷ []) 1 2
+
+pub set-pairs :
+    (map pairSet (0 ∷ 1 ∷ 3 ∷ 4 ∷ 32 ∷ 33 ∷ []) ++ map (λ m. pairOf m (word "ab") (1 ∷ []) 3 3) (0 ∷ 1 ∷ 32 ∷ 33 ∷ []))
+    ≡ (pair 21 0 0 ∷ pair 0 0 3 ∷ pair 0 0 3 ∷ pair 0 0 0 ∷ pair 0 0 0 ∷ pair 21 0 0 ∷ pair 21 0 0 ∷ pair 5 0 0 ∷ pair 5 0 0 ∷ pair 21 0 0 ∷ [])
+unfolding pairFault
+set-pairs = refl
+
+-- the settings are judged before the tray, whatever is wrong with it
+pub set-first :
+    map (λ m. setFault m (rows 201 1 .letters) (rows 201 1 .ends)) (0 ∷ 1 ∷ 33 ∷ []) ≡ (refusal 21 0 ∷ refusal 1 0 ∷ refusal 21 0 ∷ [])
+unfolding setFault
+set-first = refl

@@ -4,6 +4,7 @@ pub mod Kept
 pub mod Rising
 pub mod Rows
 pub mod Accepted
+pub mod SetTrays
 pub mod Spans
 pub mod Stored
 pub mod Stops

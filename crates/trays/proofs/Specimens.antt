@@ -6,7 +6,7 @@ use mathlib.Core.List.{List, [], _∷_, map}
 use Prim.Native.Nat.{ℕ, suc, _+_, _*_}
 use Rattle.words.specs.Lists.{those, upFrom}
 use Rattle.words.specs.Quoted.{word}
-use Rattle.trays.specs.Limits.{maxSlips, maxSlip, maxLetters, maxText, workNeed, maxFile, endsNeed, maxShortest}
+use Rattle.trays.specs.Limits.{maxSlips, maxSlip, maxLetters, maxText, workNeed, maxFile, endsNeed, maxShortest, maxLeast}
 use Rattle.trays.specs.Slips.{slipsOf, slip, numbers, isLetter, spanOf, total}
 use Rattle.trays.specs.Faults.{refusal, written, trayFault, slipFault, pairFault}
 use Rattle.trays.specs.Answers.{Stretch}
@@ -14,8 +14,8 @@ use Rattle.trays.specs.Answers.{Stretch}
 -- all but the longest slip, whose number the specimens take from its definition
 limits :
     _≡_ {A = List ℕ}
-    (maxSlips ∷ maxLetters ∷ maxText ∷ workNeed ∷ maxFile ∷ endsNeed ∷ maxShortest ∷ [])
-    (200 ∷ 2000 ∷ 2000 ∷ 32000 ∷ 16384 ∷ 1700 ∷ 10 ∷ [])
+    (maxSlips ∷ maxLetters ∷ maxText ∷ workNeed ∷ maxFile ∷ endsNeed ∷ maxShortest ∷ maxLeast ∷ [])
+    (200 ∷ 2000 ∷ 2000 ∷ 32000 ∷ 16384 ∷ 1700 ∷ 10 ∷ 32 ∷ [])
 limits = refl
 
 -- 27 signs: the full stop, and A to Z
@@ -64,7 +64,9 @@ unfolding slipFault
 requests = refl
 
 -- the first number that is no slip's; 10 before 11
-pairs : (pairFault letters bounds 6 0 ∷ pairFault letters bounds 6 6 ∷ pairFault letters bounds 5 5 ∷ []) ≡ (refusal 10 6 ∷ refusal 10 6 ∷ refusal 11 5 ∷ [])
+pairs :
+    (pairFault 1 letters bounds 6 0 ∷ pairFault 1 letters bounds 6 6 ∷ pairFault 1 letters bounds 5 5 ∷ [])
+    ≡ (refusal 10 6 ∷ refusal 10 6 ∷ refusal 11 5 ∷ [])
 unfolding pairFault
 pairs = refl
 

@@ -34,9 +34,9 @@ locatedOf s es i =
     let f = slipFault s es i in
     record { number = f .number; detail = f .detail; start = stretchStart s es i; end = stretchEnd s es i }
 
--- pair_overlap: the refusal, and the overlap's letters, 0 if refused
-abbrev pub pairOf : List ℕ → List ℕ → ℕ → ℕ → Pair
-pairOf s es i j =
-    let f = pairFault s es i j in
+-- pair_overlap, where the least overlap is m: the refusal, and the overlap's letters, 0 if refused
+abbrev pub pairOf : ℕ → List ℕ → List ℕ → ℕ → ℕ → Pair
+pairOf m s es i j =
+    let f = pairFault m s es i j in
     let ss = slipsOf s es in
-    record { number = f .number; detail = f .detail; letters = elim (f .number) [ zero ↦ overlapFor counted (slip ss i) (slip ss j) | suc n ↦ 0 ] }
+    record { number = f .number; detail = f .detail; letters = elim (f .number) [ zero ↦ overlapFor (counted m) (slip ss i) (slip ss j) | suc n ↦ 0 ] }

@@ -2,11 +2,12 @@
 --   asideFor ss i k   == slip i is set aside because of slip k
 --   isAside ss M i    == slip i is set aside because of some member
 --   kept ss M         == the members that are not set aside, ascending if M is
---   counted x         == an overlap string x counts: some letter of it is no stop
+--   notStops x        == some letter of x is no stop
+--   counted m x       == an overlap string x counts, where the least overlap is m
 use mathlib.Core.Bool.{Bool, _&&_, _||_, not}
 use mathlib.Core.List.{List}
 use Prim.Native.Nat.{ℕ}
-use lib.Dec.{eqb, ltb}
+use lib.Dec.{eqb, ltb, leb}
 use lib.ListN.{length}
 use Rattle.words.specs.Lists.{those, any}
 use Rattle.words.specs.Words.{same, standsIn}
@@ -24,7 +25,10 @@ isAside ss M i = any (asideFor ss i) M
 abbrev pub kept : List (List ℕ) → List ℕ → List ℕ
 kept ss M = those (λ i. not (isAside ss M i)) M
 
--- Rules, overlap: a string of full stops alone does not count, and the empty one has no other letter. The one rule that the pair query, the
--- joins, the walk and the legend go by.
-abbrev pub counted : List ℕ → Bool
-counted x = any (λ b. not (eqb b stop)) x
+-- Rules, overlap: a string of full stops alone does not count, and the empty one has no other letter.
+abbrev pub notStops : List ℕ → Bool
+notStops x = any (λ b. not (eqb b stop)) x
+
+-- Rules, overlap: nor does one of fewer letters than the least overlap. The one rule that the pair query, the joins, the walk and the legends go by.
+abbrev pub counted : ℕ → List ℕ → Bool
+counted m x = leb m (length x) && notStops x

@@ -1,4 +1,4 @@
--- Refusals 1 to 6, 10 and 11 with their details, as the rows of the rules' table.
+-- Refusals 21, 1 to 6, 10 and 11 with their details, as the rows of the rules' table.
 --   row n b d     == the row numbered n with detail d if its condition b holds, else no refusal
 --   firstRow rs   == the first refusal of the rows, which are taken top to bottom
 --   written f xs old == a lent buffer afterwards: xs written over its first part, unless f turns the call back
@@ -7,6 +7,8 @@
 --   trayRowsFor m == place B, tray: 1 to 6, where a slip may have m letters
 --   trayRows      == the same for the limit that holds
 --   trayFault     == the tray itself is turned back, or 0
+--   leastRow m    == place B, settings: 21
+--   setRows m     == place B, settings and tray; setFault == these turn the call back, or 0
 --   slipRow       == place B, request: 10
 --   pairRow       == place B, request: 11
 use mathlib.Core.Bool.{Bool, true, false, cond, _||_, not}
@@ -16,7 +18,7 @@ use lib.Dec.{eqb, ltb, leb}
 use lib.ListN.{length}
 use Rattle.words.specs.Lists.{any, lastOr, over}
 use Rattle.trays.specs.declared.Refusal.{Refusal}
-use Rattle.trays.specs.Limits.{maxSlips, maxSlip, maxLetters}
+use Rattle.trays.specs.Limits.{maxSlips, maxSlip, maxLetters, maxLeast}
 use Rattle.trays.specs.Slips.{slipsOf, isLetter}
 
 abbrev pub refusal : ℕ → ℕ → Refusal
@@ -76,6 +78,17 @@ trayRows s es = trayRowsFor maxSlip s es
 unfoldable pub trayFault : List ℕ → List ℕ → Refusal
 trayFault s es = firstRow (trayRows s es)
 
+-- Rules, least overlap: from 1 to its limit.
+abbrev pub leastRow : ℕ → Refusal
+leastRow m = row 21 (eqb m 0 || ltb maxLeast m) 0
+
+-- Rules, place B: the settings are checked first.
+abbrev pub setRows : ℕ → List ℕ → List ℕ → List Refusal
+setRows m s es = leastRow m ∷ trayRows s es
+
+unfoldable pub setFault : ℕ → List ℕ → List ℕ → Refusal
+setFault m s es = firstRow (setRows m s es)
+
 abbrev pub slipRow : List ℕ → ℕ → Refusal
 slipRow es i = row 10 (eqb i 0 || ltb (length es) i) i
 
@@ -85,5 +98,5 @@ slipFault s es i = firstRow (trayRows s es ++ (slipRow es i ∷ []))
 abbrev pub pairRow : ℕ → ℕ → Refusal
 pairRow i j = row 11 (eqb i j) i
 
-unfoldable pub pairFault : List ℕ → List ℕ → ℕ → ℕ → Refusal
-pairFault s es i j = firstRow (trayRows s es ++ (slipRow es i ∷ (slipRow es j ∷ (pairRow i j ∷ []))))
+unfoldable pub pairFault : ℕ → List ℕ → List ℕ → ℕ → ℕ → Refusal
+pairFault m s es i j = firstRow (setRows m s es ++ (slipRow es i ∷ (slipRow es j ∷ (pairRow i j ∷ []))))

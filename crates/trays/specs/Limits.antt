@@ -29,6 +29,10 @@ maxFile = 16384
 abbrev pub endsNeed : ℕ
 endsNeed = 1700
 
+-- 21: the least overlap is at most so many letters
+abbrev pub maxLeast : ℕ
+maxLeast = 32
+
 -- 20: the shortest legend is sought for at most so many kept slips
 abbrev pub maxShortest : ℕ
 maxShortest = 10

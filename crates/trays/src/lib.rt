@@ -1,6 +1,6 @@
-// Trays: limits, which overlap strings count, and what calls on a tray answer. The calls stand in checking, spans and asking.
+// Trays: limits, settings, the overlap strings of stops alone, and what calls on a tray answer. The calls stand in checking, spans and asking.
 ghost use mathlib.Core.Path.{_≡_};
-ghost use Rattle.trays.specs.Aside.{counted};
+ghost use Rattle.trays.specs.Aside.{notStops};
 ghost use Rattle.trays.specs.Faults.{refusal};
 
 pub const MAX_SLIPS: usize = 200;
@@ -12,9 +12,16 @@ pub const MAX_LETTERS: usize = 2000;
 // 20: the shortest legend is sought for at most so many kept slips.
 pub const MAX_SHORTEST: usize = 10;
 
+// 21: the least overlap is at most so many letters.
+pub const MAX_LEAST: u32 = 32;
+
 // The full stop, the lowest of the 27 signs.
 pub const STOP: u8 = 46;
 
+// What the person composing sets: an overlap of fewer letters than the least counts as empty.
+pub struct Settings {
+    pub least: u32,
+}
 // A refusal of the rules' table: its number and detail, or 0 and 0.
 pub struct Refusal {
     pub number: u8,
@@ -46,9 +53,10 @@ pub fn refuse(number: u8, detail: u32) -> Refusal
     Refusal { number, detail }
 }
 
-// Whether an overlap string counts: some letter of it is no stop. It looks from the last letter on for a reason of layout alone (docs/STEPS.md).
+// Whether an overlap string that is long enough counts: some letter of it is no stop. It looks from the last letter on for a reason of layout alone
+// (docs/STEPS.md).
 pub fn counts(x: &[u8]) -> bool
-    ensures { λ r. ⌜ r ≡ counted (now (x .entry)) ⌝ }
+    ensures { λ r. ⌜ r ≡ notStops (now (x .entry)) ⌝ }
 {
     let mut i = x.len();
     while 0 < i {

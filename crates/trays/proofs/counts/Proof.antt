@@ -2,14 +2,14 @@
 use mathlib.Core.Path.{_≡_}
 use Prim.Native.Nat.{_≤_}
 use lib.ListN.{length, take}
-use Rattle.trays.specs.Aside.{counted}
+use Rattle.trays.specs.Aside.{notStops}
 use Rattle.trays.proofs.CountsLoop.{counts-start, counts-here, counts-next, counts-none}
 use borrow.Author.Needs.{needs}
 use Rattle.trays.proofs.counts.Statement.{statement}
 use Rattle.trays.proofs.counts.Tie as tie
 
 abbrev Inv-loop : tie.InvT-loop
-Inv-loop x i₀ i = (i ≤ length x) × (counted x ≡ counted (take i x))
+Inv-loop x i₀ i = (i ≤ length x) × (notStops x ≡ notStops (take i x))
 
 abbrev μ-loop : tie.MeasureT-loop
 μ-loop x i₀ i = i
