@@ -30,13 +30,13 @@ prior-is : (xs : List ℕ) (m : ℕ) → (m ≡ 0 → ⊥) → priorOf xs m ≡ 
 prior-is xs zero z = absurd (z refl)
 prior-is xs (suc m) z = rw sub-one
 
-module _ (s es xs : List ℕ) (m : ℕ) (A : SlipAsks s es xs m) where
+module _ (least : ℕ) (s es xs : List ℕ) (m : ℕ) (A : SlipAsks s es xs m) where
   abbrev ss : List (List ℕ)
   ss = slipsOf s es
 
-  pub shared-none : m ≡ 0 → Shared s es xs m 0
+  pub shared-none : m ≡ 0 → Shared least s es xs m 0
   shared-none e =
-      record { is = rw (e, weight-none counted ss (getD xs 0 0)); within = omega arith; short = omega arith }
+      record { is = rw (e, weight-none (counted least) ss (getD xs 0 0)); within = omega arith; short = omega arith }
 
   module _ (z : m ≡ 0 → ⊥) (l r : ℕ) (el : l ≡ getD xs (m - 1) 0) (er : r ≡ getD xs m 0) where
     pub neighbours-real : TwoSlips s es l r
@@ -51,16 +51,16 @@ module _ (s es xs : List ℕ) (m : ℕ) (A : SlipAsks s es xs m) where
           right-most = rw er (right .1);
         }
 
-    pub shared-some : (n : ℕ) → Overlap s es l r n → Shared s es xs m n
+    pub shared-some : (n : ℕ) → Overlap least s es l r n → Shared least s es xs m n
     shared-some n O =
         record {
           is = O .is ∙ rw (el, er, prior-is xs m z);
-          within = omega (arith, O .is, overlapFor-fits counted (slip ss l) (slip ss r), ap (λ i. length (slip ss i)) er);
+          within = omega (arith, O .is, overlapFor-fits (counted least) (slip ss l) (slip ss r), ap (λ i. length (slip ss i)) er);
           short = O .short;
         }
 
 -- slip i is the m-th
-module _ (s es xs : List ℕ) (m : ℕ) (ps : List ℕ) (A : AddAsks s es xs m ps) (i : ℕ) (e : i ≡ getD xs m 0) where
+module _ (least : ℕ) (s es xs : List ℕ) (m : ℕ) (ps : List ℕ) (A : AddAsks s es xs m ps) (i : ℕ) (e : i ≡ getD xs m 0) where
   pub slip-some : 1 ≤ i
   slip-some = rw e (A .asks .real m (omega arith) .0)
 
@@ -68,18 +68,18 @@ module _ (s es xs : List ℕ) (m : ℕ) (ps : List ℕ) (A : AddAsks s es xs m p
   slip-most = rw e (A .asks .real m (omega arith) .1)
 
   -- it shares o letters, and x are its own
-  module _ (o : ℕ) (x : List ℕ) (S : Shared s es xs m o) (ex : x ≡ slip (slipsOf s es) i) where
+  module _ (o : ℕ) (x : List ℕ) (S : Shared least s es xs m o) (ex : x ≡ slip (slipsOf s es) i) where
     pub shared-fits : o ≤ length x
     shared-fits = omega (arith, S .within, ap length ex, ap (λ i. length (slip (slipsOf s es) i)) e)
 
-    pub slip-added : (ps′ : List ℕ) → PiecesBehind (piece i o ∷ []) m ps ps′ (m + 1) → Added s es xs m ps ps′ (length x - o)
+    pub slip-added : (ps′ : List ℕ) → PiecesBehind (piece i o ∷ []) m ps ps′ (m + 1) → Added least s es xs m ps ps′ (length x - o)
     slip-added ps′ P =
         let ss = slipsOf s es in
         let r = A .asks .real m (omega arith) in
         let long : length x ≡ length (slip ss (getD xs m 0)) = rw (ex, e) in
         record {
           put = rw (e, S .is) at P;
-          letters = rw (long, S .is) (sym (length-drop (weight counted ss (priorOf xs m) (getD xs m 0)) (slip ss (getD xs m 0))));
+          letters = rw (long, S .is) (sym (length-drop (weight (counted least) ss (priorOf xs m) (getD xs m 0)) (slip ss (getD xs m 0))));
           short = omega (arith, accepted-spanned s es (A .asks .tray) .short (getD xs m 0) (r .0) (r .1));
         }
 
@@ -92,23 +92,23 @@ last-prior : (xs : List ℕ) (m : ℕ) → m ≤ length xs → lastOr 0 (take m 
 last-prior xs zero h = refl
 last-prior xs (suc m) h = rw (take-suc xs m 0 h) (last-append 0 (take m xs) (getD xs m 0) [])
 
-pub record Arranging (s es xs : List ℕ) (k m : ℕ) (ps ps′ : List ℕ) (n : ℕ) : Type 0 where
+pub record Arranging (least : ℕ) (s es xs : List ℕ) (k m : ℕ) (ps ps′ : List ℕ) (n : ℕ) : Type 0 where
   pub upto : m ≤ k
   pub same : length ps′ ≡ length ps
-  pub pieces-are : piecesIn ps′ 0 m ≡ orderPieces s es (take m xs)
-  pub need-is : n ≡ length (spelled (slipsOf s es) (orderPieces s es (take m xs)))
+  pub pieces-are : piecesIn ps′ 0 m ≡ orderPieces least s es (take m xs)
+  pub need-is : n ≡ length (spelled (slipsOf s es) (orderPieces least s es (take m xs)))
   pub short : n ≤ m * maxSlip
 
-module _ (s es xs : List ℕ) where
-  chain-more : (m : ℕ) → m < length xs → orderPieces s es (take (suc m) xs) ≡ orderPieces s es (take m xs) ++ (pieceOf s es xs m ∷ [])
+module _ (least : ℕ) (s es xs : List ℕ) where
+  chain-more : (m : ℕ) → m < length xs → orderPieces least s es (take (suc m) xs) ≡ orderPieces least s es (take m xs) ++ (pieceOf least s es xs m ∷ [])
   chain-more m h =
-      rw (take-suc xs m 0 h, row-more (weight counted (slipsOf s es)) 0 (take m xs) (getD xs m 0), last-prior xs m (omega arith))
+      rw (take-suc xs m 0 h, row-more (weight (counted least) (slipsOf s es)) 0 (take m xs) (getD xs m 0), last-prior xs m (omega arith))
 
-  pub arranging-none : (k : ℕ) (ps : List ℕ) → Arranging s es xs k 0 ps ps 0
+  pub arranging-none : (k : ℕ) (ps : List ℕ) → Arranging least s es xs k 0 ps ps 0
   arranging-none k ps = record { upto = omega arith; same = refl; pieces-are = refl; need-is = refl; short = omega arith }
 
   module _ (k : ℕ) (ps₀ : List ℕ) (A : OrderAsks s es xs k ps₀) where
-    pub slip-asks : (m : ℕ) (ps : List ℕ) (n : ℕ) → Arranging s es xs k m ps₀ ps n → m < k → AddAsks s es xs m ps
+    pub slip-asks : (m : ℕ) (ps : List ℕ) (n : ℕ) → Arranging least s es xs k m ps₀ ps n → m < k → AddAsks s es xs m ps
     slip-asks m ps n G h =
         record {
           asks = record {
@@ -120,11 +120,12 @@ module _ (s es xs : List ℕ) where
           room = omega (arith, A .room, G .same);
         }
 
-    module _ (m : ℕ) (ps : List ℕ) (n : ℕ) (G : Arranging s es xs k m ps₀ ps n) (h : m < k) (ps′ : List ℕ) (r : ℕ) (D : Added s es xs m ps ps′ r) where
+    module _ (m : ℕ) (ps : List ℕ) (n : ℕ) (G : Arranging least s es xs k m ps₀ ps n) (h : m < k) (ps′ : List ℕ) (r : ℕ)
+        (D : Added least s es xs m ps ps′ r) where
       pub need-fits : n + r < 2 ^ 64
       need-fits = omega (arith, G .short, D .short, A .few)
 
-      pub arranging-more : (m′ : ℕ) → m′ ≡ m + 1 → Arranging s es xs k m′ ps₀ ps′ (n + r)
+      pub arranging-more : (m′ : ℕ) → m′ ≡ m + 1 → Arranging least s es xs k m′ ps₀ ps′ (n + r)
       arranging-more m′ e =
           let ss = slipsOf s es in
           let up : m′ ≡ suc m = e ∙ add-one m in
@@ -133,12 +134,12 @@ module _ (s es xs : List ℕ) where
             upto = omega arith;
             same = D .put .same ∙ G .same;
             pieces-are = (rw add-one at (D .put .pieces-are)) ∙ rw (G .pieces-are, chain);
-            need-is = rw (chain, each-append (added ss) (orderPieces s es (take m xs)) (pieceOf s es xs m ∷ []), length-append, append-nil)
+            need-is = rw (chain, each-append (added ss) (orderPieces least s es (take m xs)) (pieceOf least s es xs m ∷ []), length-append, append-nil)
                 (omega (arith, G .need-is, D .letters));
             short = omega (arith, G .short, D .short);
           })
 
-    pub arranging-all : (m : ℕ) (ps : List ℕ) (n : ℕ) → Arranging s es xs k m ps₀ ps n → k ≤ m → Arranged s es xs k ps₀ ps n
+    pub arranging-all : (m : ℕ) (ps : List ℕ) (n : ℕ) → Arranging least s es xs k m ps₀ ps n → k ≤ m → Arranged least s es xs k ps₀ ps n
     arranging-all m ps n G h =
         let e : m ≡ k = omega (arith, G .upto) in
         record { same = G .same; pieces-are = rw e at (G .pieces-are); need-is = rw e at (G .need-is) }

@@ -1,7 +1,7 @@
 -- The ways through the functions on one slip and on a pair.
 --   request-..  == row 10
 --   slip-..     == rows 1 to 6, then 10
---   pair-..     == rows 1 to 6, 10, 10, 11
+--   pair-..     == rows 21, 1 to 6, 10, 10, 11
 use mathlib.Core.Path.{_≡_, refl, sym, _∙_, ap, ap₂}
 use mathlib.Core.List.{List, [], _∷_}
 use Prim.Native.Nat.{ℕ, zero, suc, _-_, _^_, _≤_, _<_, _+_}
@@ -15,10 +15,11 @@ use Rattle.trays.specs.declared.Pair.{Pair}
 use Rattle.trays.specs.declared.Span.{Span}
 use Rattle.trays.specs.declared.Located.{Located}
 use Rattle.trays.specs.Slips.{spanOf}
-use Rattle.trays.specs.Faults.{refusal, accepted, orElse, firstRow, trayRows, trayFault, slipRow, slipFault, pairRow, pairFault}
+use Rattle.trays.specs.Faults.{refusal, accepted, orElse, firstRow, trayRows, trayFault, setRows, setFault, slipRow, slipFault, pairRow, pairFault}
 use Rattle.trays.specs.Answers.{stretchOf, stretchStart, stretchEnd, Stretch, locatedOf, pairOf}
-use Rattle.trays.proofs.Rows.{or-zero, or-some, or-assoc, both-silent, by-number, rows-append}
+use Rattle.trays.proofs.Rows.{or-zero, or-some, both-silent, by-number, rows-append}
 use Rattle.trays.proofs.Accepted.{accepted-tells}
+use Rattle.trays.proofs.SetTrays.{set-tells}
 use Rattle.spans.proofs.Stretches.{part-rises, part-fits, part-is}
 use Rattle.overlaps.specs.Pairs.{TwoSlips, Overlap}
 
@@ -69,36 +70,38 @@ slip-good s es i h =
     let k = row-accepts es i (both-silent (slipRow es i) accepted (g .1) .0) in
     (g .0, k .0, k .1)
 
-module _ (s es : List ℕ) (i j : ℕ) where
-  -- the rows of a pair: those of its left slip, then the right slip's, then 11
-  pair-rows : pairFault s es i j ≡ orElse (slipFault s es i) (orElse (slipRow es j) (orElse (pairRow i j) accepted))
-  unfolding trayFault slipFault pairFault
-  pair-rows =
-      rows-append (trayRows s es) (slipRow es i ∷ (slipRow es j ∷ (pairRow i j ∷ [])))
-      ∙ sym (or-assoc (trayFault s es) (slipRow es i) _)
-      ∙ ap (λ (r : Refusal). orElse r (orElse (slipRow es j) (orElse (pairRow i j) accepted)))
-      (ap (orElse (trayFault s es)) (sym (row-then es i)) ∙ sym (rows-append (trayRows s es) (slipRow es i ∷ [])))
+module _ (m : ℕ) (s es : List ℕ) (i j : ℕ) where
+  -- the rows of a pair: settings and tray, each slip's, then 11
+  pair-rows : pairFault m s es i j ≡ orElse (setFault m s es) (orElse (slipRow es i) (orElse (slipRow es j) (orElse (pairRow i j) accepted)))
+  unfolding setFault pairFault
+  pair-rows = rows-append (setRows m s es) (slipRow es i ∷ (slipRow es j ∷ (pairRow i j ∷ [])))
 
-  module _ (f : Refusal) (e : f ≡ slipFault s es i) where
-    pub pair-left : (f .number ≡ 0 → ⊥) → f ≡ pairFault s es i j
-    pair-left z = rw (pair-rows, ← e) (sym (or-some f _ (omega arith)))
+  module _ (t : Refusal) (d : t ≡ setFault m s es) where
+    pub pair-set : (t .number ≡ 0 → ⊥) → t ≡ pairFault m s es i j
+    pair-set z = rw (pair-rows, ← d) (sym (or-some t _ (omega arith)))
 
-    module _ (z : f .number ≡ 0) (g : Refusal) (h : g ≡ slipRow es j) where
-      pub pair-right : (g .number ≡ 0 → ⊥) → g ≡ pairFault s es i j
-      pair-right w = rw (pair-rows, ← e, or-zero f _ z, ← h) (sym (or-some g _ (omega arith)))
+    module _ (y : t .number ≡ 0) (f : Refusal) (e : f ≡ slipRow es i) where
+      pub pair-left : (f .number ≡ 0 → ⊥) → f ≡ pairFault m s es i j
+      pair-left z = rw (pair-rows, ← d, or-zero t _ y, ← e) (sym (or-some f _ (omega arith)))
 
-      pub pair-twice : (r : Refusal) → r ≡ refusal 11 i → g .number ≡ 0 → i ≡ j → r ≡ pairFault s es i j
-      pair-twice r p w q = p ∙ rw (pair-rows, ← e, or-zero f _ z, ← h, or-zero g _ w, eq-eqb i j q)
+      module _ (z : f .number ≡ 0) (g : Refusal) (h : g ≡ slipRow es j) where
+        pub pair-right : (g .number ≡ 0 → ⊥) → g ≡ pairFault m s es i j
+        pair-right w = rw (pair-rows, ← d, or-zero t _ y, ← e, or-zero f _ z, ← h) (sym (or-some g _ (omega arith)))
 
-      pub pair-different : (r : Refusal) → r ≡ refusal 0 0 → g .number ≡ 0 → (i ≡ j → ⊥) → r ≡ pairFault s es i j
-      pair-different r p w q = p ∙ rw (pair-rows, ← e, or-zero f _ z, ← h, or-zero g _ w, ne-eqb i j q)
+        pub pair-twice : (r : Refusal) → r ≡ refusal 11 i → g .number ≡ 0 → i ≡ j → r ≡ pairFault m s es i j
+        pair-twice r p w q = p ∙ rw (pair-rows, ← d, or-zero t _ y, ← e, or-zero f _ z, ← h, or-zero g _ w, eq-eqb i j q)
 
-  pub pair-good : pairFault s es i j .number ≡ 0 → (trayFault s es .number ≡ 0) × (1 ≤ i) × (i ≤ length es) × (1 ≤ j) × (j ≤ length es)
+        pub pair-different : (r : Refusal) → r ≡ refusal 0 0 → g .number ≡ 0 → (i ≡ j → ⊥) → r ≡ pairFault m s es i j
+        pair-different r p w q = p ∙ rw (pair-rows, ← d, or-zero t _ y, ← e, or-zero f _ z, ← h, or-zero g _ w, ne-eqb i j q)
+
+  pub pair-good : pairFault m s es i j .number ≡ 0 → (trayFault s es .number ≡ 0) × (1 ≤ i) × (i ≤ length es) × (1 ≤ j) × (j ≤ length es)
   pair-good h =
-      let a = both-silent (slipFault s es i) (orElse (slipRow es j) (orElse (pairRow i j) accepted)) (rw pair-rows at h) in
-      let l = slip-good s es i (a .0) in
-      let r = row-accepts es j (both-silent (slipRow es j) (orElse (pairRow i j) accepted) (a .1) .0) in
-      (l .0, l .1, l .2, r .0, r .1)
+      let last = orElse (slipRow es j) (orElse (pairRow i j) accepted) in
+      let a = both-silent (setFault m s es) (orElse (slipRow es i) last) (rw pair-rows at h) in
+      let b = both-silent (slipRow es i) last (a .1) in
+      let l = row-accepts es i (b .0) in
+      let r = row-accepts es j (both-silent (slipRow es j) (orElse (pairRow i j) accepted) (b .1) .0) in
+      (set-tells m s es (a .0) .tray, l .0, l .1, r .0, r .1)
 
 -- the refusal of a slip, and two places
 abbrev located : List ℕ → List ℕ → ℕ → ℕ → ℕ → Located
@@ -164,20 +167,20 @@ module _ (s es : List ℕ) (i : ℕ) (f : Refusal) (e : f ≡ slipFault s es i) 
             detail-is = rw e;
           }
 
-module _ (s es : List ℕ) (i j : ℕ) (f : Refusal) (e : f ≡ pairFault s es i j) where
-  pub pair-refused : (f .number ≡ 0 → ⊥) → _≡_ {A = Pair} (record { number = f .number; detail = f .detail; letters = 0 }) (pairOf s es i j)
+module _ (m : ℕ) (s es : List ℕ) (i j : ℕ) (f : Refusal) (e : f ≡ pairFault m s es i j) where
+  pub pair-refused : (f .number ≡ 0 → ⊥) → _≡_ {A = Pair} (record { number = f .number; detail = f .detail; letters = 0 }) (pairOf m s es i j)
   pair-refused z = rw e (ap (λ (n : ℕ). paired n) (nothing (f .number) z (ap (λ (r : Refusal). r .number) e)))
     where
       paired : ℕ → Pair
-      paired n = record { number = pairFault s es i j .number; detail = pairFault s es i j .detail; letters = n }
+      paired n = record { number = pairFault m s es i j .number; detail = pairFault m s es i j .detail; letters = n }
 
-      nothing : (n : ℕ) → (n ≡ 0 → ⊥) → n ≡ pairFault s es i j .number → 0 ≡ pairOf s es i j .letters
+      nothing : (n : ℕ) → (n ≡ 0 → ⊥) → n ≡ pairFault m s es i j .number → 0 ≡ pairOf m s es i j .letters
       nothing zero w h = absurd (w refl)
       nothing (suc n) w h = rw (sym h, pairOf)
 
   module _ (z : f .number ≡ 0) where
     pub pair-tells : (trayFault s es .number ≡ 0) × (1 ≤ i) × (i ≤ length es) × (1 ≤ j) × (j ≤ length es)
-    pair-tells = pair-good s es i j (rw e at z)
+    pair-tells = pair-good m s es i j (rw e at z)
 
     pub pair-slips : (l r : ℕ) → l ≡ i → r ≡ j → TwoSlips s es l r
     pair-slips l r el er =
@@ -190,9 +193,9 @@ module _ (s es : List ℕ) (i j : ℕ) (f : Refusal) (e : f ≡ pairFault s es i
           right-most = rw er (t .4);
         }
 
-    module _ (l r n : ℕ) (el : l ≡ i) (er : r ≡ j) (O : Overlap s es l r n) where
+    module _ (l r o n : ℕ) (el : l ≡ i) (er : r ≡ j) (O : Overlap o s es l r n) where
       pub pair-small : n < 2 ^ 32
       pair-small = omega (arith, O .short)
 
-      pub pair-found : _≡_ {A = Pair} (record { number = f .number; detail = f .detail; letters = n }) (pairOf s es i j)
-      pair-found = rw (e, O .is, el, er, rw e at z)
+      pub pair-found : o ≡ m → _≡_ {A = Pair} (record { number = f .number; detail = f .detail; letters = n }) (pairOf m s es i j)
+      pair-found eo = rw (e, O .is, el, er, eo, rw e at z)

@@ -3,6 +3,7 @@ ghost use mathlib.Core.Path.{_≡_};
 ghost use Prim.Native.Nat.{_<_};
 ghost use Rattle.trays.specs.Faults as F;
 ghost use Rattle.trays.specs.Answers.{Stretch, locatedOf, pairOf};
+use checking::check_set_tray;
 use checking::check_tray;
 use spans::slip_span;
 use trays::Located;
@@ -79,11 +80,15 @@ pub fn slip_place(letters: &[u8], ends: &[u16], slip: u32) -> Located
     }
 }
 
-// Refusals 1 to 6, 10 and 11, for a pair of slip numbers.
-fn check_pair(letters: &[u8], ends: &[u16], left: u32, right: u32) -> Refusal
-    ensures { λ r. ⌜ r ≡ F.pairFault (now (letters .entry)) (now (ends .entry)) left right ⌝ }
+// Refusals 21, 1 to 6, 10 and 11, for a pair of slip numbers.
+fn check_pair(letters: &[u8], ends: &[u16], left: u32, right: u32, least: u32) -> Refusal
+    ensures { λ r. ⌜ r ≡ F.pairFault least (now (letters .entry)) (now (ends .entry)) left right ⌝ }
 {
-    let first = check_slip(letters, ends, left);
+    let tray = check_set_tray(letters, ends, least);
+    if tray.number != 0 {
+        return tray;
+    }
+    let first = check_request(ends, left);
     if first.number != 0 {
         return first;
     }
@@ -97,11 +102,11 @@ fn check_pair(letters: &[u8], ends: &[u16], left: u32, right: u32) -> Refusal
     refuse(0, 0)
 }
 
-// The overlap of a pair of slips, by comparing their letters.
-pub fn pair_overlap(letters: &[u8], ends: &[u16], left: u32, right: u32) -> Pair
-    ensures { λ r. ⌜ r ≡ pairOf (now (letters .entry)) (now (ends .entry)) left right ⌝ }
+// The overlap of a pair of slips, by comparing their letters; 0 if it has fewer letters than the least.
+pub fn pair_overlap(letters: &[u8], ends: &[u16], left: u32, right: u32, least: u32) -> Pair
+    ensures { λ r. ⌜ r ≡ pairOf least (now (letters .entry)) (now (ends .entry)) left right ⌝ }
 {
-    let fault = check_pair(letters, ends, left, right);
+    let fault = check_pair(letters, ends, left, right, least);
     if fault.number != 0 {
         return Pair {
             number: fault.number,
@@ -109,7 +114,13 @@ pub fn pair_overlap(letters: &[u8], ends: &[u16], left: u32, right: u32) -> Pair
             letters: 0,
         };
     }
-    let shared = overlaps::slip_overlap(letters, ends, left as usize, right as usize);
+    let shared = overlaps::slip_overlap(
+        letters,
+        ends,
+        left as usize,
+        right as usize,
+        least as usize,
+    );
     Pair {
         number: fault.number,
         detail: fault.detail,

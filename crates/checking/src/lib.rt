@@ -8,6 +8,7 @@ ghost use Rattle.trays.specs.Slips as S;
 ghost use Rattle.trays.specs.Faults as F;
 ghost use Rattle.checking.specs.steps.Checks as K;
 use tables::wide;
+use trays::MAX_LEAST;
 use trays::MAX_LETTERS;
 use trays::MAX_SLIP;
 use trays::MAX_SLIPS;
@@ -132,4 +133,17 @@ pub fn check_tray(letters: &[u8], ends: &[u16]) -> Refusal
         return refuse(0, 0);
     }
     refuse(6, slip_holding(ends, bad))
+}
+
+// Refusal 21, then 1 to 6: the settings are checked before the tray.
+pub fn check_set_tray(letters: &[u8], ends: &[u16], least: u32) -> Refusal
+    ensures { λ r. ⌜ r ≡ F.setFault least (now (letters .entry)) (now (ends .entry)) ⌝ }
+{
+    if least == 0 {
+        return refuse(21, 0);
+    }
+    if MAX_LEAST < least {
+        return refuse(21, 0);
+    }
+    check_tray(letters, ends)
 }

@@ -1,19 +1,18 @@
 -- From the check of the tray to the last step.
 use mathlib.Core.Path.{_≡_, refl, sym, _∙_, ap}
-use mathlib.Core.Bool.{_||_}
 use mathlib.Core.List.{List, [], _∷_}
 use Prim.Native.Nat.{ℕ, zero, suc, _≤_, _<_}
 use native.Mathlib.Omega.{arith}
-use lib.Dec.{ltb}
 use lib.ListN.{length}
 use Rattle.tables.proofs.Tables.{cells-below}
 use Rattle.trays.specs.declared.Refusal.{Refusal}
 use Rattle.trays.specs.Limits.{workNeed}
+use Rattle.trays.specs.declared.Settings.{Settings}
 use Rattle.trays.specs.Slips.{slipsOf, numbers}
-use Rattle.trays.specs.Aside.{kept, counted}
-use Rattle.trays.specs.Faults.{refusal, row, trayFault}
-use Rattle.greedy.specs.Joins.{plainFor}
-use Rattle.greedy.specs.Composing.{whole, joinsOf, legendOf}
+use Rattle.trays.specs.Aside.{kept}
+use Rattle.trays.specs.Faults.{refusal, setFault}
+use Rattle.trays.proofs.SetTrays.{set-tells}
+use Rattle.greedy.specs.Composing.{Composing, whole}
 use Rattle.layout.specs.Layout.{KEPT}
 use Rattle.layout.specs.Tables.{members}
 use Rattle.layout.specs.Staging.{keptIn}
@@ -23,11 +22,14 @@ use Rattle.kept_lists.specs.steps.KeptLists.{ListsFilled}
 use Rattle.walking.specs.steps.Walking as W
 use Rattle.answers.specs.WorkArea.{workRow}
 use Rattle.answers.specs.declared.Composed.{Composed}
-use Rattle.answers.specs.Composing.{beforeC, composeFault, refusedBy}
-use Rattle.answers.proofs.BeforeC.{tray-first, work-first, work-same, work-kept}
-use Rattle.finishing.specs.steps.Finishing.{Joined, Finished}
+use Rattle.answers.specs.Composing.{beforeC, roomRows, composeFault, composedOf, refusedBy}
+use Rattle.answers.proofs.BeforeC.{set-first, work-first, rows-left, work-same, work-kept}
+use Rattle.finishing.specs.steps.Finishing.{Joined, SomeJoined, Finished, FinishedAs}
 use Rattle.composing.specs.steps.Composing.{Staged}
 use Rattle.finishing.proofs.FinishSteps.{turned-back}
+
+pub least-here : (g : Settings) (m : ℕ) → 1 ≤ g .least → m ≡ g .least → 1 ≤ m
+least-here g m h e = omega arith
 
 module _ (s es w : List ℕ) (a : Buildable s es w) (nodes : ℕ) (w₁ : List ℕ) (b : Built s es w nodes w₁) (k : ℕ) (w₂ : List ℕ)
     (l : ListsFilled s es (length es) nodes w₁ k w₂) where
@@ -44,15 +46,15 @@ module _ (s es w : List ℕ) (a : Buildable s es w) (nodes : ℕ) (w₁ : List �
         ends = l .ends;
       }
 
-  module _ (w₃ left right overs : List ℕ) (j : ℕ) (d : W.Walked s es k w₂ w₃ left right overs j) where
+  module _ (m : ℕ) (w₃ left right overs : List ℕ) (j : ℕ) (d : W.Walked m s es k w₂ w₃ left right overs j) where
     kept-now : keptIn w₂ k ≡ kept (slipsOf s es) (numbers (slipsOf s es))
     kept-now = l .staged .kept-are ∙ rw members-are
 
     long : length w₃ ≡ length w
     long = d .only .same ∙ l .below .same ∙ b .same
 
-    pub finish-can : Joined s es w₃ k j left right overs
-    finish-can =
+    joined-as : (g : Settings) → m ≡ g .least → Joined g s es w₃ k j left right overs
+    joined-as g e =
         record {
           walked =
               record {
@@ -60,69 +62,85 @@ module _ (s es w : List ℕ) (a : Buildable s es w) (nodes : ℕ) (w₁ : List �
                 tray = a .tray;
                 kept-is = cells-below KEPT k (d .only) (omega (arith, l .staged .few-kept)) ∙ kept-now;
                 few-kept = l .staged .few-kept;
-                joins-are = d .joins-are ∙ ap (plainFor counted (slipsOf s es)) kept-now;
+                joins-are = d .joins-are ∙ rw (kept-now, e);
                 few-joins = omega (arith, d .few, l .staged .few-kept);
               };
           neighbours = d .neighbours;
         }
 
-    pub finished-all : (w₄ l₀ l₁ : List ℕ) (jr pr : ℕ) (r : Composed) → Finished s es w₃ w₄ l₀ l₁ jr pr r → Finished s es w w₄ l₀ l₁ jr pr r
-    finished-all w₄ l₀ l₁ jr pr r f =
-        record {
-          answer-is = f .answer-is ∙ rw long;
-          legend-is = f .legend-is ∙ rw long;
-          same = f .same ∙ long;
-          joins-are = f .joins-are;
-          places-are = f .places-are;
-        }
+    pub finish-can : SomeJoined s es w₃ k j left right overs
+    finish-can = let g : Settings = record { least = m } in record { settings = g; joined = joined-as g refl }
+
+    module _ (w₄ l₀ l₁ : List ℕ) (jr pr : ℕ) (r : Composed) (f : FinishedAs s es w₃ w₄ l₀ l₁ k j left right overs jr pr r) where
+      pub finished-same : length w₄ ≡ length w
+      finished-same = f .same ∙ long
+
+      pub finished-all : (g : Settings) → m ≡ g .least → Finished (whole g (slipsOf s es)) w w₄ l₀ l₁ jr pr r
+      finished-all g e =
+          let q = f .for-any g (joined-as g e) in
+          record {
+            answer-is = q .answer-is;
+            legend-is = q .legend-is;
+            same = finished-same;
+            joins-are = q .joins-are;
+            places-are = q .places-are;
+          }
 
 -- the rows before place C
-module _ (s es w l : List ℕ) (jr pr : ℕ) (r : Composed) where
-  abbrev lastRows : List Refusal
-  lastRows =
-      let ss = slipsOf s es in
-      let need = length (legendOf (whole ss)) in
-      let joins = length (joinsOf (whole ss)) in
-      row 8 (ltb (length l) need) need ∷ (row 9 (ltb jr joins || ltb pr (length ss)) joins ∷ [])
+module _ (g : Settings) (s es w l : List ℕ) (jr pr : ℕ) (r : Composed) where
+  abbrev c : Composing
+  c = whole g (slipsOf s es)
 
-  refused-before : (f : Refusal) (n d : ℕ) → f ≡ refusal (suc n) d → composeFault s es (length w) (length l) jr pr ≡ f → r ≡ refusedBy f →
-      Staged s es w w l l jr pr r
+  refused-before : (f : Refusal) (n d : ℕ) → f ≡ refusal (suc n) d → composeFault g s es (length w) (length l) jr pr ≡ f → r ≡ refusedBy f →
+      Staged g s es w w l l jr pr r
+  unfolding composedOf
   refused-before f n d e h q =
-      let t = turned-back s es w l jr pr f n d r e h q in
+      let (answer, legend) = turned-back c l f n d e in
       record {
-        answer-is = t .answer-is;
-        legend-is = t .legend-is;
-        work-is = work-same (beforeC s es (length w)) w;
-        joins-are = t .joins-are;
-        places-are = t .places-are;
+        answer-is = q ∙ rw h answer;
+        legend-is = rw h legend;
+        work-is = work-same (beforeC g s es (length w)) w;
+        joins-are = λ z. absurd (no z);
+        places-are = λ z. absurd (no z);
       }
-
-  pub staged-tray : (f : Refusal) → f ≡ trayFault s es → (f .number ≡ 0 → ⊥) → r ≡ refusedBy (refusal (f .number) (f .detail)) → Staged s es w w l l jr pr r
-  unfolding composeFault
-  staged-tray f e z q = go (f .number) refl
     where
-      go : (n : ℕ) → f .number ≡ n → Staged s es w w l l jr pr r
+      no : r .number ≡ 0 → ⊥
+      no z = let u : r .number ≡ suc n = ap (λ (c : Composed). c .number) q ∙ ap (λ (f : Refusal). f .number) e in omega arith
+
+  pub staged-set : (f : Refusal) → f ≡ setFault (g .least) s es → (f .number ≡ 0 → ⊥) → r ≡ refusedBy (refusal (f .number) (f .detail)) →
+      Staged g s es w w l l jr pr r
+  unfolding composeFault
+  staged-set f e z q = go (f .number) refl
+    where
+      go : (n : ℕ) → f .number ≡ n → Staged g s es w w l l jr pr r
       go zero h = absurd (z h)
-      go (suc n) h = refused-before f n (f .detail) (ap (λ (m : ℕ). refusal m (f .detail)) h) (tray-first s es (workRow (length w) ∷ lastRows) f e z) q
+      go (suc n) h =
+          refused-before f n (f .detail) (ap (λ (m : ℕ). refusal m (f .detail)) h)
+          (set-first (g .least) s es (workRow (length w) ∷ roomRows c (length l) jr pr) f e z) q
 
-  module _ (f : Refusal) (e : f ≡ trayFault s es) (z : f .number ≡ 0) where
-    silent : trayFault s es .number ≡ 0
-    silent = ap (λ (g : Refusal). g .number) (sym e) ∙ z
+  module _ (f : Refusal) (e : f ≡ setFault (g .least) s es) (z : f .number ≡ 0) where
+    silent : setFault (g .least) s es .number ≡ 0
+    silent = ap (λ (f : Refusal). f .number) (sym e) ∙ z
 
-    pub staged-room : length w < workNeed → r ≡ refusedBy (refusal 7 0) → Staged s es w w l l jr pr r
+    pub staged-room : length w < workNeed → r ≡ refusedBy (refusal 7 0) → Staged g s es w w l l jr pr r
     unfolding composeFault
-    staged-room h q = refused-before (refusal 7 0) 6 0 refl (work-first s es silent (length w) lastRows h) q
+    staged-room h q = refused-before (refusal 7 0) 6 0 refl (work-first (g .least) s es silent (length w) (roomRows c (length l) jr pr) h) q
+
+    pub least-some : 1 ≤ g .least
+    least-some = set-tells (g .least) s es silent .some
 
     module _ (room : workNeed ≤ length w) where
       pub build-can : Buildable s es w
-      build-can = record { tray = silent; room = room }
+      build-can = record { tray = set-tells (g .least) s es silent .tray; room = room }
 
-      pub staged-all : (w′ l′ : List ℕ) → Finished s es w w′ l l′ jr pr r → Staged s es w w′ l l′ jr pr r
+      pub staged-all : (w′ l′ : List ℕ) → Finished c w w′ l l′ jr pr r → Staged g s es w w′ l l′ jr pr r
+      unfolding composeFault composedOf
       staged-all w′ l′ t =
+          let rows = rows-left (g .least) s es silent (length w) (roomRows c (length l) jr pr) room in
           record {
-            answer-is = t .answer-is;
-            legend-is = t .legend-is;
-            work-is = work-kept s es w w′ silent room (t .same);
+            answer-is = rw rows (t .answer-is);
+            legend-is = rw rows (t .legend-is);
+            work-is = work-kept g s es w w′ silent room (t .same);
             joins-are = t .joins-are;
             places-are = t .places-are;
           }

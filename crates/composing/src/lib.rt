@@ -1,23 +1,30 @@
 // Composing, over number slices: the walk over the automaton, the legend, joins and places.
+ghost use Prim.Native.Nat.{_≤_};
+ghost use Rattle.trays.specs.Slips.{slipsOf};
+ghost use Rattle.greedy.specs.Composing.{whole};
 ghost use Rattle.automaton.specs.steps.Built.{Buildable};
 ghost use Rattle.finishing.specs.steps.Finishing.{Finished};
 ghost use Rattle.composing.specs.steps.Composing.{Staged};
 use answers::Composed;
 use layout::WORK_NEED;
+use trays::Settings;
 
 // An accepted tray, composed in a work area that is large enough: the automaton, the lists at its nodes, the walk, and what is behind it.
 fn compose_accepted(
     letters: &[u8],
     ends: &[u16],
+    settings: Settings,
     work: &mut [u16],
     legend: &mut [u8],
     joins_room: usize,
     places_room: usize,
 ) -> Composed
+    requires { ⌜ 1 ≤ settings .least ⌝ }
     requires { ⌜ Buildable (now letters) (now ends) (now work) ⌝ }
-    ensures { λ r. ⌜ Finished (now (letters .entry)) (now (ends .entry)) (now (work .entry)) (now (work .exit))
+    ensures { λ r. ⌜ Finished (whole settings (slipsOf (now (letters .entry)) (now (ends .entry)))) (now (work .entry)) (now (work .exit))
         (now (legend .entry)) (now (legend .exit)) «joins_room» «places_room» r ⌝ }
 {
+    let least = settings.least as usize;
     let n = ends.len();
     let nodes = automaton::build(letters, ends, work);
     let k = kept_lists::fill_lists(letters, ends, work, n, nodes);
@@ -33,6 +40,7 @@ fn compose_accepted(
         n,
         k,
         nodes,
+        least,
         &mut left,
         &mut right,
         &mut overs,
@@ -58,20 +66,29 @@ fn compose_accepted(
 pub fn compose_staged(
     letters: &[u8],
     ends: &[u16],
+    settings: Settings,
     work: &mut [u16],
     legend: &mut [u8],
     joins_room: usize,
     places_room: usize,
 ) -> Composed
-    ensures { λ r. ⌜ Staged (now (letters .entry)) (now (ends .entry)) (now (work .entry)) (now (work .exit))
+    ensures { λ r. ⌜ Staged settings (now (letters .entry)) (now (ends .entry)) (now (work .entry)) (now (work .exit))
         (now (legend .entry)) (now (legend .exit)) «joins_room» «places_room» r ⌝ }
 {
-    let tray = checking::check_tray(letters, ends);
+    let tray = checking::check_set_tray(letters, ends, settings.least);
     if tray.number != 0 {
         return finishing::refused(tray.number, tray.detail);
     }
     if work.len() < WORK_NEED {
         return finishing::refused(7, 0);
     }
-    compose_accepted(letters, ends, work, legend, joins_room, places_room)
+    compose_accepted(
+        letters,
+        ends,
+        settings,
+        work,
+        legend,
+        joins_room,
+        places_room,
+    )
 }

@@ -2,7 +2,7 @@
 --   slipNumbers r  == number, detail, start, end
 --   pairNumbers r  == number, detail, letters shared
 --   readNumbers r  == number, detail, letters, slips
---   SlipExported, PairExported, ReadExported == what the calls leave
+--   SlipExported, PairExported, ReadExported == what the calls leave; m is the least overlap
 use mathlib.Core.Path.{_≡_}
 use mathlib.Core.List.{List, [], _∷_}
 use Prim.Native.Nat.{ℕ}
@@ -26,9 +26,9 @@ pub record SlipExported (s es : List ℕ) (i : ℕ) (a′ : List ℕ) : Type 0 w
   pub says : answer ≡ locatedOf s es i
   pub numbers-are : a′ ≡ slipNumbers answer
 
-pub record PairExported (s es : List ℕ) (i j : ℕ) (a′ : List ℕ) : Type 0 where
+pub record PairExported (m : ℕ) (s es : List ℕ) (i j : ℕ) (a′ : List ℕ) : Type 0 where
   pub answer : Pair
-  pub says : answer ≡ pairOf s es i j
+  pub says : answer ≡ pairOf m s es i j
   pub numbers-are : a′ ≡ pairNumbers answer
 
 pub record ReadExported (file ls ls′ es es′ a′ : List ℕ) : Type 0 where

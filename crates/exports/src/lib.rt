@@ -2,23 +2,27 @@
 ghost use Rattle.exports.specs.Numbers.{SlipExported, PairExported, ReadExported};
 ghost use Rattle.answers.specs.Exported.{ComposeExported, FindExported, ShortestExported};
 use tables::number;
+use trays::Settings;
 
-// Composing. A join is three numbers (left slip, right slip, overlap), a place three (the place, 1 if the slip is kept, and the letters compared to find it).
-// The answer's number, detail, slips, kept slips, kept letters, saved letters, legend letters and joins are eight numbers.
+// Composing, where overlaps of fewer letters than the least count as empty. A join is three numbers (left slip, right slip, overlap), a place three (the
+// place, 1 if the slip is kept, and the letters compared to find it). The answer's number, detail, slips, kept slips, kept letters, saved letters, legend
+// letters and joins are eight numbers.
 #[no_mangle]
 pub extern "C" fn kotsghane_compose(
     letters: &[u8],
     ends: &[u16],
+    least: u32,
     work: &mut [u16],
     legend: &mut [u8],
     joins: &mut [u16],
     places: &mut [u16],
     answer: &mut [u32; 8],
 )
-    ensures { λ _. ⌜ ComposeExported (now (letters .entry)) (now (ends .entry)) (now (work .entry)) (now (work .exit))
+    ensures { λ _. ⌜ ComposeExported least (now (letters .entry)) (now (ends .entry)) (now (work .entry)) (now (work .exit))
         (now (legend .entry)) (now (legend .exit)) (now (joins .entry)) (now (joins .exit)) (now (places .entry)) (now (places .exit)) (now (answer .exit)) ⌝ }
 {
-    let r = flat::compose_flat(letters, ends, work, legend, joins, places);
+    let settings = Settings { least };
+    let r = flat::compose_flat(letters, ends, settings, work, legend, joins, places);
     *answer = [
         r.number as u32,
         r.detail,
@@ -31,19 +35,22 @@ pub extern "C" fn kotsghane_compose(
     ];
 }
 
-// The shortest legend. The answer's number, detail, legend letters, count of kept slips and the ten numbers of their order are fourteen numbers.
+// The shortest legend, by the same overlaps. The answer's number, detail, legend letters, count of kept slips and the ten numbers of their order are
+// fourteen numbers.
 #[no_mangle]
 pub extern "C" fn kotsghane_shortest(
     letters: &[u8],
     ends: &[u16],
+    least: u32,
     work: &mut [u16],
     legend: &mut [u8],
     answer: &mut [u32; 14],
 )
-    ensures { λ _. ⌜ ShortestExported (now (letters .entry)) (now (ends .entry)) (now (work .entry)) (now (work .exit))
+    ensures { λ _. ⌜ ShortestExported least (now (letters .entry)) (now (ends .entry)) (now (work .entry)) (now (work .exit))
         (now (legend .entry)) (now (legend .exit)) (now (answer .exit)) ⌝ }
 {
-    let r = seeking::shortest_legend(letters, ends, work, legend);
+    let settings = Settings { least };
+    let r = seeking::shortest_legend(letters, ends, settings, work, legend);
     let order = r.order;
     *answer = [
         r.number as u32,
@@ -89,18 +96,19 @@ pub extern "C" fn kotsghane_slip(letters: &[u8], ends: &[u16], slip: u32, answer
     *answer = [r.number as u32, r.detail, r.start, r.end];
 }
 
-// The overlap of a pair of slips: number, detail and the letters shared are three numbers.
+// The overlap of a pair of slips, by the same rule: number, detail and the letters shared are three numbers.
 #[no_mangle]
 pub extern "C" fn kotsghane_pair(
     letters: &[u8],
     ends: &[u16],
     left: u32,
     right: u32,
+    least: u32,
     answer: &mut [u32; 3],
 )
-    ensures { λ _. ⌜ PairExported (now (letters .entry)) (now (ends .entry)) left right (now (answer .exit)) ⌝ }
+    ensures { λ _. ⌜ PairExported least (now (letters .entry)) (now (ends .entry)) left right (now (answer .exit)) ⌝ }
 {
-    let r = asking::pair_overlap(letters, ends, left, right);
+    let r = asking::pair_overlap(letters, ends, left, right, least);
     *answer = [r.number as u32, r.detail, r.letters];
 }
 

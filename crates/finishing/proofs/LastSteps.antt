@@ -1,6 +1,6 @@
 -- From what the walk left to the answer.
 use mathlib.Core.Path.{_≡_, refl, sym, _∙_, ap, subst}
-use mathlib.Core.Bool.{true, _||_}
+use mathlib.Core.Bool.{Bool, true, _||_}
 use mathlib.Core.List.{List, [], _∷_}
 use Prim.Native.Nat.{ℕ, suc, _+_, _*_, _^_, _≤_, _<_}
 use borrow.Author.Tests.{lt-ltb}
@@ -15,14 +15,14 @@ use Rattle.words.proofs.Sums.{All}
 use Rattle.words.proofs.Runs.{length-upFrom}
 use Rattle.tables.specs.Tables.{table}
 use Rattle.tables.proofs.Tables.{table-length, table-at, table-take, table-same}
-use Rattle.trays.specs.declared.Refusal.{Refusal}
+use Rattle.trays.specs.declared.Settings.{Settings}
 use Rattle.trays.specs.Limits.{maxSlips}
 use Rattle.trays.specs.Slips.{numbers, total}
 use Rattle.trays.specs.Aside.{counted}
-use Rattle.trays.specs.Faults.{refusal, written}
+use Rattle.trays.specs.Faults.{refusal, firstRow}
 use Rattle.trays.proofs.Accepted.{accepted-tells, slips-count}
 use Rattle.greedy.specs.Joins.{Join, rightOf, saved}
-use Rattle.greedy.specs.Composing.{whole, joinsOf, legendOf, keptLetters}
+use Rattle.greedy.specs.Composing.{Composing, whole, joinsOf, legendOf, keptLetters}
 use Rattle.greedy.specs.Legends.{pieces, piecesFor}
 use Rattle.greedy.proofs.Relabel.{plain-in}
 use Rattle.greedy.proofs.Demand3.{composed}
@@ -33,14 +33,14 @@ use Rattle.layout.specs.Layout.{KEPT, JOINS, PLACES}
 use Rattle.layout.specs.Tables.{cell}
 use Rattle.layout.specs.Staging.{keptIn, joinIn, joinsIn}
 use Rattle.answers.specs.declared.Composed.{Composed}
-use Rattle.answers.specs.Composing.{refusedBy, placeCells, flatPlaces}
+use Rattle.answers.specs.Composing.{roomRows, refusedBy, placeCells, flatPlaces}
 use Rattle.counting.specs.declared.LetterCounts.{LetterCounts}
 use Rattle.counting.specs.steps.Counting.{CountAsks, LetterCountsAre}
 use Rattle.writing.specs.steps.Writing.{piecesHere, StageAsks, PiecesStaged, WritingAsks, PlacesWritten, Written}
-use Rattle.finishing.specs.steps.Finishing.{AfterWalk, Joined, Finished, OutcomeAsks, outcomeBy}
+use Rattle.finishing.specs.steps.Finishing.{AfterWalk, Joined, SomeJoined, Finished, FinishedAs, OutcomeAsks, outcomeBy}
 use Rattle.finishing.proofs.PiecesFit.{pieces-fit, pieces-places}
 use Rattle.finishing.proofs.PlacesFlat.{places-all}
-use Rattle.finishing.proofs.FinishSteps.{legend-short, lists-short, nothing-short, answer-composed, turned-back, flat-table}
+use Rattle.finishing.proofs.FinishSteps.{legend-short, lists-short, nothing-short, composed-all, refused-finished, flat-table}
 
 right-most : (m i : ℕ) (js : List Join) → All (λ j. j .right ≤ m) js → rightOf i js ≤ m
 right-most m i [] a = omega arith
@@ -50,10 +50,17 @@ all-map : {A : Type 0} {P Q : A → Type 0} → ((x : A) → P x → Q x) → (x
 all-map f [] a = tt
 all-map f (x ∷ xs) a = (f x (a .0), all-map f xs (a .1))
 
-module _ (s es w : List ℕ) (k j : ℕ) (left right overs : List ℕ) (a : Joined s es w k j left right overs) where
+-- with the settings g
+module _ (g : Settings) (s es w : List ℕ) (k j : ℕ) (left right overs : List ℕ) (a : Joined g s es w k j left right overs) where
   open TraySlips (traySlips s es) using (ss, K)
 
-  walked : AfterWalk s es w k j
+  abbrev C : Composing
+  C = whole g ss
+
+  abbrev counts : List ℕ → Bool
+  counts = counted (g .least)
+
+  walked : AfterWalk g s es w k j
   walked = a .walked
 
   few-ends : length es ≤ maxSlips
@@ -78,10 +85,10 @@ module _ (s es w : List ℕ) (k j : ℕ) (left right overs : List ℕ) (a : Join
   small : (i : ℕ) → rightOf i (joinsIn w j) ≤ maxSlips
   small i =
       rw (walked .joins-are)
-      (right-most maxSlips i (joinsOf (whole ss))
-      (all-map (λ e h. omega (arith, few-ends, kept-real s es (walked .tray) (e .right) (h .1) .1)) (joinsOf (whole ss)) (plain-in counted ss K)))
+      (right-most maxSlips i (joinsOf C)
+      (all-map (λ e h. omega (arith, few-ends, kept-real s es (walked .tray) (e .right) (h .1) .1)) (joinsOf C) (plain-in counts ss K)))
 
-  here-pieces : piecesHere w k j left right overs ≡ piecesFor counted ss (numbers ss)
+  here-pieces : piecesHere w k j left right overs ≡ piecesFor counts ss (numbers ss)
   here-pieces =
       let n = a .neighbours in
       let t : j + 1 ≡ suc (length (joinsIn w j)) = omega (arith, count-joins) in
@@ -90,8 +97,8 @@ module _ (s es w : List ℕ) (k j : ℕ) (left right overs : List ℕ) (a : Join
       (λ i h. let r = kept-real s es (walked .tray) i h in (r .0, omega (arith, few-ends, r .1)))
       ∙ rw (walked .joins-are))
 
-  pub stage-can : StageAsks w k j left right overs
-  stage-can =
+  can-stage : StageAsks w k j left right overs
+  can-stage =
       let n = a .neighbours in
       record {
         room = walked .room;
@@ -106,15 +113,15 @@ module _ (s es w : List ℕ) (k j : ℕ) (left right overs : List ℕ) (a : Join
               over-all = n .over-all;
               right-small = λ i h. rw (n .right-is i h) (small (suc i));
               cells = rw (length-replicate {A = ℕ} (2 * maxSlips) 0) (omega arith);
-              room = rw here-pieces (omega (arith, pieces-count s es (walked .tray), kept-few s es (walked .tray)));
+              room = rw here-pieces (omega (arith, pieces-count s es (walked .tray) g, kept-few s es (walked .tray)));
             };
       }
 
-  saves : saved (joinsIn w j) + length (legendOf (whole ss)) ≡ total ss (keptIn w k)
-  saves = rw (walked .joins-are, walked .kept-is) (sym (composed ss .saving))
+  saves : saved (joinsIn w j) + length (legendOf C) ≡ total ss (keptIn w k)
+  saves = rw (walked .joins-are, walked .kept-is) (sym (composed g ss .saving))
 
-  pub count-can : CountAsks s es w k j
-  count-can =
+  can-count : CountAsks s es w k j
+  can-count =
       record {
         room = walked .room;
         tray = walked .tray;
@@ -125,20 +132,20 @@ module _ (s es w : List ℕ) (k j : ℕ) (left right overs : List ℕ) (a : Join
       }
 
   module _ (c : LetterCounts) (h : LetterCountsAre s es w k j c) where
-    letters-are : c .letters ≡ keptLetters (whole ss)
+    letters-are : c .letters ≡ keptLetters C
     letters-are = h .letters-are ∙ rw (walked .kept-is)
 
-    saved-are : c .saved ≡ saved (joinsOf (whole ss))
+    saved-are : c .saved ≡ saved (joinsOf C)
     saved-are = h .saved-are ∙ rw (walked .joins-are)
 
-    need-is : c .need ≡ length (legendOf (whole ss))
+    need-is : c .need ≡ length (legendOf C)
     need-is = omega (arith, h .need-is, h .letters-are, h .saved-are, saves)
 
-    pub small-need : c .need < 2 ^ 32
-    small-need = omega (arith, need-is, legend-small s es (walked .tray))
+    small-need : c .need < 2 ^ 32
+    small-need = omega (arith, need-is, legend-small s es (walked .tray) g)
 
-    pub outcome-can : OutcomeAsks (length es) k c j
-    outcome-can =
+    can-answer : OutcomeAsks (length es) k c j
+    can-answer =
         record {
           slips-fit = omega (arith, few-ends);
           kept-fit = omega (arith, walked .few-kept);
@@ -148,70 +155,109 @@ module _ (s es w : List ℕ) (k j : ℕ) (left right overs : List ℕ) (a : Join
           joins-fit = omega (arith, walked .few-joins);
         }
 
-    count-plain : j ≡ length (joinsOf (whole ss))
+    count-plain : j ≡ length (joinsOf C)
     count-plain = sym count-joins ∙ ap length (walked .joins-are)
 
     module _ (l : List ℕ) (jr pr : ℕ) where
-      pub last-legend : (r : Composed) → length l < c .need → r ≡ refusedBy (refusal 8 (c .need)) → Finished s es w w l l jr pr r
+      last-legend : (r : Composed) → length l < c .need → r ≡ refusedBy (refusal 8 (c .need)) → Finished C w w l l jr pr r
       last-legend r q e =
-          turned-back s es w l jr pr (refusal 8 (c .need)) 7 (c .need) r refl
-          (legend-short s es w (walked .tray) (walked .room) (length l) jr pr (omega (arith, need-is)) ∙ ap (refusal 8) (sym (need-is))) e
+          refused-finished C l w jr pr (refusal 8 (c .need)) 7 (c .need) r refl
+          (legend-short C (length l) jr pr (omega (arith, need-is)) ∙ ap (refusal 8) (sym need-is)) e
 
       module _ (q : c .need ≤ length l) where
-        short-list : (r : Composed) → ltb jr (length (joinsOf (whole ss))) || ltb pr (length ss) ≡ true → r ≡ refusedBy (refusal 9 j) →
-            Finished s es w w l l jr pr r
+        short-list : (r : Composed) → ltb jr (length (joinsOf C)) || ltb pr (length ss) ≡ true → r ≡ refusedBy (refusal 9 j) → Finished C w w l l jr pr r
         short-list r t e =
-            turned-back s es w l jr pr (refusal 9 j) 8 j r refl
-            (lists-short s es w (walked .tray) (walked .room) (length l) jr pr (omega (arith, need-is)) t ∙ ap (refusal 9) (sym count-plain)) e
+            refused-finished C l w jr pr (refusal 9 j) 8 j r refl
+            (lists-short C (length l) jr pr (omega (arith, need-is)) t ∙ ap (refusal 9) (sym count-plain)) e
 
-        pub last-joins : (r : Composed) → jr < j → r ≡ refusedBy (refusal 9 j) → Finished s es w w l l jr pr r
-        last-joins r u e = short-list r
-            (or-left (ltb jr (length (joinsOf (whole ss)))) _ (lt-ltb jr (length (joinsOf (whole ss))) (omega (arith, count-plain)))) e
+        last-joins : (r : Composed) → jr < j → r ≡ refusedBy (refusal 9 j) → Finished C w w l l jr pr r
+        last-joins r u e =
+            short-list r (or-left (ltb jr (length (joinsOf C))) _ (lt-ltb jr (length (joinsOf C)) (omega (arith, count-plain)))) e
 
-        pub last-places : (r : Composed) → pr < length es → r ≡ refusedBy (refusal 9 j) → Finished s es w w l l jr pr r
-        last-places r u e = short-list r (or-right (ltb jr (length (joinsOf (whole ss)))) _ (lt-ltb pr (length ss) (omega (arith, slips-count s es)))) e
+        last-places : (r : Composed) → pr < length es → r ≡ refusedBy (refusal 9 j) → Finished C w w l l jr pr r
+        last-places r u e = short-list r (or-right (ltb jr (length (joinsOf C))) _ (lt-ltb pr (length ss) (omega (arith, slips-count s es)))) e
 
         module _ (xs : List ℕ) (p : PiecesStaged w k j left right overs xs) where
-          pieces-are : piecesIn xs 0 k ≡ piecesFor counted ss (numbers ss)
+          pieces-are : piecesIn xs 0 k ≡ piecesFor counts ss (numbers ss)
           pieces-are =
-              subst (λ (n : ℕ). piecesIn xs 0 n ≡ piecesFor counted ss (numbers ss)) (pieces-count s es (walked .tray) ∙ sym count-kept)
+              subst (λ (n : ℕ). piecesIn xs 0 n ≡ piecesFor counts ss (numbers ss)) (pieces-count s es (walked .tray) g ∙ sym count-kept)
               (rw here-pieces at (p .are))
 
-          pub write-can : WritingAsks s es w l xs k (c .need)
-          write-can =
+          can-write : WritingAsks s es w l xs k (c .need)
+          can-write =
               record {
                 room = walked .room;
                 pieces =
                     record {
                       tray = walked .tray;
                       pairs = omega (arith, p .size, walked .few-kept);
-                      fits = rw pieces-are (pieces-fit s es (walked .tray));
-                      places = rw pieces-are (pieces-places s es (walked .tray));
-                      short = rw pieces-are (omega (arith, legend-small s es (walked .tray)));
+                      fits = rw pieces-are (pieces-fit g s es (walked .tray));
+                      places = rw pieces-are (pieces-places g s es (walked .tray));
+                      short = rw pieces-are (omega (arith, legend-small s es (walked .tray) g));
                     };
                 need-is = need-is ∙ rw pieces-are;
                 space = q;
               }
 
-          all-places : (w′ : List ℕ) → PlacesWritten s es w w′ xs k → table w′ PLACES (placeCells * length es) ≡ flatPlaces (whole ss)
+          all-places : (w′ : List ℕ) → PlacesWritten s es w w′ xs k → table w′ PLACES (placeCells * length es) ≡ flatPlaces C
           all-places w′ d =
               sym (table-take w′ PLACES (placeCells * length es) (placeCells * maxSlips) (omega (arith, few-ends)))
-              ∙ rw (d .places-are, pieces-are, ← (slips-count s es)) (places-all s es (walked .tray))
+              ∙ rw (d .places-are, pieces-are, ← (slips-count s es)) (places-all g s es (walked .tray))
 
-          pub last-good : (w′ l′ : List ℕ) (r : Composed) → j ≤ jr → length es ≤ pr → Written s es w w′ l l′ xs k → r ≡ outcomeBy (length es) k c j →
-              Finished s es w w′ l l′ jr pr r
+          last-good : (w′ l′ : List ℕ) (r : Composed) → j ≤ jr → length es ≤ pr → Written s es w w′ l l′ xs k → r ≡ outcomeBy (length es) k c j →
+              Finished C w w′ l l′ jr pr r
           last-good w′ l′ r u v d o =
-              let f = nothing-short s es w (walked .tray) (walked .room) (length l) jr pr (omega (arith, need-is)) (omega (arith, count-plain))
-              (omega (arith, slips-count s es)) in
+              let f = nothing-short C (length l) jr pr (omega (arith, need-is)) (omega (arith, count-plain)) (omega (arith, slips-count s es)) in
+              let (answer, legend) = composed-all C l (firstRow (roomRows C (length l) jr pr)) f in
               let b = d .placed .below in
               record {
-                answer-is = o ∙ rw (← (slips-count s es), count-kept, letters-are, saved-are, need-is, count-plain)
-                    (sym (answer-composed s es (length w) (length l) jr pr f));
-                legend-is = d .legend-is ∙ rw pieces-are (sym (ap (λ (g : Refusal). written g (legendOf (whole ss)) l) f));
+                answer-is = o ∙ rw (← (slips-count s es), count-kept, letters-are, saved-are, need-is, count-plain) answer;
+                legend-is = d .legend-is ∙ rw pieces-are legend;
                 same = b .same;
                 joins-are = λ z. rw o
                     (table-same w w′ JOINS (3 * j) (b .same) (λ i o. b .cells (JOINS + i) (omega (arith, walked .few-joins)))
                     ∙ flat-table w (walked .room) j (walked .few-joins)
                     ∙ rw (walked .joins-are));
                 places-are = λ z. rw o (all-places w′ (d .placed));
+              }
+
+-- with some settings what is done can be done; with any that made the joins it is right
+module _ (s es w : List ℕ) (k j : ℕ) (left right overs : List ℕ) (A : SomeJoined s es w k j left right overs) where
+  pub count-can : CountAsks s es w k j
+  count-can = can-count (A .settings) s es w k j left right overs (A .joined)
+
+  pub joins-fit : j < 2 ^ 32
+  joins-fit = omega (arith, A .joined .walked .few-joins)
+
+  pub stage-can : StageAsks w k j left right overs
+  stage-can = can-stage (A .settings) s es w k j left right overs (A .joined)
+
+  module _ (c : LetterCounts) (h : LetterCountsAre s es w k j c) where
+    pub need-fits : c .need < 2 ^ 32
+    need-fits = small-need (A .settings) s es w k j left right overs (A .joined) c h
+
+    pub outcome-can : OutcomeAsks (length es) k c j
+    outcome-can = can-answer (A .settings) s es w k j left right overs (A .joined) c h
+
+    module _ (l : List ℕ) (jr pr : ℕ) where
+      pub ends-legend : (r : Composed) → length l < c .need → r ≡ refusedBy (refusal 8 (c .need)) → FinishedAs s es w w l l k j left right overs jr pr r
+      ends-legend r q e = record { same = refl; for-any = λ g a. last-legend g s es w k j left right overs a c h l jr pr r q e }
+
+      module _ (q : c .need ≤ length l) where
+        pub ends-joins : (r : Composed) → jr < j → r ≡ refusedBy (refusal 9 j) → FinishedAs s es w w l l k j left right overs jr pr r
+        ends-joins r u e = record { same = refl; for-any = λ g a. last-joins g s es w k j left right overs a c h l jr pr q r u e }
+
+        pub ends-places : (r : Composed) → pr < length es → r ≡ refusedBy (refusal 9 j) → FinishedAs s es w w l l k j left right overs jr pr r
+        ends-places r u e = record { same = refl; for-any = λ g a. last-places g s es w k j left right overs a c h l jr pr q r u e }
+
+        module _ (xs : List ℕ) (p : PiecesStaged w k j left right overs xs) where
+          pub write-can : WritingAsks s es w l xs k (c .need)
+          write-can = can-write (A .settings) s es w k j left right overs (A .joined) c h l jr pr q xs p
+
+          pub ends-good : (w′ l′ : List ℕ) (r : Composed) → j ≤ jr → length es ≤ pr → Written s es w w′ l l′ xs k → r ≡ outcomeBy (length es) k c j →
+              FinishedAs s es w w′ l l′ k j left right overs jr pr r
+          ends-good w′ l′ r u v d o =
+              record {
+                same = d .placed .below .same;
+                for-any = λ g a. last-good g s es w k j left right overs a c h l jr pr q xs p w′ l′ r u v d o;
               }

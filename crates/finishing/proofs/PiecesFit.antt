@@ -1,7 +1,7 @@
 -- The pieces of a tray's own joins: they name each kept slip once, fit the tray and the legend, and can be placed.
 --   K, js, ps  == the kept slips of the tray, its joins and its pieces
 use mathlib.Core.Path.{_≡_, refl, _∙_}
-use mathlib.Core.Bool.{true, false, not}
+use mathlib.Core.Bool.{Bool, true, false, not}
 use mathlib.Core.List.{List, [], _∷_}
 use Prim.Native.Nat.{ℕ, zero, suc, _+_, _-_, _≤_, _<_}
 use borrow.Author.Tests.{eqb-true, eq-eqb}
@@ -11,6 +11,7 @@ use lib.ListN.{length, length-append, length-drop}
 use Rattle.words.proofs.Tests.{by-test, not-both}
 use Rattle.words.proofs.Members.{In, upFrom-in}
 use Rattle.words.proofs.Sums.{sum, All, is, held, in-held, held-in, asc-once}
+use Rattle.trays.specs.declared.Settings.{Settings}
 use Rattle.trays.specs.Slips.{slipsOf, slip, numbers}
 use Rattle.trays.specs.Aside.{isAside, counted}
 use Rattle.trays.specs.Faults.{trayFault}
@@ -79,14 +80,17 @@ order-places s es (p ∷ ps) x here h b o a =
       order-places s es ps y (here + length (added ss p)) (omega (arith, v .1)) (omega arith) (o .1) (a .1),
     )
 
-module _ (s es : List ℕ) (acc : trayFault s es .number ≡ 0) where
+module _ (g : Settings) (s es : List ℕ) (acc : trayFault s es .number ≡ 0) where
   open TraySlips (traySlips s es) using (ss, K)
 
+  abbrev counts : List ℕ → Bool
+  counts = counted (g .least)
+
   abbrev ps : List Piece
-  ps = piecesFor counted ss (numbers ss)
+  ps = piecesFor counts ss (numbers ss)
 
   times-held : (i : ℕ) → times i ps ≡ held i K
-  times-held i = pieces-numbers (joins-rep s es acc .1) (is i)
+  times-held i = pieces-numbers (joins-rep s es acc g .1) (is i)
 
   real : (i : ℕ) → 1 ≤ times i ps → (1 ≤ i) × (i ≤ length es)
   real i h = kept-real s es acc i (held-in i K (omega (arith, times-held i)))
@@ -115,7 +119,7 @@ module _ (s es : List ℕ) (acc : trayFault s es .number ≡ 0) where
   in-tray = all-times (λ i. (1 ≤ i) × (i ≤ length es)) ps real
 
   pub pieces-fit : All (PieceFits s es) ps
-  pieces-fit = order-fits s es ps [] (legend-order counted ss (joins-rep s es acc .1)) in-tray
+  pieces-fit = order-fits s es ps [] (legend-order counts ss (joins-rep s es acc g .1)) in-tray
 
   pub pieces-places : Placeable s es 1 ps
-  pieces-places = order-places s es ps [] 1 (omega arith) (omega (arith, legend-small s es acc)) (legend-order counted ss (joins-rep s es acc .1)) in-tray
+  pieces-places = order-places s es ps [] 1 (omega arith) (omega (arith, legend-small s es acc g)) (legend-order counts ss (joins-rep s es acc g .1)) in-tray

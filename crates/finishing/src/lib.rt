@@ -2,7 +2,7 @@
 ghost use mathlib.Core.Path.{_≡_};
 ghost use Rattle.trays.specs.Faults.{refusal};
 ghost use Rattle.answers.specs.Composing.{refusedBy};
-ghost use Rattle.finishing.specs.steps.Finishing.{Joined, Finished, OutcomeAsks, outcomeBy};
+ghost use Rattle.finishing.specs.steps.Finishing.{SomeJoined, FinishedAs, OutcomeAsks, outcomeBy};
 use answers::Composed;
 use counting::LetterCounts;
 
@@ -53,9 +53,9 @@ pub fn finish(
     joins_room: usize,
     places_room: usize,
 ) -> Composed
-    requires { ⌜ Joined (now letters) (now ends) (now work) k joins (now left) (now right) (now overs) ⌝ }
-    ensures { λ r. ⌜ Finished (now (letters .entry)) (now (ends .entry)) (now (work .entry)) (now (work .exit))
-        (now (legend .entry)) (now (legend .exit)) «joins_room» «places_room» r ⌝ }
+    requires { ⌜ SomeJoined (now letters) (now ends) (now work) k joins (now left) (now right) (now overs) ⌝ }
+    ensures { λ r. ⌜ FinishedAs (now (letters .entry)) (now (ends .entry)) (now (work .entry)) (now (work .exit))
+        (now (legend .entry)) (now (legend .exit)) k joins (now (left .entry)) (now (right .entry)) (now (overs .entry)) «joins_room» «places_room» r ⌝ }
 {
     let counts = counting::count_letters(letters, ends, work, k, joins);
     let need = counts.need;

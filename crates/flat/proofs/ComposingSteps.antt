@@ -10,6 +10,7 @@ use native.Mathlib.Omega.{arith}
 use lib.Dec.{leb}
 use lib.ListN.{length}
 use Rattle.words.specs.Lists.{over}
+use Rattle.trays.specs.declared.Settings.{Settings}
 use Rattle.tables.specs.Tables.{table}
 use Rattle.layout.specs.Layout.{JOINS, PLACES}
 use Rattle.answers.specs.declared.Composed.{Composed}
@@ -19,17 +20,17 @@ use Rattle.answers.specs.Composing.{placeCells}
 use Rattle.answers.specs.Flat.{ComposeFlat}
 use Rattle.copying.specs.Copying.{CanCopy}
 
-module _ (s es w w₁ l l′ : List ℕ) (jr pr : ℕ) (r : Composed) (st : Staged s es w w₁ l l′ jr pr r) where
+module _ (g : Settings) (s es w w₁ l l′ : List ℕ) (jr pr : ℕ) (r : Composed) (st : Staged g s es w w₁ l l′ jr pr r) where
   pub joins-can : (m : ℕ) (j : List ℕ) → m ≡ r .joins → jr ≡ length j / 3 → CanCopy w₁ JOINS (3 * m) j
   joins-can m j e q =
-      staged-tells s es w (length l) jr pr r (st .answer-is)
-      (λ a. let d = staged-room s es w w₁ l l′ jr pr r st a in record { there = omega (arith, d); room = omega (arith, a .joins-fit) })
+      staged-tells g s es w (length l) jr pr r (st .answer-is)
+      (λ a. let d = staged-room g s es w w₁ l l′ jr pr r st a in record { there = omega (arith, d); room = omega (arith, a .joins-fit) })
       (λ b. let z = ap (λ (c : Composed). c .joins) (b .answer-is) in record { there = omega arith; room = omega arith })
 
   -- from any cell up to where the places stand: that it is the right one is for `flat-says`
   pub places-can : (base m : ℕ) (p : List ℕ) → leb base PLACES ≡ true → m ≡ r .slips → pr ≡ length p / placeCells → CanCopy w₁ base (placeCells * m) p
   places-can base m p h e q =
-      staged-tells s es w (length l) jr pr r (st .answer-is)
+      staged-tells g s es w (length l) jr pr r (st .answer-is)
       (λ a.
       let near : base ≤ PLACES = leb-true base PLACES h in
       record { there = omega (arith, a .room, a .few-slips, st .work-is .same); room = omega (arith, a .places-fit) })
@@ -37,10 +38,10 @@ module _ (s es w w₁ l l′ : List ℕ) (jr pr : ℕ) (r : Composed) (st : Stag
 
   pub flat-says :
       (j j′ p p′ : List ℕ) (m n : ℕ) → jr ≡ length j / 3 → pr ≡ length p / placeCells → m ≡ r .joins → n ≡ r .slips
-      → j′ ≡ over (table w₁ JOINS (3 * m)) j → p′ ≡ over (table w₁ PLACES (placeCells * n)) p → ComposeFlat s es w w₁ l l′ j j′ p p′ r
+      → j′ ≡ over (table w₁ JOINS (3 * m)) j → p′ ≡ over (table w₁ PLACES (placeCells * n)) p → ComposeFlat g s es w w₁ l l′ j j′ p p′ r
   unfolding table
   flat-says j j′ p p′ m n ej ep em en hj hp =
-      staged-tells s es w (length l) jr pr r (st .answer-is)
+      staged-tells g s es w (length l) jr pr r (st .answer-is)
       (λ a.
       let z : r .number ≡ 0 = ap (λ (c : Composed). c .number) (a .answer-is) in
       let q = rw (ej, ep) at (a .silent) in

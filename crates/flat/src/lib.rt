@@ -1,5 +1,4 @@
 // Composing and finding over slices of numbers: three numbers a join, `PLACE_CELLS` a place, two an occurrence.
-ghost use mathlib.Core.Path.{_≡_};
 ghost use Rattle.answers.specs.Flat.{ComposeFlat};
 ghost use Prim.Native.Nat.{_+_, _<_};
 ghost use Rattle.answers.specs.Finding as F;
@@ -11,23 +10,33 @@ use layout::JOINS;
 use layout::PLACES;
 use tables::number;
 use tables::whole;
+use trays::Settings;
 
 // Composes any tray, or refuses it. A join is three numbers (left slip, right slip, overlap), a place three (the place, 1 if the slip is kept, and the letters
 // compared to find it).
 pub fn compose_flat(
     letters: &[u8],
     ends: &[u16],
+    settings: Settings,
     work: &mut [u16],
     legend: &mut [u8],
     joins: &mut [u16],
     places: &mut [u16],
 ) -> Composed
-    ensures { λ r. ⌜ ComposeFlat (now (letters .entry)) (now (ends .entry)) (now (work .entry)) (now (work .exit))
+    ensures { λ r. ⌜ ComposeFlat settings (now (letters .entry)) (now (ends .entry)) (now (work .entry)) (now (work .exit))
         (now (legend .entry)) (now (legend .exit)) (now (joins .entry)) (now (joins .exit)) (now (places .entry)) (now (places .exit)) r ⌝ }
 {
     let joins_room = joins.len() / 3;
     let places_room = places.len() / PLACE_CELLS;
-    let answer = composing::compose_staged(letters, ends, work, legend, joins_room, places_room);
+    let answer = composing::compose_staged(
+        letters,
+        ends,
+        settings,
+        work,
+        legend,
+        joins_room,
+        places_room,
+    );
     copying::copy_cells(work, JOINS, 3 * whole(answer.joins), joins);
     copying::copy_cells(work, PLACES, PLACE_CELLS * whole(answer.slips), places);
     answer

@@ -1,6 +1,7 @@
 -- The nodes by rows: of d letters, of one letter fewer, .. of one letter, each row by number.
 --   row-num       == a number of the row of d letters is that of a node of d letters
 --   row-before    == of two nodes of a row the one with the lower number has the smaller string
+--   row-length    == the strings of a row have d letters; rows-length == those of the rows from d on downwards at most d
 --   row-asc       == a row ascends by the order of visits; rows-asc == so do the rows
 --   rows-nodes    == the walk may go over the rows: they have every beginning
 -- Numbers ascend by length, then byte order; the table of levels parts them by length. Within a row the order of numbers is byte order.
@@ -50,7 +51,7 @@ module _ (ps : List (List ℕ)) (level : ℕ → ℕ) (top : ℕ) (L : LevelIs p
   in-row : (d v : ℕ) → In v (upFrom (level d) (level (suc d) - level d)) → (level d ≤ v) × (v < level (suc d))
   in-row d v m = let r = in-upFrom (level d) (level (suc d) - level d) m in (r .0, omega arith)
 
-  row-length : (d : ℕ) (x : List ℕ) → 1 ≤ d → d ≤ top → In x (nodesAt ps level d) → length x ≡ d
+  pub row-length : (d : ℕ) (x : List ℕ) → 1 ≤ d → d ≤ top → In x (nodesAt ps level d) → length x ≡ d
   row-length d x h l m =
       let (v, i, e) = Memᴰ·of-map (string ps) (upFrom (level d) (level (suc d) - level d)) m in
       let (a, b) = in-row d v i in
@@ -75,7 +76,7 @@ module _ (ps : List (List ℕ)) (level : ℕ → ℕ) (top : ℕ) (L : LevelIs p
       let (e, t) = row-before d a b h l (in-row d a i .0) q (in-row d b k .1) in
       lex-then down (length (string ps a)) (length (string ps b)) (before (string ps a) (string ps b)) e t)
 
-  rows-length : (d : ℕ) (x : List ℕ) → d ≤ top → In x (rows ps level d) → (1 ≤ length x) × (length x ≤ d)
+  pub rows-length : (d : ℕ) (x : List ℕ) → d ≤ top → In x (rows ps level d) → (1 ≤ length x) × (length x ≤ d)
   rows-length zero x l m = absurd (List·Memᴰ·not-nil m)
   rows-length (suc d) x l m =
       elim (List·Memᴰ·append-cases (nodesAt ps level (suc d)) m) [

@@ -9,6 +9,7 @@ use native.Mathlib.Omega.{arith}
 use lib.ListN.{length}
 use Rattle.words.specs.Lists.{over}
 use Rattle.trays.specs.declared.Refusal.{Refusal}
+use Rattle.trays.specs.declared.Settings.{Settings}
 use Rattle.trays.specs.Slips.{slipsOf, numbers}
 use Rattle.trays.specs.Faults.{written}
 use Rattle.trays.proofs.Rows.{written-all, written-none}
@@ -28,32 +29,33 @@ use Rattle.answers.specs.Records.{joinRecord, placeRecord}
 use Rattle.legends.specs.steps.Counted.{StagedCounts}
 use Rattle.records.proofs.Records.{joins-made, places-made}
 
-module _ (s es w w′ l l′ : List ℕ) (js : List Join) (ps : List Place) (r : ToStore) (c : StagedCounts s es w w′ l l′ (length js) (length ps) r) where
+module _ (g : Settings) (s es w w′ l l′ : List ℕ) (js : List Join) (ps : List Place) (r : ToStore)
+    (c : StagedCounts g s es w w′ l l′ (length js) (length ps) r) where
   abbrev ss : List (List ℕ)
   ss = slipsOf s es
 
   abbrev f : Refusal
-  f = faultOf s es w l js ps
+  f = faultOf g s es w l js ps
 
   -- nothing turns composing back, or something does
-  by-answer : {P : Type 0} → (Accepts s es w (length l) (length js) (length ps) (r .answer) → P) →
-      (Refuses s es w (length l) (length js) (length ps) (r .answer) → P) → P
-  by-answer good bad = staged-tells s es w (length l) (length js) (length ps) (r .answer) (c .stages .answer-is) good bad
+  by-answer : {P : Type 0} → (Accepts g s es w (length l) (length js) (length ps) (r .answer) → P) →
+      (Refuses g s es w (length l) (length js) (length ps) (r .answer) → P) → P
+  by-answer good bad = staged-tells g s es w (length l) (length js) (length ps) (r .answer) (c .stages .answer-is) good bad
 
-  module _ (a : Accepts s es w (length l) (length js) (length ps) (r .answer)) where
-    all-joins : r .answer .joins ≡ length (joinsOf (whole ss))
+  module _ (a : Accepts g s es w (length l) (length js) (length ps) (r .answer)) where
+    all-joins : r .answer .joins ≡ length (joinsOf (whole g ss))
     all-joins = ap (λ (x : Composed). x .joins) (a .answer-is)
 
     all-places : r .answer .slips ≡ length ss
     all-places = ap (λ (x : Composed). x .slips) (a .answer-is)
 
-    joins-staged : table w′ JOINS (3 * length (joinsOf (whole ss))) ≡ flatJoins (joinsOf (whole ss))
+    joins-staged : table w′ JOINS (3 * length (joinsOf (whole g ss))) ≡ flatJoins (joinsOf (whole g ss))
     joins-staged = ap (λ (n : ℕ). table w′ JOINS (3 * n)) (sym all-joins) ∙ c .stages .joins-are (ap (λ (x : Composed). x .number) (a .answer-is))
 
-    places-staged : table w′ PLACES (placeCells * length ss) ≡ flatPlaces (whole ss)
+    places-staged : table w′ PLACES (placeCells * length ss) ≡ flatPlaces (whole g ss)
     places-staged = ap (λ (n : ℕ). table w′ PLACES (placeCells * n)) (sym all-places) ∙ c .stages .places-are (ap (λ (x : Composed). x .number) (a .answer-is))
 
-  module _ (a : Refuses s es w (length l) (length js) (length ps) (r .answer)) where
+  module _ (a : Refuses g s es w (length l) (length js) (length ps) (r .answer)) where
     no-joins : r .joins ≡ 0
     no-joins = c .joins-is ∙ ap (λ (x : Composed). x .joins) (a .answer-is)
 
@@ -65,7 +67,7 @@ module _ (s es w w′ l l′ : List ℕ) (js : List Join) (ps : List Place) (r :
       by-answer
       (λ a. (
         omega (arith, c .joins-is, a .joins-fit),
-        omega (arith, c .joins-is, staged-room s es w w′ l l′ (length js) (length ps) (r .answer) (c .stages) a),
+        omega (arith, c .joins-is, staged-room g s es w w′ l l′ (length js) (length ps) (r .answer) (c .stages) a),
       ))
       (λ a. let e = no-joins a in (omega arith, omega arith))
 
@@ -78,26 +80,26 @@ module _ (s es w w′ l l′ : List ℕ) (js : List Join) (ps : List Place) (r :
       ))
       (λ a. let e = no-places a in (omega arith, (omega arith, omega arith)))
 
-  joins-stored : over (firsts (joinAt w′) (r .joins)) js ≡ written f (map joinRecord (joinsOf (whole ss))) js
+  joins-stored : over (firsts (joinAt w′) (r .joins)) js ≡ written f (map joinRecord (joinsOf (whole g ss))) js
   joins-stored =
       by-answer
       (λ a. ap (λ (n : ℕ). over (firsts (joinAt w′) n) js) (c .joins-is ∙ all-joins a)
-      ∙ ap (λ (xs : List Join). over xs js) (joins-made w′ (joinsOf (whole ss)) (joins-staged a))
-      ∙ sym (written-all f (map joinRecord (joinsOf (whole ss))) js (a .silent)))
+      ∙ ap (λ (xs : List Join). over xs js) (joins-made w′ (joinsOf (whole g ss)) (joins-staged a))
+      ∙ sym (written-all f (map joinRecord (joinsOf (whole g ss))) js (a .silent)))
       (λ a. ap (λ (n : ℕ). over (firsts (joinAt w′) n) js) (no-joins a)
-      ∙ sym (written-none f (map joinRecord (joinsOf (whole ss))) js (omega (arith, a .speaks))))
+      ∙ sym (written-none f (map joinRecord (joinsOf (whole g ss))) js (omega (arith, a .speaks))))
 
-  places-stored : over (firsts (placeAt w′) (r .places)) ps ≡ written f (map (placeRecord (whole ss)) (numbers ss)) ps
+  places-stored : over (firsts (placeAt w′) (r .places)) ps ≡ written f (map (placeRecord (whole g ss)) (numbers ss)) ps
   places-stored =
       by-answer
       (λ a. ap (λ (n : ℕ). over (firsts (placeAt w′) n) ps) (c .places-is ∙ all-places a)
-      ∙ ap (λ (xs : List Place). over xs ps) (places-made w′ ss (places-staged a))
-      ∙ sym (written-all f (map (placeRecord (whole ss)) (numbers ss)) ps (a .silent)))
+      ∙ ap (λ (xs : List Place). over xs ps) (places-made w′ (whole g ss) (places-staged a))
+      ∙ sym (written-all f (map (placeRecord (whole g ss)) (numbers ss)) ps (a .silent)))
       (λ a. ap (λ (n : ℕ). over (firsts (placeAt w′) n) ps) (no-places a)
-      ∙ sym (written-none f (map (placeRecord (whole ss)) (numbers ss)) ps (omega (arith, a .speaks))))
+      ∙ sym (written-none f (map (placeRecord (whole g ss)) (numbers ss)) ps (omega (arith, a .speaks))))
 
   pub composing-says : (js′ : List Join) (ps′ : List Place) → js′ ≡ over (firsts (joinAt w′) (r .joins)) js →
-      ps′ ≡ over (firsts (placeAt w′) (r .places)) ps → ComposeSays s es w w′ l l′ js js′ ps ps′ (r .answer)
+      ps′ ≡ over (firsts (placeAt w′) (r .places)) ps → ComposeSays g s es w w′ l l′ js js′ ps ps′ (r .answer)
   composing-says js′ ps′ a b =
       record {
         answer-is = c .stages .answer-is;

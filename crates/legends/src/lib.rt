@@ -4,6 +4,7 @@ ghost use Rattle.legends.specs.steps.Counted.{StagedCounts};
 use answers::Composed;
 use answers::Join;
 use answers::Place;
+use trays::Settings;
 
 // The answer, and how many joins and places are staged for it.
 pub struct ToStore {
@@ -16,15 +17,24 @@ pub struct ToStore {
 fn staged(
     letters: &[u8],
     ends: &[u16],
+    settings: Settings,
     work: &mut [u16],
     legend: &mut [u8],
     joins_room: usize,
     places_room: usize,
 ) -> ToStore
-    ensures { λ r. ⌜ StagedCounts (now (letters .entry)) (now (ends .entry)) (now (work .entry)) (now (work .exit))
+    ensures { λ r. ⌜ StagedCounts settings (now (letters .entry)) (now (ends .entry)) (now (work .entry)) (now (work .exit))
         (now (legend .entry)) (now (legend .exit)) «joins_room» «places_room» r ⌝ }
 {
-    let answer = composing::compose_staged(letters, ends, work, legend, joins_room, places_room);
+    let answer = composing::compose_staged(
+        letters,
+        ends,
+        settings,
+        work,
+        legend,
+        joins_room,
+        places_room,
+    );
     let joins = answer.joins as usize;
     let places = answer.slips as usize;
     ToStore {
@@ -38,17 +48,26 @@ fn staged(
 pub fn compose_tray(
     letters: &[u8],
     ends: &[u16],
+    settings: Settings,
     work: &mut [u16],
     legend: &mut [u8],
     joins: &mut [Join],
     places: &mut [Place],
 ) -> Composed
-    ensures { λ r. ⌜ ComposeSays (now (letters .entry)) (now (ends .entry)) (now (work .entry)) (now (work .exit))
+    ensures { λ r. ⌜ ComposeSays settings (now (letters .entry)) (now (ends .entry)) (now (work .entry)) (now (work .exit))
         (now (legend .entry)) (now (legend .exit)) (now (joins .entry)) (now (joins .exit)) (now (places .entry)) (now (places .exit)) r ⌝ }
 {
     let joins_room = joins.len();
     let places_room = places.len();
-    let counted = staged(letters, ends, &mut *work, legend, joins_room, places_room);
+    let counted = staged(
+        letters,
+        ends,
+        settings,
+        &mut *work,
+        legend,
+        joins_room,
+        places_room,
+    );
     records::store_joins(work, joins, counted.joins);
     records::store_places(work, places, counted.places);
     counted.answer

@@ -1,6 +1,6 @@
 -- What the overlap of two slips of a tray asks and gives.
---   TwoSlips s es l r   == the tray is accepted, and l and r are slips of it
---   Overlap s es l r n  == n is their overlap, and no longer than a slip may be
+--   TwoSlips s es l r    == the tray is accepted, and l and r are slips of it
+--   Overlap m s es l r n == n is their overlap, where the least overlap is m, and no longer than a slip may be
 use mathlib.Core.Path.{_≡_}
 use mathlib.Core.List.{List}
 use Prim.Native.Nat.{ℕ, _≤_}
@@ -18,6 +18,6 @@ pub record TwoSlips (s es : List ℕ) (l r : ℕ) : Type 0 where
   pub right-some : 1 ≤ r
   pub right-most : r ≤ length es
 
-pub record Overlap (s es : List ℕ) (l r n : ℕ) : Type 0 where
-  pub is : n ≡ overlapFor counted (slip (slipsOf s es) l) (slip (slipsOf s es) r)
+pub record Overlap (m : ℕ) (s es : List ℕ) (l r n : ℕ) : Type 0 where
+  pub is : n ≡ overlapFor (counted m) (slip (slipsOf s es) l) (slip (slipsOf s es) r)
   pub short : n ≤ maxSlip

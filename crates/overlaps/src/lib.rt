@@ -7,22 +7,25 @@ use spans::slip_part;
 use trays::counts;
 
 // The overlap of two strings, 0 where it does not count: a shorter one is a prefix of it, and does not count either.
-fn counted_overlap(a: &[u8], b: &[u8]) -> usize
-    ensures { λ r. ⌜ r ≡ overlapFor counted (now (a .entry)) (now (b .entry)) ⌝ }
+fn counted_overlap(a: &[u8], b: &[u8], least: usize) -> usize
+    ensures { λ r. ⌜ r ≡ overlapFor (counted least) (now (a .entry)) (now (b .entry)) ⌝ }
 {
     let n = words::overlap(a, b);
-    if !counts(&b[..n]) {
+    if n < least {
         return 0;
     }
-    n
+    if counts(&b[..n]) {
+        return n;
+    }
+    0
 }
 
 // The same of two slips, which may be one.
-pub fn slip_overlap(letters: &[u8], ends: &[u16], left: usize, right: usize) -> usize
+pub fn slip_overlap(letters: &[u8], ends: &[u16], left: usize, right: usize, least: usize) -> usize
     requires { ⌜ TwoSlips (now letters) (now ends) left right ⌝ }
-    ensures { λ r. ⌜ Overlap (now (letters .entry)) (now (ends .entry)) left right r ⌝ }
+    ensures { λ r. ⌜ Overlap least (now (letters .entry)) (now (ends .entry)) left right r ⌝ }
 {
     let a = slip_part(letters, ends, left);
     let b = slip_part(letters, ends, right);
-    counted_overlap(a, b)
+    counted_overlap(a, b, least)
 }

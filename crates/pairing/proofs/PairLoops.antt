@@ -22,29 +22,29 @@ use Rattle.pairing.specs.steps.Pairing.{PairedTo, RowAsks}
 other-cell : (a b x y : ℕ) → b < maxShortest → y < maxShortest → maxShortest * x + y ≡ maxShortest * a + b → (x ≡ a) × (y ≡ b)
 other-cell a b x y hb hy e = (omega arith, omega arith)
 
-module _ (s es xs : List ℕ) (k : ℕ) where
+module _ (least : ℕ) (s es xs : List ℕ) (k : ℕ) where
   -- places and cells are few
-  pub row-listed : (a : ℕ) {w : List ℕ} → RowAsks s es xs k a w → a < length xs
+  pub row-listed : (a : ℕ) {w : List ℕ} → RowAsks least s es xs k a w → a < length xs
   row-listed a A = omega (arith, A .row, A .asks .listed)
 
-  pub place-listed : (a b : ℕ) {w : List ℕ} → RowAsks s es xs k a w → b < k → b < length xs
+  pub place-listed : (a b : ℕ) {w : List ℕ} → RowAsks least s es xs k a w → b < k → b < length xs
   place-listed a b A h = omega (arith, A .asks .listed)
 
-  pub row-fits : (a : ℕ) {w : List ℕ} → RowAsks s es xs k a w → a * 2 < 2 ^ 64
+  pub row-fits : (a : ℕ) {w : List ℕ} → RowAsks least s es xs k a w → a * 2 < 2 ^ 64
   row-fits a A = omega (arith, A .row, A .asks .few)
 
-  pub place-fits : (a b : ℕ) {w : List ℕ} → RowAsks s es xs k a w → b < k → b * 2 < 2 ^ 64
+  pub place-fits : (a b : ℕ) {w : List ℕ} → RowAsks least s es xs k a w → b < k → b * 2 < 2 ^ 64
   place-fits a b A h = omega (arith, A .asks .few)
 
-  pub rows-fit : (a : ℕ) {w : List ℕ} → RowAsks s es xs k a w → maxShortest * a < 2 ^ 64
+  pub rows-fit : (a : ℕ) {w : List ℕ} → RowAsks least s es xs k a w → maxShortest * a < 2 ^ 64
   rows-fit a A = omega (arith, A .row, A .asks .few)
 
-  pub cell-fits : (a b : ℕ) {w : List ℕ} → RowAsks s es xs k a w → b < k → maxShortest * a + b < 2 ^ 64
+  pub cell-fits : (a b : ℕ) {w : List ℕ} → RowAsks least s es xs k a w → b < k → maxShortest * a + b < 2 ^ 64
   cell-fits a b A h = omega (arith, A .row, A .asks .few)
 
   -- of any two places: that they are the right ones is for `pair-more`
   pub pair-asks :
-      (a x y l r : ℕ) {w : List ℕ} → RowAsks s es xs k a w → x < k → y < k → l ≡ getD xs x 0 → r ≡ getD xs y 0 → TwoSlips s es l r
+      (a x y l r : ℕ) {w : List ℕ} → RowAsks least s es xs k a w → x < k → y < k → l ≡ getD xs x 0 → r ≡ getD xs y 0 → TwoSlips s es l r
   pair-asks a x y l r A hx hy el er =
       let P = A .asks in
       let left = P .real x hx in
@@ -58,8 +58,8 @@ module _ (s es xs : List ℕ) (k : ℕ) where
       }
 
   -- a pair more
-  module _ (a b l r n : ℕ) (w₀ w w′ : List ℕ) (A : RowAsks s es xs k a w₀) (T : PairedTo s es xs k a b w₀ w) (h : b < k)
-      (O : Overlap s es l r n) where
+  module _ (a b l r n : ℕ) (w₀ w w′ : List ℕ) (A : RowAsks least s es xs k a w₀) (T : PairedTo least s es xs k a b w₀ w) (h : b < k)
+      (O : Overlap least s es l r n) where
     pub cell-room : Room w 0 (maxShortest * a + b) n
     cell-room =
         record { within = omega (arith, A .asks .room, A .asks .few, A .row, T .same); small = omega (arith, O .short) }
@@ -71,7 +71,7 @@ module _ (s es xs : List ℕ) (k : ℕ) where
       there : (i : ℕ) → (i ≡ maxShortest * a + b → ⊥) → getD w′ i 0 ≡ getD w i 0
       there i ne = rw zero-add at (put-other P i ne)
 
-      pub pair-more : (m : ℕ) → m ≡ b + 1 → PairedTo s es xs k a m w₀ w′
+      pub pair-more : (m : ℕ) → m ≡ b + 1 → PairedTo least s es xs k a m w₀ w′
       pair-more m e =
           record {
             same = P .same ∙ T .same;
@@ -98,7 +98,7 @@ module _ (s es xs : List ℕ) (k : ℕ) where
               below ne l = omega arith
 
   -- from row to row
-  pub row-done : (a b : ℕ) (w₀ w : List ℕ) → PairedTo s es xs k a b w₀ w → k ≤ b → PairedTo s es xs k (a + 1) 0 w₀ w
+  pub row-done : (a b : ℕ) (w₀ w : List ℕ) → PairedTo least s es xs k a b w₀ w → k ≤ b → PairedTo least s es xs k (a + 1) 0 w₀ w
   row-done a b w₀ w T h =
       record { same = T .same; pairs = λ x y q u. T .pairs x y q (earlier x y q u); start = T .start; small = T .small }
     where
@@ -112,7 +112,7 @@ module _ (s es xs : List ℕ) (k : ℕ) where
 
     -- w₁ is the table when the loop begins
     module _ (n : ℕ) (w₁ : List ℕ) (F : Filled 0 n (replicate n 0) w₀ w₁) where
-      pub row-asks : (a : ℕ) (w : List ℕ) → PairedTo s es xs k a 0 w₁ w → a < k → RowAsks s es xs k a w
+      pub row-asks : (a : ℕ) (w : List ℕ) → PairedTo least s es xs k a 0 w₁ w → a < k → RowAsks least s es xs k a w
       row-asks a w T h =
           record {
             asks = record {
@@ -126,7 +126,7 @@ module _ (s es xs : List ℕ) (k : ℕ) where
             filled = record { same = refl; pairs = T .pairs; start = T .start; small = T .small };
           }
 
-      pub rows-all : (a : ℕ) (w : List ℕ) → PairedTo s es xs k a 0 w₁ w → k ≤ a → PairsAre s es xs k w₀ w
+      pub rows-all : (a : ℕ) (w : List ℕ) → PairedTo least s es xs k a 0 w₁ w → k ≤ a → PairsAre least s es xs k w₀ w
       rows-all a w T h =
           record {
             same = T .same ∙ F .only .same;
@@ -135,7 +135,7 @@ module _ (s es xs : List ℕ) (k : ℕ) where
             small = T .small;
           }
 
-      pub rows-none : n ≡ pairCells → PairedTo s es xs k 0 0 w₁ w₁
+      pub rows-none : n ≡ pairCells → PairedTo least s es xs k 0 0 w₁ w₁
       rows-none e =
           record {
             same = refl;
@@ -151,5 +151,5 @@ module _ (s es xs : List ℕ) (k : ℕ) where
           zeros : (i : ℕ) → i < pairCells → getD w₁ i 0 ≡ 0
           zeros i q = (rw zero-add at (filled-at i F (omega arith))) ∙ sym (replicate-at n i 0 (omega arith))
 
-  pub rows-more : (a b : ℕ) (w₀ w w′ : List ℕ) → PairedTo s es xs k a 0 w₀ w → PairedTo s es xs k b 0 w w′ → PairedTo s es xs k b 0 w₀ w′
+  pub rows-more : (a b : ℕ) (w₀ w w′ : List ℕ) → PairedTo least s es xs k a 0 w₀ w → PairedTo least s es xs k b 0 w w′ → PairedTo least s es xs k b 0 w₀ w′
   rows-more a b w₀ w w′ T U = record { same = U .same ∙ T .same; pairs = U .pairs; start = U .start; small = U .small }

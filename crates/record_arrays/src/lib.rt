@@ -6,6 +6,7 @@ use answers::Found;
 use answers::Join;
 use answers::Place;
 use answers::Search;
+use trays::Settings;
 
 // The answer of composing, and the two lists behind the call.
 pub struct Composition {
@@ -35,15 +36,24 @@ pub struct FindingTwo {
 pub fn compose(
     letters: &[u8],
     ends: &[u16],
+    settings: Settings,
     work: &mut [u16],
     legend: &mut [u8],
     mut joins: [Join; 200],
     mut places: [Place; 200],
 ) -> Composition
-    ensures { λ r. ⌜ ComposeSays (now (letters .entry)) (now (ends .entry)) (now (work .entry)) (now (work .exit))
+    ensures { λ r. ⌜ ComposeSays settings (now (letters .entry)) (now (ends .entry)) (now (work .entry)) (now (work .exit))
         (now (legend .entry)) (now (legend .exit)) joins (r .joins) places (r .places) (r .answer) ⌝ }
 {
-    let answer = legends::compose_tray(letters, ends, work, legend, &mut joins, &mut places);
+    let answer = legends::compose_tray(
+        letters,
+        ends,
+        settings,
+        work,
+        legend,
+        &mut joins,
+        &mut places,
+    );
     Composition {
         answer,
         joins,
@@ -68,15 +78,24 @@ pub fn find(
 pub fn compose_two(
     letters: &[u8],
     ends: &[u16],
+    settings: Settings,
     work: &mut [u16],
     legend: &mut [u8],
     mut joins: [Join; 2],
     mut places: [Place; 2],
 ) -> CompositionTwo
-    ensures { λ two. ⌜ ComposeSays (now (letters .entry)) (now (ends .entry)) (now (work .entry)) (now (work .exit))
+    ensures { λ two. ⌜ ComposeSays settings (now (letters .entry)) (now (ends .entry)) (now (work .entry)) (now (work .exit))
         (now (legend .entry)) (now (legend .exit)) joins (two .joins) places (two .places) (two .answer) ⌝ }
 {
-    let answer = legends::compose_tray(letters, ends, work, legend, &mut joins, &mut places);
+    let answer = legends::compose_tray(
+        letters,
+        ends,
+        settings,
+        work,
+        legend,
+        &mut joins,
+        &mut places,
+    );
     CompositionTwo {
         answer,
         joins,

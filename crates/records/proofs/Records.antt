@@ -1,6 +1,6 @@
 -- The records made of the staged numbers are those of the tray.
 --   joins-made   == where the joins js are staged, their records are made
---   places-made  == where the places of the slips ss are staged, their records are made
+--   places-made  == where the places of all slips are staged, their records are made
 -- A staged table is the list of the numbers, so that each cell is a number of the list; records are equal where their fields are.
 use mathlib.Core.Path.{_≡_, refl, sym, _∙_, ap}
 use mathlib.Core.Bool.{Bool, true, false, cond, not}
@@ -17,7 +17,7 @@ use Rattle.tables.specs.Tables.{table}
 use Rattle.tables.proofs.Tables.{table-at}
 use Rattle.layout.specs.Layout.{JOINS, PLACES}
 use Rattle.layout.specs.Tables.{cell}
-use Rattle.greedy.specs.Composing.{whole}
+use Rattle.greedy.specs.Composing.{Composing}
 use Rattle.answers.specs.Composing.{joinNumbers, flatJoins, placeCells, placeNumbers, flatPlaces}
 use Rattle.answers.proofs.FlatLists.{joins-at, places-at}
 use Rattle.record_loops.specs.Firsts.{firsts}
@@ -72,21 +72,21 @@ mark-kept false = refl
 abbrev nowhere : Place
 nowhere = record { slip = 0; place = 0; kept = false; compared = 0 }
 
-module _ (w : List ℕ) (ss : List (List ℕ)) (e : table w PLACES (placeCells * length ss) ≡ flatPlaces (whole ss)) where
-  place-made : (i : ℕ) → i < length ss → placeAt w i ≡ placeRecord (whole ss) (suc i)
+module _ (w : List ℕ) (c : Composing) (e : table w PLACES (placeCells * length (c .slips)) ≡ flatPlaces c) where
+  place-made : (i : ℕ) → i < length (c .slips) → placeAt w i ≡ placeRecord c (suc i)
   place-made i h =
-      let is : (j at : ℕ) → j < placeCells → at ≡ placeCells * i + j → cell w PLACES at ≡ getD (placeNumbers (whole ss) (suc i)) j 0 =
-      λ j at l q. cell-in w PLACES (placeCells * length ss) (flatPlaces (whole ss)) e at (omega arith) ∙ places-at ss i j at h l q in
-      place-by _ _ _ _ (placeRecord (whole ss) (suc i)) (add-one i) (is 0 (placeCells * i) (omega arith) (omega arith))
-      (ap (λ (m : ℕ). eqb m 1) (is 1 (placeCells * i + 1) (omega arith) refl) ∙ mark-kept (isAside ss (numbers ss) (suc i)))
+      let is : (j at : ℕ) → j < placeCells → at ≡ placeCells * i + j → cell w PLACES at ≡ getD (placeNumbers c (suc i)) j 0 =
+      λ j at l q. cell-in w PLACES (placeCells * length (c .slips)) (flatPlaces c) e at (omega arith) ∙ places-at c i j at h l q in
+      place-by _ _ _ _ (placeRecord c (suc i)) (add-one i) (is 0 (placeCells * i) (omega arith) (omega arith))
+      (ap (λ (m : ℕ). eqb m 1) (is 1 (placeCells * i + 1) (omega arith) refl) ∙ mark-kept (isAside (c .slips) (c .members) (suc i)))
       (is 2 (placeCells * i + 2) (omega arith) refl)
 
-  pub places-made : firsts (placeAt w) (length ss) ≡ map (placeRecord (whole ss)) (numbers ss)
+  pub places-made : firsts (placeAt w) (length (c .slips)) ≡ map (placeRecord c) (numbers (c .slips))
   places-made =
       ap (firsts (placeAt w)) (sym long)
-      ∙ firsts-are (placeAt w) nowhere (map (placeRecord (whole ss)) (numbers ss))
-      (λ i h. let l : i < length ss = omega (arith, long) in
-      place-made i l ∙ sym (getD-map-upFrom (placeRecord (whole ss)) nowhere 1 (length ss) i l ∙ ap (placeRecord (whole ss)) (one-add i)))
+      ∙ firsts-are (placeAt w) nowhere (map (placeRecord c) (numbers (c .slips)))
+      (λ i h. let l : i < length (c .slips) = omega (arith, long) in
+      place-made i l ∙ sym (getD-map-upFrom (placeRecord c) nowhere 1 (length (c .slips)) i l ∙ ap (placeRecord c) (one-add i)))
     where
-      long : length (map (placeRecord (whole ss)) (numbers ss)) ≡ length ss
-      long = length-map (numbers ss) (placeRecord (whole ss)) ∙ length-upFrom 1 (length ss)
+      long : length (map (placeRecord c) (numbers (c .slips))) ≡ length (c .slips)
+      long = length-map (numbers (c .slips)) (placeRecord c) ∙ length-upFrom 1 (length (c .slips))

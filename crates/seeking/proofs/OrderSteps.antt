@@ -99,7 +99,7 @@ module _ (kept places : List ℕ) (k : ℕ) (A : NamingAsks kept places k) where
   naming-all i xs N h = let e : i ≡ k = omega (arith, N .upto) in record { are = rw e at (N .are) }
 
 -- the order of the first k slips xs, in the table w
-module _ (s es xs : List ℕ) (k : ℕ) (w : List ℕ) (A : SeekAsks s es xs k w) where
+module _ (least : ℕ) (s es xs : List ℕ) (k : ℕ) (w : List ℕ) (A : SeekAsks s es xs k w) where
   abbrev K : List ℕ
   K = take k xs
 
@@ -113,7 +113,7 @@ module _ (s es xs : List ℕ) (k : ℕ) (w : List ℕ) (A : SeekAsks s es xs k w
   pairs-can =
       record { tray = A .tray; few = A .few; listed = omega (arith, A .ten, A .few); real = A .real; room = omega (arith, A .room) }
 
-  module _ (w₁ : List ℕ) (P : PairsAre s es xs k w w₁) where
+  module _ (w₁ : List ℕ) (P : PairsAre least s es xs k w w₁) where
     pub groups-can : Paired w₁ k
     groups-can = record { room = omega (arith, A .room, P .same); few = A .few; small = P .small }
 
@@ -139,15 +139,15 @@ module _ (s es xs : List ℕ) (k : ℕ) (w : List ℕ) (A : SeekAsks s es xs k w
                 omega (arith, in-upFrom 0 k (all-at (λ a. In a (upFrom 0 k)) chosen (getD ps i 0) all (rw places-are at inside)));
           }
 
-      pub order-sought : (r : List ℕ) → Named xs ps k r → Sought s es xs k w w₂ r
+      pub order-sought : (r : List ℕ) → Named xs ps k r → Sought least s es xs k w w₂ r
       order-sought r N =
           let named : List ℕ → List ℕ = map (λ a. getD K a 0) in
-          let shortest : shortestFor counted (slipsOf s es) K ≡ named chosen =
-          shortest-places counted (slipsOf s es) K (A .rising) (pairsOf w₁) maxShortest pairs start
+          let shortest : shortestFor (counted least) (slipsOf s es) K ≡ named chosen =
+          shortest-places (counted least) (slipsOf s es) K (A .rising) (pairsOf w₁) maxShortest pairs start
           ∙ ap (λ n. named (choose (pairsOf w₁) n maxShortest (upFrom 0 n))) size in
           record { same = O .size ∙ P .same; order-is = N .are ∙ ap tenOf (ap named places-are ∙ sym shortest) }
         where
-          pairs : (a b : ℕ) → a < length K → b < length K → pairsOf w₁ a b ≡ weight counted (slipsOf s es) (getD K a 0) (getD K b 0)
+          pairs : (a b : ℕ) → a < length K → b < length K → pairsOf w₁ a b ≡ weight (counted least) (slipsOf s es) (getD K a 0) (getD K b 0)
           pairs a b ha hb =
               let la : a < k = omega (arith, size) in
               let lb : b < k = omega (arith, size) in

@@ -1,26 +1,27 @@
 -- From the check of the tray to the order of its kept slips.
 --   kept-now  == the kept members in the work area are the kept slips of the tray
 --   seek-can, write-can == what the search and the last step ask
---   says-tray, says-room, says-all == 1 to 6; 7; what is behind them
+--   says-set, says-room, says-all == 21 and 1 to 6; 7; what is behind them
 use mathlib.Core.Path.{_≡_, refl, sym, ap, _∙_}
 use mathlib.Core.List.{List, [], _∷_, _++_}
 use Prim.Native.Nat.{ℕ, zero, suc, _+_, _≤_, _<_}
 use native.Mathlib.Omega.{arith}
 use borrow.Rule.Slice.PartMut.{same-len-mid}
-use lib.Dec.{ltb}
 use lib.ListN.{length, getD, take, drop, length-drop}
 use lib.Seq.{length-take-le}
 use Rattle.words.proofs.Members.{In}
 use Rattle.trays.specs.declared.Refusal.{Refusal}
 use Rattle.trays.specs.Limits.{maxShortest, workNeed}
+use Rattle.trays.specs.declared.Settings.{Settings}
 use Rattle.trays.specs.Slips.{slipsOf, numbers}
 use Rattle.trays.specs.Aside.{kept, counted}
-use Rattle.trays.specs.Faults.{refusal, row, trayFault}
+use Rattle.trays.specs.Faults.{refusal, setFault}
+use Rattle.trays.proofs.SetTrays.{set-tells}
 use Rattle.trays.proofs.Kept.{kept-asc}
-use Rattle.greedy.specs.Composing.{whole, keptOf}
+use Rattle.greedy.specs.Composing.{Composing, whole}
 use Rattle.greedy.proofs.Demand3.{numbers-rise}
 use Rattle.greedy.proofs.KeptSizes.{kept-real}
-use Rattle.shortest.specs.Orders.{shortestFor, shortestLegend}
+use Rattle.shortest.specs.Orders.{shortestFor}
 use Rattle.layout.specs.Layout.{SEEK}
 use Rattle.layout.specs.Staging.{keptIn}
 use Rattle.layout.proofs.Frames.{members-kept}
@@ -30,16 +31,16 @@ use Rattle.groups.specs.Groups.{pairCells, groupCells}
 use Rattle.answers.specs.WorkArea.{workRow}
 use Rattle.answers.specs.declared.Shortest.{Shortest}
 use Rattle.answers.specs.Composing.{beforeC}
-use Rattle.answers.specs.Shortest.{shortestFault, shortestRefused, ShortestSays}
-use Rattle.answers.proofs.BeforeC.{tray-first, work-first, work-same, work-kept}
+use Rattle.answers.specs.Shortest.{shortestRows, shortestFault, shortestOf, shortestRefused, ShortestSays}
+use Rattle.answers.proofs.BeforeC.{set-first, work-first, rows-left, work-same, work-kept}
 use Rattle.seeking.specs.steps.Seeking.{tenOf, KeptAsks, KeptCopied, SeekAsks, Sought, OrderSought, Written, Finished}
 use Rattle.seeking.proofs.OrderSteps.{first-in}
-use Rattle.seeking.proofs.WriteSteps.{turned-answer, turned-legend, too-many}
+use Rattle.seeking.proofs.WriteSteps.{turned-back, too-many}
 
 module _ (s es w : List ℕ) (a : Buildable s es w) (nodes : ℕ) (w₁ : List ℕ) (b : Built s es w nodes w₁) (k : ℕ) (w₂ : List ℕ)
     (t : KeptTold s es (length es) nodes w₁ k w₂) where
   abbrev K : List ℕ
-  K = keptOf (whole (slipsOf s es))
+  K = kept (slipsOf s es) (numbers (slipsOf s es))
 
   count-is : k ≡ length K
   count-is = t .all ∙ ap (λ m. length (kept (slipsOf s es) m)) (b .all-slips)
@@ -53,8 +54,9 @@ module _ (s es w : List ℕ) (a : Buildable s es w) (nodes : ℕ) (w₁ : List �
   long : length w₂ ≡ length w
   long = t .below .same ∙ b .same
 
-  pub many-finished : (l : List ℕ) (r : Shortest) → maxShortest < k → r ≡ shortestRefused (refusal 20 0) → Finished s es w w₂ l l r
-  many-finished l r h q = record { same = long; outcome = too-many s es (a .tray) k l r count-is h q }
+  pub many-finished : (g : Settings) (l : List ℕ) (r : Shortest) → maxShortest < k → r ≡ shortestRefused (refusal 20 0)
+      → Finished (whole g (slipsOf s es)) w w₂ l l r
+  many-finished g l r h q = record { same = long; outcome = too-many (whole g (slipsOf s es)) l k r count-is h q }
 
   -- the part that is lent to the search
   abbrev cells : ℕ
@@ -87,7 +89,7 @@ module _ (s es w : List ℕ) (a : Buildable s es w) (nodes : ℕ) (w₁ : List �
             room = omega (arith, lent-long);
           }
 
-      module _ (lent′ r : List ℕ) (S : Sought s es xs k lent lent′ r) where
+      module _ (m : ℕ) (lent′ r : List ℕ) (S : Sought m s es xs k lent lent′ r) where
         -- the work area with what was written into that part
         abbrev w₃ : List ℕ
         w₃ = take SEEK w₂ ++ (lent′ ++ drop cells (drop SEEK w₂))
@@ -95,60 +97,59 @@ module _ (s es w : List ℕ) (a : Buildable s es w) (nodes : ℕ) (w₁ : List �
         pub seek-same : length w₃ ≡ length w
         seek-same = same-len-mid SEEK cells w₂ lent′ (S .same) ∙ long
 
-        pub seek-finished : (l l′ : List ℕ) (o : Shortest) → Written s es l l′ o → Finished s es w w₃ l l′ o
-        seek-finished l l′ o W = record { same = seek-same; outcome = W }
+        pub seek-finished : (c : Composing) (l l′ : List ℕ) (o : Shortest) → Written c l l′ o → Finished c w w₃ l l′ o
+        seek-finished c l l′ o W = record { same = seek-same; outcome = W }
 
-        pub write-can : OrderSought s es r k
-        write-can =
+        pub write-can : (g : Settings) → m ≡ g .least → OrderSought g s es r k
+        write-can g em =
             record {
               tray = a .tray;
               few = few;
               count-is = count-is;
-              order-is = S .order-is ∙ ap (λ ys. tenOf (shortestFor counted (slipsOf s es) ys)) first-kept;
+              order-is = S .order-is ∙ ap (λ ys. tenOf (shortestFor (counted m) (slipsOf s es) ys)) first-kept ∙ rw em;
             }
 
 -- the rows before place C
-module _ (s es w l : List ℕ) (r : Shortest) where
-  abbrev lastRows : List Refusal
-  lastRows =
-      let c = whole (slipsOf s es) in
-      row 20 (ltb maxShortest (length (keptOf c))) 0 ∷ (row 8 (ltb (length l) (length (shortestLegend c))) (length (shortestLegend c)) ∷ [])
+module _ (g : Settings) (s es w l : List ℕ) (r : Shortest) where
+  abbrev c : Composing
+  c = whole g (slipsOf s es)
 
-  refused-before : (f : Refusal) (n d : ℕ) → f ≡ refusal (suc n) d → shortestFault s es (length w) (length l) ≡ f → r ≡ shortestRefused f →
-      ShortestSays s es w w l l r
+  refused-before : (f : Refusal) (n d : ℕ) → f ≡ refusal (suc n) d → shortestFault g s es (length w) (length l) ≡ f → r ≡ shortestRefused f →
+      ShortestSays g s es w w l l r
+  unfolding shortestOf
   refused-before f n d e h q =
-      record {
-        answer-is = q ∙ turned-answer s es (length w) l f n d e h;
-        legend-is = turned-legend s es (length w) l f n d e h;
-        work-is = work-same (beforeC s es (length w)) w;
-      }
+      let (answer, legend) = turned-back c l f n d e in
+      record { answer-is = q ∙ rw h answer; legend-is = rw h legend; work-is = work-same (beforeC g s es (length w)) w }
 
-  pub says-tray : (f : Refusal) → f ≡ trayFault s es → (f .number ≡ 0 → ⊥) → r ≡ shortestRefused (refusal (f .number) (f .detail)) →
-      ShortestSays s es w w l l r
+  pub says-set : (f : Refusal) → f ≡ setFault (g .least) s es → (f .number ≡ 0 → ⊥) → r ≡ shortestRefused (refusal (f .number) (f .detail)) →
+      ShortestSays g s es w w l l r
   unfolding shortestFault
-  says-tray f e z q = go (f .number) refl
+  says-set f e z q = go (f .number) refl
     where
-      go : (n : ℕ) → f .number ≡ n → ShortestSays s es w w l l r
+      go : (n : ℕ) → f .number ≡ n → ShortestSays g s es w w l l r
       go zero h = absurd (z h)
       go (suc n) h =
-          refused-before f n (f .detail) (ap (λ (m : ℕ). refusal m (f .detail)) h) (tray-first s es (workRow (length w) ∷ lastRows) f e z) q
+          refused-before f n (f .detail) (ap (λ (m : ℕ). refusal m (f .detail)) h)
+          (set-first (g .least) s es (workRow (length w) ∷ shortestRows c (length l)) f e z) q
 
-  module _ (f : Refusal) (e : f ≡ trayFault s es) (z : f .number ≡ 0) where
-    silent : trayFault s es .number ≡ 0
-    silent = ap (λ (g : Refusal). g .number) (sym e) ∙ z
+  module _ (f : Refusal) (e : f ≡ setFault (g .least) s es) (z : f .number ≡ 0) where
+    silent : setFault (g .least) s es .number ≡ 0
+    silent = ap (λ (f : Refusal). f .number) (sym e) ∙ z
 
-    pub says-room : length w < workNeed → r ≡ shortestRefused (refusal 7 0) → ShortestSays s es w w l l r
+    pub says-room : length w < workNeed → r ≡ shortestRefused (refusal 7 0) → ShortestSays g s es w w l l r
     unfolding shortestFault
-    says-room h q = refused-before (refusal 7 0) 6 0 refl (work-first s es silent (length w) lastRows h) q
+    says-room h q = refused-before (refusal 7 0) 6 0 refl (work-first (g .least) s es silent (length w) (shortestRows c (length l)) h) q
 
     module _ (room : workNeed ≤ length w) where
       pub build-can : Buildable s es w
-      build-can = record { tray = silent; room = room }
+      build-can = record { tray = set-tells (g .least) s es silent .tray; room = room }
 
-      pub says-all : (w′ l′ : List ℕ) → Finished s es w w′ l l′ r → ShortestSays s es w w′ l l′ r
+      pub says-all : (w′ l′ : List ℕ) → Finished c w w′ l l′ r → ShortestSays g s es w w′ l l′ r
+      unfolding shortestFault shortestOf
       says-all w′ l′ F =
+          let rows = rows-left (g .least) s es silent (length w) (shortestRows c (length l)) room in
           record {
-            answer-is = F .outcome .answer-is (length w) room;
-            legend-is = F .outcome .legend-is (length w) room;
-            work-is = work-kept s es w w′ silent room (F .same);
+            answer-is = rw rows (F .outcome .answer-is);
+            legend-is = rw rows (F .outcome .legend-is);
+            work-is = work-kept g s es w w′ silent room (F .same);
           }

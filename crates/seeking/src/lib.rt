@@ -1,6 +1,8 @@
 // The shortest legend of a tray with at most ten kept slips.
 ghost use mathlib.Core.Path.{_≡_};
+ghost use Rattle.trays.specs.Slips.{slipsOf};
 ghost use Rattle.trays.specs.Faults.{refusal};
+ghost use Rattle.greedy.specs.Composing.{whole};
 ghost use Rattle.automaton.specs.steps.Built.{Buildable};
 ghost use Rattle.answers.specs.Shortest.{shortestRefused, ShortestSays};
 ghost use Rattle.seeking.specs.steps.Seeking as S;
@@ -10,6 +12,7 @@ use layout::SEEK;
 use layout::WORK_NEED;
 use tables::wide;
 use trays::MAX_SHORTEST;
+use trays::Settings;
 
 // Eleven rows of ten pairs, and ten cells for each of 1,024 groups.
 const CELLS: usize = 11 * MAX_SHORTEST + 1024 * MAX_SHORTEST;
@@ -67,11 +70,18 @@ fn name_places(kept: &[u16], places: &[u16], k: usize) -> [u16; 10]
 }
 
 // The first of the shortest orders of the first `k` slips of `kept`.
-fn seek_order(letters: &[u8], ends: &[u16], kept: &[u16], k: usize, table: &mut [u16]) -> [u16; 10]
+fn seek_order(
+    letters: &[u8],
+    ends: &[u16],
+    kept: &[u16],
+    k: usize,
+    least: usize,
+    table: &mut [u16],
+) -> [u16; 10]
     requires { ⌜ S.SeekAsks (now letters) (now ends) (now kept) k (now table) ⌝ }
-    ensures { λ r. ⌜ S.Sought (now (letters .entry)) (now (ends .entry)) (now (kept .entry)) k (now (table .entry)) (now (table .exit)) r ⌝ }
+    ensures { λ r. ⌜ S.Sought least (now (letters .entry)) (now (ends .entry)) (now (kept .entry)) k (now (table .entry)) (now (table .exit)) r ⌝ }
 {
-    pairing::fill_pairs(letters, ends, kept, k, table);
+    pairing::fill_pairs(letters, ends, kept, k, least, table);
     let places = groups::best_order(table, k);
     name_places(kept, &places, k)
 }
@@ -80,15 +90,17 @@ fn seek_order(letters: &[u8], ends: &[u16], kept: &[u16], k: usize, table: &mut 
 fn write_order(
     letters: &[u8],
     ends: &[u16],
+    settings: Settings,
     legend: &mut [u8],
     order: [u16; 10],
     k: usize,
 ) -> Shortest
-    requires { ⌜ S.OrderSought (now letters) (now ends) order k ⌝ }
-    ensures { λ r. ⌜ S.Written (now (letters .entry)) (now (ends .entry)) (now (legend .entry)) (now (legend .exit)) r ⌝ }
+    requires { ⌜ S.OrderSought settings (now letters) (now ends) order k ⌝ }
+    ensures { λ r. ⌜ S.Written (whole settings (slipsOf (now (letters .entry)) (now (ends .entry)))) (now (legend .entry)) (now (legend .exit)) r ⌝ }
 {
     let mut pieces = [0u16; 20];
-    let need = arranging::order_pieces(letters, ends, &order, k, &mut pieces);
+    let least = settings.least as usize;
+    let need = arranging::order_pieces(letters, ends, &order, k, least, &mut pieces);
     if legend.len() < need {
         return refused(8, need as u32);
     }
@@ -97,10 +109,16 @@ fn write_order(
 }
 
 // An accepted tray, in a work area that is large enough.
-fn seek(letters: &[u8], ends: &[u16], work: &mut [u16], legend: &mut [u8]) -> Shortest
+fn seek(
+    letters: &[u8],
+    ends: &[u16],
+    settings: Settings,
+    work: &mut [u16],
+    legend: &mut [u8],
+) -> Shortest
     requires { ⌜ Buildable (now letters) (now ends) (now work) ⌝ }
-    ensures { λ r. ⌜ S.Finished (now (letters .entry)) (now (ends .entry)) (now (work .entry)) (now (work .exit)) (now (legend .entry))
-        (now (legend .exit)) r ⌝ }
+    ensures { λ r. ⌜ S.Finished (whole settings (slipsOf (now (letters .entry)) (now (ends .entry)))) (now (work .entry)) (now (work .exit))
+        (now (legend .entry)) (now (legend .exit)) r ⌝ }
 {
     let n = ends.len();
     let nodes = automaton::build(letters, ends, work);
@@ -109,26 +127,35 @@ fn seek(letters: &[u8], ends: &[u16], work: &mut [u16], legend: &mut [u8]) -> Sh
         return refused(20, 0);
     }
     let kept = kept_numbers(work, k);
-    let order = seek_order(letters, ends, &kept, k, &mut work[SEEK..SEEK + CELLS]);
-    write_order(letters, ends, legend, order, k)
+    let least = settings.least as usize;
+    let order = seek_order(
+        letters,
+        ends,
+        &kept,
+        k,
+        least,
+        &mut work[SEEK..SEEK + CELLS],
+    );
+    write_order(letters, ends, settings, legend, order, k)
 }
 
 // The shortest legend of any tray, or the refusal.
 pub fn shortest_legend(
     letters: &[u8],
     ends: &[u16],
+    settings: Settings,
     work: &mut [u16],
     legend: &mut [u8],
 ) -> Shortest
-    ensures { λ r. ⌜ ShortestSays (now (letters .entry)) (now (ends .entry)) (now (work .entry)) (now (work .exit)) (now (legend .entry))
-        (now (legend .exit)) r ⌝ }
+    ensures { λ r. ⌜ ShortestSays settings (now (letters .entry)) (now (ends .entry)) (now (work .entry)) (now (work .exit))
+        (now (legend .entry)) (now (legend .exit)) r ⌝ }
 {
-    let tray = checking::check_tray(letters, ends);
+    let tray = checking::check_set_tray(letters, ends, settings.least);
     if tray.number != 0 {
         return refused(tray.number, tray.detail);
     }
     if work.len() < WORK_NEED {
         return refused(7, 0);
     }
-    seek(letters, ends, work, legend)
+    seek(letters, ends, settings, work, legend)
 }

@@ -24,7 +24,7 @@ use Rattle.trays.proofs.Accepted.{accepted-tells, slips-count}
 use Rattle.trays.proofs.Spans.{accepted-spanned}
 use Rattle.greedy.specs.Joins.{Join}
 use Rattle.greedy.specs.Orders.{weight}
-use Rattle.greedy.specs.Composing.{whole, joinsOf}
+use Rattle.greedy.specs.Composing.{usual, whole, joinsOf}
 use Rattle.greedy.proofs.Chains.{Chain, Arc, chains-fewer}
 use Rattle.greedy.proofs.Demand3.{composed}
 use Rattle.matching.specs.Occurrences.{Occurrence, occurrence, endingAt, occurrences}
@@ -45,18 +45,18 @@ module _ (s es : List ℕ) (acc : trayFault s es .number ≡ 0) where
   few : length es ≤ maxSlips
   few = accepted-tells s es acc .few
 
-  join-fits : (j : Join) → Arc (weight counted ss) K j → JoinFits j
+  join-fits : (j : Join) → Arc (weight (counted 1) ss) K j → JoinFits j
   join-fits j (_, _, l, r, o) =
       let (_, a) = kept-real s es acc (j .left) (held-in (j .left) K l) in
       let (p, b) = kept-real s es acc (j .right) (held-in (j .right) K r) in (
         omega (arith, few),
         omega (arith, few),
-        omega (arith, o, overlapFor-fits counted (slip ss (j .left)) (slip ss (j .right)), accepted-spanned s es acc .short (j .right) p b),
+        omega (arith, o, overlapFor-fits (counted 1) (slip ss (j .left)) (slip ss (j .right)), accepted-spanned s es acc .short (j .right) p b),
       )
 
-  joins-fewer : length (joinsOf (whole ss)) ≤ maxSlips - 1
+  joins-fewer : length (joinsOf (whole usual ss)) ≤ maxSlips - 1
   joins-fewer =
-      let (Cs, R) = joins-rep s es acc in
+      let (Cs, R) = joins-rep s es acc usual in
       omega (arith, R .count, fewer Cs (maxSlips - 1) (omega (arith, chains-fewer Cs, R .all (λ i. 1), length-sum K, kept-few s es acc)))
 
   pub compose-fits : ComposeFits ss
@@ -66,13 +66,13 @@ module _ (s es : List ℕ) (acc : trayFault s es .number ≡ 0) where
         slips = omega (arith, few);
         kept-slips = kept-few s es acc;
         letters = kept-small s es acc;
-        saved-letters = omega (arith, kept-small s es acc, composed ss .saving);
-        legend = legend-small s es acc;
+        saved-letters = omega (arith, kept-small s es acc, composed usual ss .saving);
+        legend = legend-small s es acc usual;
         lengths = λ i p l. accepted-spanned s es acc .short i p (omega arith);
-        places = λ i p l. omega (arith, legend-small s es acc, place-most s es acc i p (omega arith));
+        places = λ i p l. omega (arith, legend-small s es acc usual, place-most s es acc usual i p (omega arith));
         joins =
-            all-in JoinFits (joinsOf (whole ss))
-            (λ j m. join-fits j (all-at (Arc (weight counted ss) K) (joinsOf (whole ss)) j (joins-rep s es acc .1 .arcs) m));
+            all-in JoinFits (joinsOf (whole usual ss))
+            (λ j m. join-fits j (all-at (Arc (weight (counted 1) ss) K) (joinsOf (whole usual ss)) j (joins-rep s es acc usual .1 .arcs) m));
         count = joins-fewer;
       }
 

@@ -17,7 +17,7 @@ use Rattle.trays.specs.Faults.{trayFault}
 use Rattle.trays.proofs.Accepted.{slips-count}
 use Rattle.trays.proofs.Spans.{accepted-spanned}
 use Rattle.greedy.specs.Joins.{Join, join}
-use Rattle.greedy.specs.Composing.{whole, joinsOf, legendOf}
+use Rattle.greedy.specs.Composing.{usual, whole, joinsOf, legendOf}
 use Rattle.matching.specs.Moves.{moves}
 use Rattle.matching.specs.Occurrences.{Occurrence, occurrence, occurrences}
 use Rattle.answers.specs.Composing.{outcomeOf, flatJoins, placeCells, flatPlaces}
@@ -60,28 +60,28 @@ module _ (s es : List ℕ) (acc : trayFault s es .number ≡ 0) where
   abbrev ss : List (List ℕ)
   ss = slipsOf s es
 
-  slip-flat : (i : ℕ) → i < length es → slipLineAt es (flatPlaces (whole ss)) i ≡ slipLineOf ss (suc i)
+  slip-flat : (i : ℕ) → i < length es → slipLineAt es (flatPlaces (whole usual ss)) i ≡ slipLineOf ss (suc i)
   slip-flat i h =
       let n : endOf es (suc i) - startOf es (suc i) ≡ length (slip ss (suc i)) = omega (arith, accepted-spanned s es acc .long (suc i) (omega arith) h) in
       let l : i < length ss = rw (slips-count s es) h in
-      let place = places-at ss i 0 (placeCells * i) l (omega arith) (omega arith) in
-      let mark = places-at ss i 1 (placeCells * i + 1) l (omega arith) refl in
+      let place = places-at (whole usual ss) i 0 (placeCells * i) l (omega arith) (omega arith) in
+      let mark = places-at (whole usual ss) i 1 (placeCells * i + 1) l (omega arith) refl in
       rw (add-one i, n, place, mark, sign-flat (isAside ss (numbers ss) (suc i)))
 
-  slips-flat : lines (slipLineAt es (flatPlaces (whole ss))) (length es) ≡ each (slipLineOf ss) (numbers ss)
+  slips-flat : lines (slipLineAt es (flatPlaces (whole usual ss))) (length es) ≡ each (slipLineOf ss) (numbers ss)
   slips-flat =
       let n : length (numbers ss) ≡ length es = length-upFrom 1 (length ss) ∙ slips-count s es in
-      ap (lines (slipLineAt es (flatPlaces (whole ss)))) (sym n)
-      ∙ lines-each 0 (slipLineAt es (flatPlaces (whole ss))) (slipLineOf ss) (numbers ss)
+      ap (lines (slipLineAt es (flatPlaces (whole usual ss)))) (sym n)
+      ∙ lines-each 0 (slipLineAt es (flatPlaces (whole usual ss))) (slipLineOf ss) (numbers ss)
       (λ i h.
       let k : getD (numbers ss) i 0 ≡ suc i = upFrom-at 1 (length ss) i (omega (arith, length-upFrom 1 (length ss))) ∙ omega arith in
       slip-flat i (omega arith) ∙ ap (slipLineOf ss) (sym k))
 
   -- what compose_lines writes, over the numbers that composing leaves
-  pub compose-lines-are : composeLines (outcomeOf (whole ss)) es (flatJoins (joinsOf (whole ss))) (flatPlaces (whole ss)) (legendOf (whole ss)) ≡
-      composeSheetOf ss
+  pub compose-lines-are :
+      let c = whole usual ss in composeLines (outcomeOf c) es (flatJoins (joinsOf c)) (flatPlaces c) (legendOf c) ≡ composeSheetOf ss
   unfolding composeSheetOf
-  compose-lines-are = rw (slips-flat, joins-flat (joinsOf (whole ss)))
+  compose-lines-are = rw (slips-flat, joins-flat (joinsOf (whole usual ss)))
 
 -- what find_lines writes, over the numbers of the occurrences
 pub find-lines-are : (ss : List (List ℕ)) (t : List ℕ) →

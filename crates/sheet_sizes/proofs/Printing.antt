@@ -9,7 +9,7 @@ use lib.ListN.{length}
 use Rattle.trays.specs.Limits.{maxText}
 use Rattle.trays.specs.Slips.{slipsOf}
 use Rattle.trays.specs.Faults.{trayFault}
-use Rattle.greedy.specs.Composing.{whole, joinsOf, legendOf}
+use Rattle.greedy.specs.Composing.{usual, whole, joinsOf, legendOf}
 use Rattle.matching.specs.Moves.{moves}
 use Rattle.matching.specs.Occurrences.{occurrences}
 use Rattle.answers.specs.declared.Composed.{Composed}
@@ -28,8 +28,8 @@ module _ (s es : List ℕ) (acc : trayFault s es .number ≡ 0) where
   ss = slipsOf s es
 
   module _
-      (c : Composed) (js ps t : List ℕ) (ec : c ≡ outcomeOf (whole ss)) (ej : js ≡ flatJoins (joinsOf (whole ss))) (ep : ps ≡ flatPlaces (whole ss))
-      (et : t ≡ legendOf (whole ss))
+      (c : Composed) (js ps t : List ℕ) (ec : c ≡ outcomeOf (whole usual ss)) (ej : js ≡ flatJoins (joinsOf (whole usual ss)))
+      (ep : ps ≡ flatPlaces (whole usual ss)) (et : t ≡ legendOf (whole usual ss))
     where
       pub compose-ready : (room : ℕ) → composeRoom ≤ room → ComposeAsks c es js ps t room
       compose-ready room h = rw (ec, ej, ep, et) (compose-asks s es acc room h)

@@ -13,19 +13,15 @@ use Rattle.words.specs.Lists.{any, lastOr, tailOf}
 use Rattle.words.proofs.Tests.{by-test}
 use Rattle.words.proofs.Sums.{All}
 use Rattle.trays.specs.declared.Refusal.{Refusal}
-use Rattle.trays.specs.Limits.{maxSlips, maxSlip, maxLetters, workNeed, maxFile, endsNeed}
+use Rattle.trays.specs.Limits.{maxSlips, maxSlip, maxLetters, maxFile, endsNeed}
 use Rattle.trays.specs.Slips.{slipsOf, isLetter}
 use Rattle.trays.specs.Faults.{row, orElse, firstRow, notAbove, tooLong, badSlip, badPlace, trayRows, trayFault}
-use Rattle.trays.proofs.Rows.{or-zero, or-some, by-number, rows-append}
+use Rattle.trays.proofs.Rows.{or-zero, or-some, by-number}
 use Rattle.trays.proofs.Accepted.{slips-count}
 use Rattle.files.specs.Lines.{lf, onFirst, linesOf, isLaidOut, slipField, lengthField, letters}
 use Rattle.files.specs.Faults.{lineFault, linesFault, readFault}
-use Rattle.greedy.specs.Composing.{whole, joinsOf, legendOf}
-use Rattle.answers.specs.WorkArea.{workRow}
-use Rattle.answers.specs.Composing.{composeFault}
 use Rattle.sheets.specs.Sheets.{detailWidth}
 use Rattle.sheet_sizes.specs.Fits.{RefusalFits}
-use Rattle.sheet_sizes.proofs.Fitting.{compose-fits}
 
 pub row-fits : (n : ℕ) (b : Bool) (d : ℕ) → n < 10 ^ 2 → d < 10 ^ detailWidth → RefusalFits (row n b d)
 row-fits n true d h l = record { number-fits = h; detail-fits = l }
@@ -95,27 +91,6 @@ tray-refusal-fits s es =
         ),
       ),
     ))
-
--- and 7, 8, 9: what is needed is within the limits of an accepted tray
-pub compose-refusal-fits : (s es : List ℕ) (w l j p : ℕ) → RefusalFits (composeFault s es w l j p)
-unfolding composeFault trayFault
-compose-refusal-fits s es w l j p =
-    let ss = slipsOf s es in
-    let need = length (legendOf (whole ss)) in
-    let joins = length (joinsOf (whole ss)) in
-    let r8 = row 8 (ltb l need) need in
-    let r9 = row 9 (ltb j joins || ltb p (length ss)) joins in
-    rw (rows-append (trayRows s es) (workRow w ∷ (r8 ∷ (r9 ∷ []))))
-    (or-fits (trayFault s es) (firstRow (workRow w ∷ (r8 ∷ (r9 ∷ [])))) (tray-refusal-fits s es)
-    (λ z.
-    let F = compose-fits s es z in
-    rows-fit (workRow w ∷ (r8 ∷ (r9 ∷ []))) (
-      row-fits 7 (ltb w workNeed) 0 (omega arith) (omega arith),
-      (
-        row-fits 8 (ltb l need) need (omega arith) (omega (arith, F .legend)),
-        (row-fits 9 (ltb j joins || ltb p (length ss)) joins (omega arith) (omega (arith, F .count)), tt),
-      ),
-    )))
 
 -- rows 15 to 19: a file has at most as many lines as bytes
 lines-few : (s : List ℕ) → length (linesOf s) ≤ length s

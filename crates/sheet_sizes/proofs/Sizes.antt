@@ -18,7 +18,7 @@ use Rattle.trays.specs.Slips.{slipsOf}
 use Rattle.trays.specs.Faults.{trayFault}
 use Rattle.trays.proofs.Accepted.{slips-count, span-rises}
 use Rattle.trays.proofs.Spans.{accepted-spanned}
-use Rattle.greedy.specs.Composing.{whole, joinsOf, legendOf}
+use Rattle.greedy.specs.Composing.{usual, whole, joinsOf, legendOf}
 use Rattle.matching.specs.Moves.{moves}
 use Rattle.matching.specs.Occurrences.{occurrences}
 use Rattle.answers.specs.declared.Composed.{Composed}
@@ -111,7 +111,7 @@ module _ (s es : List ℕ) (acc : trayFault s es .number ≡ 0) where
   abbrev ss : List (List ℕ)
   ss = slipsOf s es
 
-  slips-fit : SlipsFit es (flatPlaces (whole ss))
+  slips-fit : SlipsFit es (flatPlaces (whole usual ss))
   slips-fit =
       let F = compose-fits s es acc in
       let n : length ss ≡ length es = slips-count s es in
@@ -120,14 +120,14 @@ module _ (s es : List ℕ) (acc : trayFault s es .number ≡ 0) where
         rise = λ i h. omega (arith, span-rises s es acc (suc i) (omega arith) h);
         small = λ i h. omega (arith, accepted-spanned s es acc .fits (suc i) h);
         placed = λ i h.
-            let at = places-at ss i 0 (placeCells * i) (omega arith) (omega arith) (omega arith) in
+            let at = places-at (whole usual ss) i 0 (placeCells * i) (omega arith) (omega arith) (omega arith) in
             omega (arith, at, F .places (suc i) (omega arith) (omega arith));
-        places = omega (arith, places-length ss);
+        places = omega (arith, places-length (whole usual ss));
       }
 
-  joins-fit : JoinsFit (flatJoins (joinsOf (whole ss))) (length (joinsOf (whole ss)))
+  joins-fit : JoinsFit (flatJoins (joinsOf (whole usual ss))) (length (joinsOf (whole usual ss)))
   joins-fit =
-      let js = joinsOf (whole ss) in
+      let js = joinsOf (whole usual ss) in
       let n : length (flatJoins js) ≡ 3 * length js = joins-length js in
       let a : All (λ x. x < 10 ^ 4) (flatJoins js) =
       all-each JoinFits (λ x. x < 10 ^ 4) joinNumbers
@@ -135,7 +135,7 @@ module _ (s es : List ℕ) (acc : trayFault s es .number ≡ 0) where
       record { small = λ i h. all-getD (λ x. x < 10 ^ 4) (flatJoins js) a i (omega arith); numbers = omega arith }
 
   pub compose-asks : (room : ℕ) → composeRoom ≤ room →
-      ComposeAsks (outcomeOf (whole ss)) es (flatJoins (joinsOf (whole ss))) (flatPlaces (whole ss)) (legendOf (whole ss)) room
+      ComposeAsks (outcomeOf (whole usual ss)) es (flatJoins (joinsOf (whole usual ss))) (flatPlaces (whole usual ss)) (legendOf (whole usual ss)) room
   compose-asks room h =
       let F = compose-fits s es acc in
       record {

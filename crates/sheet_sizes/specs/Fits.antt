@@ -11,7 +11,7 @@ use Rattle.trays.specs.Limits.{maxSlips, maxSlip, maxLetters, maxText}
 use Rattle.trays.specs.Slips.{slip, numbers}
 use Rattle.trays.specs.Aside.{kept}
 use Rattle.greedy.specs.Joins.{Join, saved}
-use Rattle.greedy.specs.Composing.{whole, joinsOf, legendOf, placeOf, keptLetters}
+use Rattle.greedy.specs.Composing.{usual, whole, joinsOf, legendOf, placeOf, keptLetters}
 use Rattle.matching.specs.Moves.{moves}
 use Rattle.matching.specs.Occurrences.{Occurrence, occurrences}
 use Rattle.sheets.specs.Sheets.{detailWidth}
@@ -22,13 +22,13 @@ JoinFits j = (j .left ≤ maxSlips) × (j .right ≤ maxSlips) × (j .overlap �
 pub record ComposeFits (ss : List (List ℕ)) : Type 0 where
   pub slips : length ss ≤ maxSlips
   pub kept-slips : length (kept ss (numbers ss)) ≤ maxSlips
-  pub letters : keptLetters (whole ss) ≤ maxLetters
-  pub saved-letters : saved (joinsOf (whole ss)) ≤ maxLetters
-  pub legend : length (legendOf (whole ss)) ≤ maxLetters
+  pub letters : keptLetters (whole usual ss) ≤ maxLetters
+  pub saved-letters : saved (joinsOf (whole usual ss)) ≤ maxLetters
+  pub legend : length (legendOf (whole usual ss)) ≤ maxLetters
   pub lengths : (i : ℕ) → 1 ≤ i → i ≤ length ss → length (slip ss i) ≤ maxSlip
-  pub places : (i : ℕ) → 1 ≤ i → i ≤ length ss → placeOf (whole ss) i ≤ maxLetters
-  pub joins : All JoinFits (joinsOf (whole ss))
-  pub count : length (joinsOf (whole ss)) ≤ maxSlips - 1
+  pub places : (i : ℕ) → 1 ≤ i → i ≤ length ss → placeOf (whole usual ss) i ≤ maxLetters
+  pub joins : All JoinFits (joinsOf (whole usual ss))
+  pub count : length (joinsOf (whole usual ss)) ≤ maxSlips - 1
 
 abbrev pub OccurrenceFits : Occurrence → Type 0
 OccurrenceFits f = (f .end ≤ maxText) × (f .which ≤ maxSlips)

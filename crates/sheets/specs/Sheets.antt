@@ -5,7 +5,7 @@
 --   findLine, foundLine   == the header and an occurrence's line of a `find` sheet
 --   refusedLine f         == the line of a refusal
 --   NAMESize              == the bytes of the line NAMELine, its LF included
---   composeSheetOf ss     == the `compose` sheet of the slips ss
+--   composeSheetOf ss     == the `compose` sheet of the slips ss, with the usual settings
 --   findSheetOf ss t      == the `find` sheet of the slips ss and the text t
 --   composeLines c es js ps t == a `compose` sheet from numbers: the answer c, the ends es, joins js of three numbers each, places ps of
 --                            `placeCells` numbers a slip, and the legend t
@@ -24,7 +24,7 @@ use Rattle.trays.specs.Slips.{slip, numbers, startOf, endOf}
 use Rattle.trays.specs.Aside.{isAside, kept}
 use Rattle.files.specs.Lines.{lf, blank}
 use Rattle.greedy.specs.Joins.{saved}
-use Rattle.greedy.specs.Composing.{whole, joinsOf, legendOf, placeOf, keptLetters}
+use Rattle.greedy.specs.Composing.{usual, whole, joinsOf, legendOf, placeOf, keptLetters}
 use Rattle.matching.specs.Moves.{moves}
 use Rattle.matching.specs.Occurrences.{occurrences}
 use Rattle.answers.specs.declared.Composed.{Composed}
@@ -114,14 +114,14 @@ refusedSize = 7 + 4 + detailWidth + 1
 
 -- the whole sheets, from the slips alone
 abbrev pub slipLineOf : List (List ℕ) → ℕ → List ℕ
-slipLineOf ss i = slipLine i (length (slip ss i)) (placeOf (whole ss) i) (cond (isAside ss (numbers ss) i) asideSign keptSign)
+slipLineOf ss i = slipLine i (length (slip ss i)) (placeOf (whole usual ss) i) (cond (isAside ss (numbers ss) i) asideSign keptSign)
 
 -- Then the legend and LF; for the empty tray that line is blank.
 unfoldable pub composeSheetOf : List (List ℕ) → List ℕ
 composeSheetOf ss =
-    let js = joinsOf (whole ss) in
-    let t = legendOf (whole ss) in
-    trayLine (length ss) (length (kept ss (numbers ss))) (keptLetters (whole ss)) (saved js) (length t)
+    let js = joinsOf (whole usual ss) in
+    let t = legendOf (whole usual ss) in
+    trayLine (length ss) (length (kept ss (numbers ss))) (keptLetters (whole usual ss)) (saved js) (length t)
     ++ (each (slipLineOf ss) (numbers ss) ++ (each (λ j. joinLine (j .left) (j .right) (j .overlap)) js ++ (t ++ (lf ∷ []))))
 
 unfoldable pub findSheetOf : List (List ℕ) → List ℕ → List ℕ

@@ -2,15 +2,13 @@
 --   tray-cases   == with room enough only the tray itself turns composing back
 --   SheetCounts       == joins, places and legend lie within their buffers
 --   tray-..      == the two ways through tray_sheet
--- Refusals 7, 8 and 9 are silent: the lent work area is large enough, and no accepted tray has a longer legend or more joins and slips than are
--- taken.
+-- Refusals 21, 7, 8 and 9 are silent: the least overlap is 1, the lent work area is large enough, and no accepted tray has a longer legend or more
+-- joins and slips than are taken.
 use mathlib.Core.Path.{_≡_, refl, sym, _∙_, ap}
-use mathlib.Core.Bool.{_||_}
 use mathlib.Core.List.{List, [], _∷_}
 use Prim.Native.Nat.{ℕ, zero, suc, _+_, _-_, _*_, _^_, _≤_, _<_}
 use borrow.Author.Tests.{le-ltb}
 use native.Mathlib.Omega.{arith}
-use lib.Dec.{ltb}
 use lib.ListN.{length, take, drop}
 use lib.Seq.{take-append-seam}
 use Rattle.words.specs.Lists.{over}
@@ -19,13 +17,13 @@ use Rattle.tables.specs.Tables.{table}
 use Rattle.trays.specs.declared.Refusal.{Refusal}
 use Rattle.trays.specs.Limits.{maxSlips, workNeed}
 use Rattle.trays.specs.Slips.{slipsOf}
-use Rattle.trays.specs.Faults.{refusal, accepted, row, firstRow, written, trayRows, trayFault}
+use Rattle.trays.specs.Faults.{refusal, accepted, firstRow, written, trayRows, trayFault, setRows}
 use Rattle.trays.proofs.Rows.{or-zero, or-some, rows-append}
-use Rattle.greedy.specs.Composing.{whole, joinsOf, legendOf}
+use Rattle.greedy.specs.Composing.{usual, whole, joinsOf, legendOf}
 use Rattle.layout.specs.Layout.{JOINS, PLACES}
 use Rattle.answers.specs.declared.Composed.{Composed}
 use Rattle.answers.specs.WorkArea.{workRow}
-use Rattle.answers.specs.Composing.{composeFault, composedOf, outcomeOf, refusedBy, flatJoins, placeCells, flatPlaces}
+use Rattle.answers.specs.Composing.{roomRows, composeFault, composedBy, composedOf, outcomeOf, refusedBy, flatJoins, placeCells, flatPlaces}
 use Rattle.composing.specs.steps.Composing.{Staged}
 use Rattle.sheets.specs.Sheets.{detailWidth, refusedLine, refusedSize, composeLines, composeSheetOf}
 use Rattle.sheet_lines.specs.steps.Lines.{Printed, ComposeAsks}
@@ -56,17 +54,16 @@ module _ (s es w l o : List ℕ) (room : TrayRoom w l o) where
   ss = slipsOf s es
 
   abbrev need : ℕ
-  need = length (legendOf (whole ss))
+  need = length (legendOf (whole usual ss))
 
   abbrev joins : ℕ
-  joins = length (joinsOf (whole ss))
+  joins = length (joinsOf (whole usual ss))
 
   abbrev lastRows : List Refusal
-  lastRows =
-      workRow (length w) ∷ (row 8 (ltb (length l) need) need ∷ (row 9 (ltb maxSlips joins || ltb maxSlips (length ss)) joins ∷ []))
+  lastRows = workRow (length w) ∷ roomRows (whole usual ss) (length l) maxSlips maxSlips
 
   abbrev fault : Refusal
-  fault = composeFault s es (length w) (length l) maxSlips maxSlips
+  fault = composeFault usual s es (length w) (length l) maxSlips maxSlips
 
   silent : trayFault s es .number ≡ 0 → fault ≡ accepted
   unfolding composeFault trayFault
@@ -74,16 +71,16 @@ module _ (s es w l o : List ℕ) (room : TrayRoom w l o) where
       let F = compose-fits s es z in
       let a : need ≤ length l = omega (arith, room .legend, F .legend) in
       let b : joins ≤ maxSlips = omega (arith, F .count) in
-      rows-append (trayRows s es) lastRows
+      rows-append (setRows 1 s es) lastRows
       ∙ or-zero (firstRow (trayRows s es)) (firstRow lastRows) z
       ∙ rw (le-ltb (length w) workNeed (room .work), le-ltb (length l) need a, le-ltb maxSlips joins b, le-ltb maxSlips (length ss) (F .slips))
 
   speaks : 1 ≤ trayFault s es .number → fault ≡ trayFault s es
   unfolding composeFault trayFault
-  speaks p = rows-append (trayRows s es) lastRows ∙ or-some (firstRow (trayRows s es)) (firstRow lastRows) p
+  speaks p = rows-append (setRows 1 s es) lastRows ∙ or-some (firstRow (trayRows s es)) (firstRow lastRows) p
 
-  module _ (w′ l′ : List ℕ) (r : Composed) (st : Staged s es w w′ l l′ maxSlips maxSlips r) where
-    pub tray-cases : {P : Type 0} → (trayFault s es .number ≡ 0 → r ≡ outcomeOf (whole ss) → l′ ≡ over (legendOf (whole ss)) l → P) →
+  module _ (w′ l′ : List ℕ) (r : Composed) (st : Staged usual s es w w′ l l′ maxSlips maxSlips r) where
+    pub tray-cases : {P : Type 0} → (trayFault s es .number ≡ 0 → r ≡ outcomeOf (whole usual ss) → l′ ≡ over (legendOf (whole usual ss)) l → P) →
         ((n : ℕ) → trayFault s es .number ≡ suc n → r ≡ refusedBy (trayFault s es) → P) → P
     unfolding composedOf
     tray-cases {P} good bad = go (trayFault s es .number) refl
@@ -91,9 +88,9 @@ module _ (s es w l o : List ℕ) (room : TrayRoom w l o) where
         go : (n : ℕ) → trayFault s es .number ≡ n → P
         go zero h = good h (st .answer-is ∙ rw (silent h, composedOf)) (st .legend-is ∙ rw (silent h, written))
         go (suc n) h =
-            let e : fault ≡ trayFault s es = speaks (omega arith) in
-            let q : fault .number ≡ suc n = ap (λ (f : Refusal). f .number) e ∙ h in
-            bad n h (st .answer-is ∙ rw (q, composedOf) (ap refusedBy e))
+            let turned : composedBy (trayFault s es) (whole usual ss) ≡ refusedBy (trayFault s es) =
+            ap {B = Composed} (λ (m : ℕ). elim m [ zero ↦ outcomeOf (whole usual ss) | suc k ↦ refusedBy (trayFault s es) ]) h in
+            bad n h (st .answer-is ∙ ap (λ (f : Refusal). composedBy f (whole usual ss)) (speaks (omega arith)) ∙ turned)
 
     number-of : (f : Refusal) → r ≡ refusedBy f → r .number ≡ f .number
     number-of f e = ap (λ (c : Composed). c .number) e
@@ -124,13 +121,13 @@ module _ (s es w l o : List ℕ) (room : TrayRoom w l o) where
           no : (n : ℕ) → suc n ≡ 0 → ⊥
           no n q = omega arith
 
-      answer : r ≡ outcomeOf (whole ss)
+      answer : r ≡ outcomeOf (whole usual ss)
       answer = tray-cases (λ h e t. e) (λ n h e. absurd (no n h tray))
         where
           no : (n : ℕ) → trayFault s es .number ≡ suc n → trayFault s es .number ≡ 0 → ⊥
           no n p q = omega arith
 
-      laid : l′ ≡ over (legendOf (whole ss)) l
+      laid : l′ ≡ over (legendOf (whole usual ss)) l
       laid = tray-cases (λ h e t. t) (λ n h e. absurd (no n h tray))
         where
           no : (n : ℕ) → trayFault s es .number ≡ suc n → trayFault s es .number ≡ 0 → ⊥
@@ -139,7 +136,7 @@ module _ (s es w l o : List ℕ) (room : TrayRoom w l o) where
       pub counts : SheetCounts w′ l′ r
       counts =
           let F = compose-fits s es tray in
-          let m : length l′ ≡ length l = ap length laid ∙ length-over (legendOf (whole ss)) l (omega (arith, room .legend, F .legend)) in
+          let m : length l′ ≡ length l = ap length laid ∙ length-over (legendOf (whole usual ss)) l (omega (arith, room .legend, F .legend)) in
           record {
             joins-few = rw answer (omega (arith, F .count));
             slips-few = rw answer (F .slips);
@@ -147,20 +144,20 @@ module _ (s es w l o : List ℕ) (room : TrayRoom w l o) where
             work = omega (arith, room .work, st .work-is .same);
           }
 
-      joins-here : take (JOINS + 3 * r .joins - JOINS) (drop JOINS w′) ≡ flatJoins (joinsOf (whole ss))
+      joins-here : take (JOINS + 3 * r .joins - JOINS) (drop JOINS w′) ≡ flatJoins (joinsOf (whole usual ss))
       unfolding table
       joins-here =
           let e : JOINS + 3 * r .joins - JOINS ≡ 3 * r .joins = omega arith in
           rw e (st .joins-are z)
 
-      places-here : take (PLACES + placeCells * r .slips - PLACES) (drop PLACES w′) ≡ flatPlaces (whole ss)
+      places-here : take (PLACES + placeCells * r .slips - PLACES) (drop PLACES w′) ≡ flatPlaces (whole usual ss)
       unfolding table
       places-here =
           let e : PLACES + placeCells * r .slips - PLACES ≡ placeCells * r .slips = omega arith in
           rw e (st .places-are z)
 
-      legend-here : take (r .legend) l′ ≡ legendOf (whole ss)
-      legend-here = rw (answer, laid) (take-append-seam (legendOf (whole ss)) (drop (length (legendOf (whole ss))) l))
+      legend-here : take (r .legend) l′ ≡ legendOf (whole usual ss)
+      legend-here = rw (answer, laid) (take-append-seam (legendOf (whole usual ss)) (drop (length (legendOf (whole usual ss))) l))
 
       pub legend-count : r .legend ≡ length (take (r .legend) l′)
       legend-count = rw legend-here (ap (λ (c : Composed). c .legend) answer)

@@ -5,11 +5,12 @@ ghost use Rattle.tray_sheets.specs.steps.Lent.{TrayRoom};
 use answers::PLACE_CELLS;
 use layout::JOINS;
 use layout::PLACES;
+use trays::Settings;
 
 // So many joins and places are taken: no accepted tray has more.
 const ROWS: usize = 200;
 
-// The sheet of a tray, or the line of its refusal. Answers how many bytes it has.
+// The sheet of a tray, composed with a least overlap of 1, or the line of its refusal. Answers how many bytes it has.
 pub fn tray_sheet(
     letters: &[u8],
     ends: &[u16],
@@ -20,7 +21,8 @@ pub fn tray_sheet(
     requires { ⌜ TrayRoom (now work) (now legend) (now out) ⌝ }
     ensures { λ r. ⌜ Printed (traySheet (now (letters .entry)) (now (ends .entry))) (now (out .entry)) (now (out .exit)) r ⌝ }
 {
-    let c = composing::compose_staged(letters, ends, work, legend, ROWS, ROWS);
+    let settings = Settings { least: 1 };
+    let c = composing::compose_staged(letters, ends, settings, work, legend, ROWS, ROWS);
     if c.number != 0 {
         return sheet_lines::refused_line(c.number, c.detail, out);
     }

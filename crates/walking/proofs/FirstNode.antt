@@ -13,7 +13,7 @@ use Rattle.words.specs.Lists.{those, upFrom}
 use Rattle.words.proofs.Members.{in-upFrom, those-yes, those-no}
 use Rattle.words.proofs.Picks.{those-all}
 use Rattle.trays.specs.Limits.{maxSlip}
-use Rattle.trays.specs.Aside.{counted}
+use Rattle.trays.specs.Aside.{notStops}
 use Rattle.trays.proofs.Stops.{after-counts}
 use Rattle.tables.specs.Tables.{Got}
 use Rattle.matching.specs.Nodes.{string, Num}
@@ -52,9 +52,9 @@ module _ {s es : List ℕ} {n count : ℕ} {w : List ℕ} {d end v : ℕ} (R : R
     row-first = let e : end - v ≡ suc (end - suc v) = omega arith in row-is ∙ rw e
 
     -- behind the first node all count
-    others-count : those counted others ≡ others
+    others-count : those notStops others ≡ others
     others-count =
-        those-all counted others
+        those-all notStops others
         (λ y m.
         let (u, k, e) = Memᴰ·of-map (string ps) (upFrom (suc v) (end - suc v)) m in
         let (low, high) = in-upFrom (suc v) (end - suc v) k in
@@ -78,14 +78,14 @@ module _ {s es : List ℕ} {n count : ℕ} {w : List ℕ} {d end v : ℕ} (R : R
           let start : p + 1 - d ≡ cell w OWN v + 1 - length x = omega (arith, g .is, num .1) in
           rw (size, start) (owned-letters N v (num .0))
 
-      module _ (r : Bool) (q : r ≡ counted (take (p + 1 - (p + 1 - d)) (drop (p + 1 - d) s))) where
+      module _ (r : Bool) (q : r ≡ notStops (take (p + 1 - (p + 1 - d)) (drop (p + 1 - d) s))) where
         pub first-counts : r ≡ true → CountedFrom s es n w d end v
         first-counts t =
-            let c : counted x ≡ true = rw own-is at (sym q ∙ t) in
+            let c : notStops x ≡ true = rw own-is at (sym q ∙ t) in
             let e : end - v ≡ suc (end - suc v) = omega arith in
-            record { from = omega (arith, a .is); those-are = rw (row-first, e) (those-yes counted x others c ∙ ap (λ l. x ∷ l) others-count) }
+            record { from = omega (arith, a .is); those-are = rw (row-first, e) (those-yes notStops x others c ∙ ap (λ l. x ∷ l) others-count) }
 
         pub first-skips : r ≡ false → CountedFrom s es n w d end (v + 1)
         first-skips t =
-            let c : counted x ≡ false = rw own-is at (sym q ∙ t) in
-            record { from = omega (arith, a .is); those-are = rw (row-first, add-one v) (those-no counted x others c ∙ others-count) }
+            let c : notStops x ≡ false = rw own-is at (sym q ∙ t) in
+            record { from = omega (arith, a .is); those-are = rw (row-first, add-one v) (those-no notStops x others c ∙ others-count) }

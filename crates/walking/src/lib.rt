@@ -1,4 +1,5 @@
 // The walk of the rules over the tables of the automaton in the lent work area: it makes the joins.
+ghost use Prim.Native.Nat.{_≤_};
 ghost use Rattle.greedy.specs.steps.Scans as S;
 ghost use Rattle.layout.specs.Staging.{joinsIn};
 ghost use Rattle.offers.specs.steps.Runs as R;
@@ -36,8 +37,8 @@ fn visit(
     made
 }
 
-// Of the nodes of `d` letters, up to `end`, the first that counts: the first of all or the second. They stand in byte order and the stop is the lowest sign,
-// so only the first can be of stops alone.
+// Of the nodes of `d` letters, which are enough, up to `end`, the first that counts: the first of all or the second. They stand in byte order and the stop
+// is the lowest sign, so only the first can be of stops alone.
 fn first_counted(
     letters: &[u8],
     ends: &[u16],
@@ -92,7 +93,7 @@ fn walk_row(
     made
 }
 
-// The walk: the nodes of ever fewer letters. Answers how many joins it has made.
+// The walk: the nodes of ever fewer letters, down to the least overlap. Answers how many joins it has made.
 pub fn walk(
     letters: &[u8],
     ends: &[u16],
@@ -100,22 +101,24 @@ pub fn walk(
     n: usize,
     k: usize,
     nodes: usize,
+    least: usize,
     left: &mut [u16],
     right: &mut [u16],
     overs: &mut [u16],
     first: &mut [u16],
     last: &mut [u16],
 ) -> usize
+    requires { ⌜ 1 ≤ least ⌝ }
     requires { ⌜ W.Walkable (now letters) (now ends) n k nodes (now work) ⌝ }
     requires { ⌜ W.Fresh (now left) (now right) (now overs) (now first) (now last) ⌝ }
-    ensures { λ made. ⌜ W.Walked (now (letters .entry)) (now (ends .entry)) k
+    ensures { λ made. ⌜ W.Walked least (now (letters .entry)) (now (ends .entry)) k
         (now (work .entry)) (now (work .exit)) (now (left .exit)) (now (right .exit)) (now (overs .exit)) made ⌝ }
 {
     offers::own_marks(first);
     offers::own_marks(last);
     let mut made: usize = 0;
     let mut d = trays::MAX_SLIP;
-    while 0 < d {
+    while least <= d {
         made = walk_row(
             letters,
             ends,

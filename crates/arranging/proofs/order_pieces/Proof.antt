@@ -6,10 +6,10 @@ use Rattle.arranging.proofs.order_pieces.Statement.{statement}
 use Rattle.arranging.proofs.order_pieces.Tie as tie
 
 abbrev Inv-loop : tie.InvT-loop
-Inv-loop letters ends order k pieces₀ need₀ m₀ pieces need m = Arranging letters ends order k m pieces₀ pieces need
+Inv-loop letters ends order k least pieces₀ need₀ m₀ pieces need m = Arranging least letters ends order k m pieces₀ pieces need
 
 abbrev μ-loop : tie.MeasureT-loop
-μ-loop letters ends order k pieces₀ need₀ m₀ pieces need m = k - m
+μ-loop letters ends order k least pieces₀ need₀ m₀ pieces need m = k - m
 
 loop-holds : tie.Need-loop-holds Inv-loop μ-loop
 loop-holds c = search arranging-none

@@ -1,16 +1,16 @@
-use Rattle.composing.proofs.TopSteps.{staged-tray, staged-room, build-can, staged-all}
+use Rattle.composing.proofs.TopSteps.{staged-set, staged-room, least-some, build-can, staged-all}
 use borrow.Author.Needs.{needs}
 use Rattle.composing.proofs.compose_staged.Statement.{statement}
 use Rattle.composing.proofs.compose_staged.Tie as tie
 
 returns : tie.Need-returns
-returns c = search staged-tray
+returns c = search staged-set
 
 returns-2 : tie.Need-returns-2
 returns-2 c = search staged-room
 
 compose-accepted-requires : tie.Need-compose-accepted-requires
-compose-accepted-requires c κs = search build-can
+compose-accepted-requires c κs = (search least-some, search build-can)
 
 returns-3 : tie.Need-returns-3
 returns-3 c = search staged-all

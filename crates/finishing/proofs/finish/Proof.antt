@@ -1,4 +1,5 @@
-use Rattle.finishing.proofs.LastSteps.{count-can, stage-can, small-need, outcome-can, last-legend, last-joins, last-places, write-can, last-good}
+use Rattle.finishing.proofs.LastSteps.{count-can, stage-can, joins-fit, need-fits, outcome-can, write-can}
+use Rattle.finishing.proofs.LastSteps.{ends-legend, ends-joins, ends-places, ends-good}
 use borrow.Author.Needs.{needs}
 use Rattle.finishing.proofs.finish.Statement.{statement}
 use Rattle.finishing.proofs.finish.Tie as tie
@@ -7,16 +8,16 @@ count-letters-requires : tie.Need-count-letters-requires
 count-letters-requires c κs = search count-can
 
 cast-refused : tie.Need-cast-refused
-cast-refused c = record { fits = search small-need }
+cast-refused c = record { fits = search (need-fits, joins-fit) }
 
 returns : tie.Need-returns
-returns c = search last-legend
+returns c = search ends-legend
 
 returns-2 : tie.Need-returns-2
-returns-2 c = search last-joins
+returns-2 c = search ends-joins
 
 returns-3 : tie.Need-returns-3
-returns-3 c = search last-places
+returns-3 c = search ends-places
 
 pieces-of-requires : tie.Need-pieces-of-requires
 pieces-of-requires c κs = search stage-can
@@ -37,8 +38,8 @@ start told =
 
 returns-4 : tie.Need-returns-4
 returns-4 c =
-    last-good _ _ _ _ _ _ _ _ (start c .pre) _ (search needs) _ _ _ (search needs) _ (search needs) _ _ _ (search needs) (search needs) (written c .write-out .ensures)
-    (c .outcome .ensures)
+    ends-good _ _ _ _ _ _ _ _ (start c .pre) _ (search needs) _ _ _ (search needs) _ (search needs) _ _ _ (search needs) (search needs)
+    (written c .write-out .ensures) (c .outcome .ensures)
 
 pub finish-spec : {M : Type 1} → statement M
 finish-spec = tie.close (tie.spec count-letters-requires cast-refused (λ c κs. search needs) (λ c. search needs) returns (λ c. search needs)

@@ -7,10 +7,10 @@ use Rattle.pairing.proofs.fill_pairs.Statement.{statement}
 use Rattle.pairing.proofs.fill_pairs.Tie as tie
 
 abbrev Inv-loop : tie.InvT-loop
-Inv-loop letters ends kept k table₀ a₀ table a = PairedTo letters ends kept k a 0 table₀ table
+Inv-loop letters ends kept k least table₀ a₀ table a = PairedTo least letters ends kept k a 0 table₀ table
 
 abbrev μ-loop : tie.MeasureT-loop
-μ-loop letters ends kept k table₀ a₀ table a = k - a
+μ-loop letters ends kept k least table₀ a₀ table a = k - a
 
 clear-requires : tie.Need-clear-requires Inv-loop μ-loop
 clear-requires c κs = search clear-room

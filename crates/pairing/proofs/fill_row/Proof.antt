@@ -7,10 +7,10 @@ use Rattle.pairing.proofs.fill_row.Statement.{statement}
 use Rattle.pairing.proofs.fill_row.Tie as tie
 
 abbrev Inv-loop : tie.InvT-loop
-Inv-loop letters ends kept k a table₀ left b₀ table b = PairedTo letters ends kept k a b table₀ table
+Inv-loop letters ends kept k a least table₀ left b₀ table b = PairedTo least letters ends kept k a b table₀ table
 
 abbrev μ-loop : tie.MeasureT-loop
-μ-loop letters ends kept k a table₀ left b₀ table b = k - b
+μ-loop letters ends kept k a least table₀ left b₀ table b = k - b
 
 mul-wide : tie.Need-mul-wide Inv-loop μ-loop
 mul-wide c = record { fits = search row-fits }

@@ -13,15 +13,15 @@ use Rattle.greedy.specs.Orders.{weight}
 use Rattle.groups.specs.Groups.{pairCells}
 use Rattle.pairing.specs.Pairs.{PairsAsk}
 
-pub record PairedTo (s es xs : List ℕ) (k a b : ℕ) (w w′ : List ℕ) : Type 0 where
+pub record PairedTo (least : ℕ) (s es xs : List ℕ) (k a b : ℕ) (w w′ : List ℕ) : Type 0 where
   pub same : length w′ ≡ length w
   pub pairs :
       (x y : ℕ) → y < k → (x < a) ⊎ ((x ≡ a) × (y < b))
-      → getD w′ (maxShortest * x + y) 0 ≡ weight counted (slipsOf s es) (getD xs x 0) (getD xs y 0)
+      → getD w′ (maxShortest * x + y) 0 ≡ weight (counted least) (slipsOf s es) (getD xs x 0) (getD xs y 0)
   pub start : (y : ℕ) → y < k → getD w′ (maxShortest * maxShortest + y) 0 ≡ 0
   pub small : (i : ℕ) → i < pairCells → getD w′ i 0 ≤ maxSlip
 
-pub record RowAsks (s es xs : List ℕ) (k a : ℕ) (w : List ℕ) : Type 0 where
+pub record RowAsks (least : ℕ) (s es xs : List ℕ) (k a : ℕ) (w : List ℕ) : Type 0 where
   pub asks : PairsAsk s es xs k w
   pub row : a < k
-  pub filled : PairedTo s es xs k a 0 w w
+  pub filled : PairedTo least s es xs k a 0 w w

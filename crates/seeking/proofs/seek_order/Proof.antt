@@ -13,7 +13,7 @@ name-places-requires : tie.Need-name-places-requires
 name-places-requires c κs =
     let ordered = c .before .before .before in
     let paired = ordered .before .before .before .before in
-    naming-can _ _ _ _ _ (paired .before .before .before .before .before .before .pre) _ (paired .fill-pairs .ensures) _ _ (ordered .best-order .ensures)
+    naming-can _ _ _ _ _ _ (paired .before .before .before .before .before .before .pre) _ (paired .fill-pairs .ensures) _ _ (ordered .best-order .ensures)
 
 returns : tie.Need-returns
 returns c = search order-sought

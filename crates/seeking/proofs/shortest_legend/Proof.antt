@@ -1,10 +1,10 @@
-use Rattle.seeking.proofs.TopSteps.{says-tray, says-room, build-can, says-all}
+use Rattle.seeking.proofs.TopSteps.{says-set, says-room, build-can, says-all}
 use borrow.Author.Needs.{needs}
 use Rattle.seeking.proofs.shortest_legend.Statement.{statement}
 use Rattle.seeking.proofs.shortest_legend.Tie as tie
 
 returns : tie.Need-returns
-returns c = search says-tray
+returns c = search says-set
 
 returns-2 : tie.Need-returns-2
 returns-2 c = search says-room

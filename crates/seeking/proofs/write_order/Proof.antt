@@ -22,5 +22,5 @@ returns-2 : tie.Need-returns-2
 returns-2 c = search laid-all
 
 pub write-order-spec : {M : Type 1} → statement M
-write-order-spec = tie.close (tie.spec (λ c. search needs) (λ c. search needs) order-pieces-requires cast-refused (λ c κs. search needs) returns
-    (λ c. search needs) lay-requires outcome-requires (λ c. search needs) returns-2)
+write-order-spec = tie.close (tie.spec (λ c. search needs) (λ c. search needs) (λ c. search needs) order-pieces-requires cast-refused
+    (λ c κs. search needs) returns (λ c. search needs) lay-requires outcome-requires (λ c. search needs) returns-2)

@@ -3,7 +3,7 @@
 --   outcomeBy       == the answer made of the letters needed, the count and the order
 --   KeptCopied      == the first k kept members, with 0 behind them
 --   Named           == the slips at k places
---   Sought          == the shortest order of the first k slips xs
+--   Sought least    == the shortest order of the first k slips xs, with this least overlap
 --   OrderSought     == the order is that of a tray that is accepted and has at most ten kept slips
 --   Written         == behind that, 8 or the legend
 --   Finished        == what is left of an accepted tray, in a work area that is large enough
@@ -14,14 +14,15 @@ use lib.ListN.{length, getD, take, replicate}
 use Rattle.words.specs.Lists.{over}
 use Rattle.words.specs.Members.{Asc}
 use Rattle.trays.specs.Limits.{maxShortest, workNeed}
+use Rattle.trays.specs.declared.Settings.{Settings}
 use Rattle.trays.specs.Slips.{slipsOf}
 use Rattle.trays.specs.Aside.{counted}
-use Rattle.trays.specs.Faults.{trayFault, written}
-use Rattle.greedy.specs.Composing.{whole, keptOf}
+use Rattle.trays.specs.Faults.{firstRow, trayFault, written}
+use Rattle.greedy.specs.Composing.{Composing, whole, keptOf}
 use Rattle.shortest.specs.Orders.{shortestFor, shortestOrder, shortestLegend}
 use Rattle.layout.specs.Staging.{keptIn}
 use Rattle.answers.specs.declared.Shortest.{Shortest}
-use Rattle.answers.specs.Shortest.{shortestFault, shortestOf}
+use Rattle.answers.specs.Shortest.{shortestRows, shortestBy}
 use Rattle.groups.specs.Groups.{pairCells, groupCells}
 
 abbrev pub tenOf : List ℕ → List ℕ
@@ -59,21 +60,21 @@ pub record SeekAsks (s es xs : List ℕ) (k : ℕ) (w : List ℕ) : Type 0 where
   pub rising : Asc _<_ (take k xs)
   pub room : pairCells + groupCells ≤ length w
 
-pub record Sought (s es xs : List ℕ) (k : ℕ) (w w′ r : List ℕ) : Type 0 where
+pub record Sought (least : ℕ) (s es xs : List ℕ) (k : ℕ) (w w′ r : List ℕ) : Type 0 where
   pub same : length w′ ≡ length w
-  pub order-is : r ≡ tenOf (shortestFor counted (slipsOf s es) (take k xs))
+  pub order-is : r ≡ tenOf (shortestFor (counted least) (slipsOf s es) (take k xs))
 
-pub record OrderSought (s es r : List ℕ) (k : ℕ) : Type 0 where
+pub record OrderSought (g : Settings) (s es r : List ℕ) (k : ℕ) : Type 0 where
   pub tray : trayFault s es .number ≡ 0
   pub few : k ≤ maxShortest
-  pub count-is : k ≡ length (keptOf (whole (slipsOf s es)))
-  pub order-is : r ≡ tenOf (shortestOrder (whole (slipsOf s es)))
+  pub count-is : k ≡ length (keptOf (whole g (slipsOf s es)))
+  pub order-is : r ≡ tenOf (shortestOrder (whole g (slipsOf s es)))
 
--- in any work area w that is large enough
-pub record Written (s es l l′ : List ℕ) (r : Shortest) : Type 0 where
-  pub answer-is : (w : ℕ) → workNeed ≤ w → r ≡ shortestOf s es w (length l)
-  pub legend-is : (w : ℕ) → workNeed ≤ w → l′ ≡ written (shortestFault s es w (length l)) (shortestLegend (whole (slipsOf s es))) l
+-- the rows before place C are silent
+pub record Written (c : Composing) (l l′ : List ℕ) (r : Shortest) : Type 0 where
+  pub answer-is : r ≡ shortestBy (firstRow (shortestRows c (length l))) c
+  pub legend-is : l′ ≡ written (firstRow (shortestRows c (length l))) (shortestLegend c) l
 
-pub record Finished (s es w w′ l l′ : List ℕ) (r : Shortest) : Type 0 where
+pub record Finished (c : Composing) (w w′ l l′ : List ℕ) (r : Shortest) : Type 0 where
   pub same : length w′ ≡ length w
-  pub outcome : Written s es l l′ r
+  pub outcome : Written c l l′ r

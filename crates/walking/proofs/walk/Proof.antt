@@ -1,16 +1,18 @@
--- Invariant: the nodes of more than d letters are visited: to visit the others, of ever fewer letters, makes of the joins made so far all joins of
--- the walk; the marks are those of the joins made.
+-- Invariant: the nodes of more than d letters are visited: to visit the others that count, of ever fewer letters, makes of the joins made so far all
+-- joins of the walk; the marks are those of the joins made.
 use Rattle.walking.proofs.WalkLoop.{fresh-length, Walking, walk-start, walk-asks, walk-turn, walk-end}
+use mathlib.Core.Path.{refl}
+use native.Mathlib.Omega.{arith}
 use borrow.Author.Needs.{needs}
 use Rattle.walking.proofs.walk.Statement.{statement}
 use Rattle.walking.proofs.walk.Tie as tie
 
 abbrev Inv-loop : tie.InvT-loop
-Inv-loop letters ends work₀ n k nodes left₀ right₀ overs₀ first₀ last₀ made₀ d₀ work left right overs first last made d =
-    Walking letters ends n k nodes work₀ work made d left right overs first last
+Inv-loop letters ends work₀ n k nodes least left₀ right₀ overs₀ first₀ last₀ made₀ d₀ work left right overs first last made d =
+    Walking least letters ends n k nodes work₀ work made d left right overs first last
 
 abbrev μ-loop : tie.MeasureT-loop
-μ-loop letters ends work₀ n k nodes left₀ right₀ overs₀ first₀ last₀ made₀ d₀ work left right overs first last made d =
+μ-loop letters ends work₀ n k nodes least left₀ right₀ overs₀ first₀ last₀ made₀ d₀ work left right overs first last made d =
     d
 
 loop-holds : tie.Need-loop-holds Inv-loop μ-loop
@@ -19,10 +21,13 @@ loop-holds c = search walk-start
 walk-row-requires : tie.Need-walk-row-requires Inv-loop μ-loop
 walk-row-requires c κs =
     let turn = c .before .before .before .before .before .before in
-    walk-asks (turn .before .loop .inv) (turn .loop-test .taken)
+    walk-asks (turn .before .loop .inv) (omega (arith, turn .loop-test .taken))
 
 loop-again : tie.Need-loop-again Inv-loop μ-loop
-loop-again c = search walk-turn
+loop-again c =
+    let walked = c .before .before .before .before .before .before .before .before .before .before .before .before in
+    let turn = walked .before .before .before .before .before .before .before in
+    walk-turn (turn .before .loop .inv) (omega (arith, turn .loop-test .taken)) _ (walked .walk-row .ensures) refl
 
 same-length-2 : tie.Need-same-length-2 Inv-loop μ-loop
 same-length-2 c = search fresh-length

@@ -2,7 +2,7 @@
 --   Walkable s es n k c w   == the nodes of the n members are numbered, the k kept ones known, and for each node those that begin with it and
 --                              those that properly end with it
 --   RowEnds ..              == what it asks to look for the first node of a row that counts; CountedFrom .. == what that look finds
---   Walked ..               == what the walk leaves: the joins of the plain rule
+--   Walked m ..             == what the walk leaves: the joins of the plain rule, where the least overlap is m
 use mathlib.Core.Path.{_≡_}
 use mathlib.Core.List.{List, map}
 use Prim.Native.Nat.{ℕ, suc, _-_, _≤_}
@@ -10,7 +10,7 @@ use lib.ListN.{length, replicate}
 use Rattle.words.specs.Lists.{those, upFrom}
 use Rattle.trays.specs.Limits.{maxSlips, maxSlip, maxLetters}
 use Rattle.trays.specs.Slips.{slipsOf}
-use Rattle.trays.specs.Aside.{kept, counted}
+use Rattle.trays.specs.Aside.{kept, notStops, counted}
 use Rattle.tables.specs.Tables.{Cells, Only}
 use Rattle.greedy.specs.Joins.{Join, rightOf, plainFor}
 use Rattle.greedy.specs.Walk.{walkFrom}
@@ -52,14 +52,14 @@ pub record RowEnds (s es : List ℕ) (n count : ℕ) (w : List ℕ) (d end : ℕ
   pub most : d ≤ maxSlip
   pub upto : end ≡ cell w LEVEL (suc d)
 
--- of the nodes of d letters those count that stand from v on
+-- of the nodes of d letters, if these are enough, those count that stand from v on
 pub record CountedFrom (s es : List ℕ) (n : ℕ) (w : List ℕ) (d end v : ℕ) : Type 0 where
   pub from : cell w LEVEL d ≤ v
-  pub those-are : those counted (nodesAt (patternsIn s es n w) (cell w LEVEL) d) ≡ map (string (patternsIn s es n w)) (upFrom v (end - v))
+  pub those-are : those notStops (nodesAt (patternsIn s es n w) (cell w LEVEL) d) ≡ map (string (patternsIn s es n w)) (upFrom v (end - v))
 
 abbrev pub rowWalked : List ℕ → List ℕ → ℕ → ℕ → List ℕ → ℕ → ℕ → List Join
 rowWalked s es n k w d made =
-    walkFrom (slipsOf s es) (keptIn w k) (those counted (nodesAt (patternsIn s es n w) (cell w LEVEL) d)) (joinsIn w made)
+    walkFrom (slipsOf s es) (keptIn w k) (those notStops (nodesAt (patternsIn s es n w) (cell w LEVEL) d)) (joinsIn w made)
 
 -- Rules: two lists of 200 marks, each starting as none; so the overlaps. The lists of chain ends may hold anything.
 pub record Fresh (left right overs first last : List ℕ) : Type 0 where
@@ -69,8 +69,8 @@ pub record Fresh (left right overs first last : List ℕ) : Type 0 where
   pub firsts : length first ≡ maxSlips
   pub lasts : length last ≡ maxSlips
 
-pub record Walked (s es : List ℕ) (k : ℕ) (w w′ left right overs : List ℕ) (r : ℕ) : Type 0 where
-  pub joins-are : joinsIn w′ r ≡ plainFor counted (slipsOf s es) (keptIn w k)
+pub record Walked (m : ℕ) (s es : List ℕ) (k : ℕ) (w w′ left right overs : List ℕ) (r : ℕ) : Type 0 where
+  pub joins-are : joinsIn w′ r ≡ plainFor (counted m) (slipsOf s es) (keptIn w k)
   pub neighbours : Neighbours (joinsIn w′ r) left right overs
   pub small : (i : ℕ) → rightOf i (joinsIn w′ r) ≤ maxSlips
   pub few : r ≤ k
