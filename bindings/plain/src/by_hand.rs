@@ -1,6 +1,8 @@
 //! What was worked out by hand from the rules: trays with their outcome, texts with theirs, and the sheets. The plain
 //! program and the library are both held to it.
 
+pub mod least;
+pub mod pairs;
 pub mod shortest;
 
 /// A tray and its outcome.

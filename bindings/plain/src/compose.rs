@@ -1,5 +1,5 @@
 //! Composing: every pair of slips is compared.
-use crate::tray::{overlap, Tray};
+use crate::tray::{least_fault, overlap, Tray};
 use crate::{refusal, row, unless, Refusal, WORK_CELLS};
 
 /// Two slips joined, and how many letters they share.
@@ -94,15 +94,15 @@ pub fn kept_slips(slips: &[&[u8]]) -> Vec<usize> {
     (1..=slips.len()).filter(|&i| !is_aside(slips, i - 1)).collect()
 }
 
-/// The arcs between the kept slips: longer overlap first, then smaller overlap string, then lower right slip, then lower
-/// left slip.
-fn arcs(slips: &[&[u8]], kept: &[usize]) -> Vec<Join> {
+/// The arcs between the kept slips, of at least so many letters: longer overlap first, then smaller overlap string, then
+/// lower right slip, then lower left slip.
+fn arcs(slips: &[&[u8]], kept: &[usize], least: usize) -> Vec<Join> {
     let mut all = Vec::with_capacity(kept.len() * kept.len());
     for &left in kept {
         for &right in kept {
             let overlap = match left == right {
                 true => 0,
-                false => overlap(slips[left - 1], slips[right - 1]),
+                false => overlap(slips[left - 1], slips[right - 1], least),
             };
             if overlap > 0 {
                 all.push(Join { left, right, overlap });
@@ -146,14 +146,15 @@ impl Neighbours {
     }
 }
 
-/// The plain rule over the slips of an accepted tray, and the legend.
-pub fn compose(slips: &[&[u8]]) -> Composition {
+/// The plain rule over the slips of an accepted tray, and the legend. Overlaps under `least` letters count as empty; which
+/// slips are kept does not go by it.
+pub fn compose(slips: &[&[u8]], least: usize) -> Composition {
     let kept = kept_slips(slips);
     let mut chains = Neighbours {
         left: vec![None; slips.len() + 1],
         right: vec![None; slips.len() + 1],
     };
-    let mut joins = arcs(slips, &kept);
+    let mut joins = arcs(slips, &kept, least);
     joins.retain(|arc| chains.take(arc));
     let mut shared = vec![0; slips.len() + 1];
     for join in &joins {
@@ -187,15 +188,16 @@ pub fn compose(slips: &[&[u8]]) -> Composition {
     }
 }
 
-/// What turns composing back before place C: rows 1 to 6, and 7.
-pub fn fault_before_c(tray: &Tray, work: usize) -> Option<Refusal> {
-    tray.fault().or(row(7, work < WORK_CELLS))
+/// What turns composing back before place C: row 21 first, rows 1 to 6, and 7.
+pub fn fault_before_c(tray: &Tray, least: usize, work: usize) -> Option<Refusal> {
+    let fault = least_fault(least).or_else(|| tray.fault());
+    fault.or(row(7, work < WORK_CELLS))
 }
 
-/// Composes any tray in so much room, or refuses it.
-pub fn compose_tray(tray: &Tray, rooms: Rooms) -> Result<Composition, Refusal> {
-    unless(fault_before_c(tray, rooms.work))?;
-    let made = compose(&tray.slips());
+/// Composes any tray with a least overlap in so much room, or refuses it.
+pub fn compose_tray(tray: &Tray, least: usize, rooms: Rooms) -> Result<Composition, Refusal> {
+    unless(fault_before_c(tray, least, rooms.work))?;
+    let made = compose(&tray.slips(), least);
     let (letters, joins) = (made.legend.len(), made.joins.len());
     unless((letters > rooms.legend).then_some(refusal(8, letters)))?;
     let short = joins > rooms.joins || made.places.len() > rooms.places;

@@ -22,8 +22,11 @@ pub mod shortest;
 pub mod tray;
 
 pub use limits::{
-    FILE_ENDS, MAX_FILE, MAX_LETTERS, MAX_SHORTEST, MAX_SLIP, MAX_SLIPS, MAX_TEXT, PLACE_CELLS, WORK_CELLS,
+    FILE_ENDS, MAX_FILE, MAX_LEAST, MAX_LETTERS, MAX_SHORTEST, MAX_SLIP, MAX_SLIPS, MAX_TEXT, PLACE_CELLS, WORK_CELLS,
 };
+
+/// The least overlap that the programs pass: no overlap is too short.
+pub const ONE_LETTER: usize = 1;
 
 /// The occurrences that the list of the program `find` takes.
 pub const MAX_FOUND: usize = 8_000;

@@ -4,7 +4,7 @@ use crate::file::read_tray;
 use crate::find::{find_slips, Finding};
 use crate::fold::filed;
 use crate::tray::Tray;
-use crate::{Refusal, FILE_ENDS, MAX_FILE, MAX_FOUND, MAX_LETTERS, MAX_SLIPS, WORK_CELLS};
+use crate::{Refusal, FILE_ENDS, MAX_FILE, MAX_FOUND, MAX_LETTERS, MAX_SLIPS, ONE_LETTER, WORK_CELLS};
 
 /// What a program lends suffices for every tray.
 const ROOMS: Rooms = Rooms {
@@ -46,7 +46,7 @@ pub fn compose_sheet(file: &[u8]) -> Vec<u8> {
         Ok(tray) => tray,
         Err(refusal) => return refused(refusal),
     };
-    match compose_tray(&tray, ROOMS) {
+    match compose_tray(&tray, ONE_LETTER, ROOMS) {
         Ok(made) => composed(&tray, &made),
         Err(refusal) => refused(refusal),
     }

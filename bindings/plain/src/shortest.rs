@@ -12,64 +12,73 @@ pub struct Shortest {
     pub legend: Vec<u8>,
 }
 
-/// The letters that a slip adds behind these slips, laid as one chain: those beyond the overlap with the last of them.
-fn added<'a>(slips: &[&'a [u8]], laid: &[usize], next: usize) -> &'a [u8] {
+/// The letters that a slip adds behind these slips, laid as one chain: those beyond the overlap with the last of them, which
+/// counts as empty if it has under `least` letters.
+fn added<'a>(slips: &[&'a [u8]], least: usize, laid: &[usize], next: usize) -> &'a [u8] {
     let slip = slips[next - 1];
-    let shared = laid.last().map_or(0, |&last| overlap(slips[last - 1], slip));
+    let shared = laid.last().map_or(0, |&last| overlap(slips[last - 1], slip, least));
     &slip[shared..]
 }
 
 /// The legend of the kept slips in this order, laid as one chain.
-pub fn order_legend(slips: &[&[u8]], order: &[usize]) -> Vec<u8> {
-    let parts = order.iter().enumerate().map(|(k, &i)| added(slips, &order[..k], i));
-    parts.collect::<Vec<_>>().concat()
+pub fn order_legend(slips: &[&[u8]], least: usize, order: &[usize]) -> Vec<u8> {
+    let part = |(k, &i): (usize, &usize)| added(slips, least, &order[..k], i);
+    order.iter().enumerate().map(part).collect::<Vec<_>>().concat()
 }
 
-/// The best order so far, and the letters of its legend.
-struct Best {
-    order: Vec<usize>,
+/// The slips of which orders are tried, and the best order so far with the letters of its legend.
+struct Trial<'a> {
+    slips: &'a [&'a [u8]],
+    least: usize,
+    kept: &'a [usize],
+    best: Vec<usize>,
     letters: usize,
 }
 
-/// Tries every order of the kept slips that begins with those laid, which have so many letters. The lowest slip goes first,
-/// so that orders come as lists do, the smallest first; only a shorter legend is better than the best so far.
-fn try_orders(slips: &[&[u8]], kept: &[usize], laid: &mut Vec<usize>, letters: usize, best: &mut Best) {
-    if laid.len() == kept.len() {
-        best.order.clone_from(laid);
-        best.letters = letters;
-    }
-    for &next in kept {
-        if laid.contains(&next) {
-            continue;
+impl Trial<'_> {
+    /// Tries every order of the kept slips that begins with those laid, which have so many letters. The lowest slip goes
+    /// first, so that orders come as lists do, the smallest first; only a shorter legend is better than the best so far.
+    fn orders(&mut self, laid: &mut Vec<usize>, letters: usize) {
+        if laid.len() == self.kept.len() {
+            self.best.clone_from(laid);
+            self.letters = letters;
         }
-        let longer = letters + added(slips, laid, next).len();
-        // More slips never make it shorter.
-        if longer < best.letters {
-            laid.push(next);
-            try_orders(slips, kept, laid, longer, best);
-            laid.pop();
+        for &next in self.kept {
+            if laid.contains(&next) {
+                continue;
+            }
+            let longer = letters + added(self.slips, self.least, laid, next).len();
+            // More slips never make it shorter.
+            if longer < self.letters {
+                laid.push(next);
+                self.orders(laid, longer);
+                laid.pop();
+            }
         }
     }
 }
 
 /// The order of these kept slips whose legend is shortest; of several, the order that is smallest as a list of slip numbers.
-pub fn shortest_order(slips: &[&[u8]], kept: &[usize]) -> Vec<usize> {
-    let mut best = Best {
-        order: Vec::new(),
+pub fn shortest_order(slips: &[&[u8]], least: usize, kept: &[usize]) -> Vec<usize> {
+    let mut trial = Trial {
+        slips,
+        least,
+        kept,
+        best: Vec::new(),
         letters: usize::MAX,
     };
-    try_orders(slips, kept, &mut Vec::new(), 0, &mut best);
-    best.order
+    trial.orders(&mut Vec::new(), 0);
+    trial.best
 }
 
-/// The shortest legend of any tray, with so many cells and room for so many letters, or the refusal.
-pub fn shortest_legend(tray: &Tray, work: usize, room: usize) -> Result<Shortest, Refusal> {
-    unless(fault_before_c(tray, work))?;
+/// The shortest legend of any tray with a least overlap, with so many cells and room for so many letters, or the refusal.
+pub fn shortest_legend(tray: &Tray, least: usize, work: usize, room: usize) -> Result<Shortest, Refusal> {
+    unless(fault_before_c(tray, least, work))?;
     let slips = tray.slips();
     let kept = kept_slips(&slips);
     unless(row(20, kept.len() > MAX_SHORTEST))?;
-    let order = shortest_order(&slips, &kept);
-    let legend = order_legend(&slips, &order);
+    let order = shortest_order(&slips, least, &kept);
+    let legend = order_legend(&slips, least, &order);
     unless((legend.len() > room).then_some(refusal(8, legend.len())))?;
     Ok(Shortest { order, legend })
 }

@@ -1,5 +1,5 @@
 //! Trays: letters and ends of any kind, what turns one back, its slips, and what is asked of one slip or of a pair.
-use crate::{refusal, row, unless, Refusal, MAX_LETTERS, MAX_SLIP, MAX_SLIPS, SIGNS};
+use crate::{refusal, row, unless, Refusal, MAX_LEAST, MAX_LETTERS, MAX_SLIP, MAX_SLIPS, SIGNS};
 
 /// A tray as it is lent. Slip 1 runs from the start to the first end, each other from the end before it to its own.
 #[derive(Clone, Debug, Default, PartialEq, Eq)]
@@ -20,14 +20,22 @@ pub fn longest_shared<'a>(a: &[u8], b: &'a [u8]) -> &'a [u8] {
     &b[..length]
 }
 
-/// The overlap of `a` with `b`, counted: the longest string that ends `a` and begins `b`, unless it is full stops alone.
-pub fn overlap(a: &[u8], b: &[u8]) -> usize {
+/// The overlap of `a` with `b`, counted: the longest string that ends `a` and begins `b`, unless it has under `least` letters
+/// or is full stops alone.
+pub fn overlap(a: &[u8], b: &[u8], least: usize) -> usize {
     let shared = longest_shared(a, b);
-    // No shorter string is tried: it would begin the longest one, and so be stops alone too.
-    match shared.iter().all(|&letter| letter == b'.') {
+    let too_short = shared.len() < least;
+    let stops_alone = shared.iter().all(|&letter| letter == b'.');
+    // No shorter string is tried: it would begin the longest one, and so be too short or stops alone too.
+    match too_short || stops_alone {
         true => 0,
         false => shared.len(),
     }
+}
+
+/// Row 21: a least overlap that is 0, or more than it may be.
+pub fn least_fault(least: usize) -> Option<Refusal> {
+    row(21, least == 0 || least > MAX_LEAST)
 }
 
 impl Tray {
@@ -83,12 +91,14 @@ impl Tray {
         Ok(self.slips()[i - 1])
     }
 
-    /// The overlap of slips i and j.
-    pub fn pair(&self, i: usize, j: usize) -> Result<usize, Refusal> {
+    /// The overlap of slips i and j, of which a shorter one than `least` counts as empty. Row 21 comes before those of the
+    /// tray.
+    pub fn pair(&self, i: usize, j: usize, least: usize) -> Result<usize, Refusal> {
+        unless(least_fault(least))?;
         unless(self.fault())?;
         unless(self.request_fault(&[i, j]))?;
         unless((i == j).then_some(refusal(11, i)))?;
         let slips = self.slips();
-        Ok(overlap(slips[i - 1], slips[j - 1]))
+        Ok(overlap(slips[i - 1], slips[j - 1], least))
     }
 }

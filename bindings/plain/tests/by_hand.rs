@@ -13,14 +13,14 @@ use plain::made::{valid, Chance};
 use plain::refusal;
 use plain::sheet::{compose_sheet, find_sheet};
 use plain::tray::{overlap, Tray};
-use plain::MAX_SLIP;
+use plain::{MAX_SLIP, ONE_LETTER};
 use std::collections::BTreeSet;
 
 #[test]
 fn specimen_trays() {
     for case in SPECIMENS {
         let (name, tray) = (case.name, Tray::of(case.slips));
-        let made = compose(&tray.slips());
+        let made = compose(&tray.slips(), ONE_LETTER);
         assert_eq!(made.legend, case.legend.as_bytes(), "{name}");
         let joins: Vec<_> = made.joins.iter().map(|x| (x.left, x.right, x.overlap)).collect();
         assert_eq!(joins, case.joins, "{name}");
@@ -115,8 +115,8 @@ fn lent_letters_are_not_folded() {
     assert_eq!(small.fault(), Some(refusal(6, 2)));
     let (tray, text) = (Tray::of(&["AVG", "AUG"]), b"AVGavg");
     assert_eq!(find_slips(&tray, text, 32_000, 9), Err(refusal(13, 4)));
-    assert_eq!(tray.pair(1, 2), Ok(0));
-    assert_eq!(compose(&tray.slips()).legend, b"AVGAUG");
+    assert_eq!(tray.pair(1, 2, ONE_LETTER), Ok(0));
+    assert_eq!(compose(&tray.slips(), ONE_LETTER).legend, b"AVGAUG");
 }
 
 /// The rows of the edge trays, and all bytes as signs.
@@ -127,7 +127,7 @@ fn edge_trays() {
         let told = match edges::asked(&row) {
             None => row,
             Some(asked) => {
-                let answer = Case::Ask(asked.tray, asked.left, asked.right).answer();
+                let answer = Case::Ask(asked.tray, ONE_LETTER, asked.left, asked.right).answer();
                 answer.replacen('A', &format!("{}:", asked.name), 1)
             }
         };
@@ -156,7 +156,7 @@ fn overlaps() {
         (b"A..B", b"..B", 3),
     ];
     for (a, b, n) in cases {
-        assert_eq!(overlap(a, b), n);
+        assert_eq!(overlap(a, b, ONE_LETTER), n);
     }
 }
 

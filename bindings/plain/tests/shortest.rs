@@ -6,9 +6,9 @@ use plain::find::occurrences;
 use plain::made::groups::{die_group, stretches, with_aside, FEW, FEW_AND_STOP};
 use plain::made::stops::share_stops_alone;
 use plain::made::Chance;
-use plain::refusal;
 use plain::shortest::{order_legend, shortest_legend, Shortest};
 use plain::tray::Tray;
+use plain::{refusal, ONE_LETTER};
 
 #[test]
 fn die_groups() {
@@ -19,10 +19,11 @@ fn die_groups() {
             legend: case.legend.into(),
         };
         for room in [letters, 2_000] {
-            assert_eq!(shortest_legend(&tray, 32_000, room), Ok(expected.clone()), "{name}");
+            let made = shortest_legend(&tray, ONE_LETTER, 32_000, room);
+            assert_eq!(made, Ok(expected.clone()), "{name}");
         }
         if letters > 0 {
-            let short = shortest_legend(&tray, 32_000, letters - 1);
+            let short = shortest_legend(&tray, ONE_LETTER, 32_000, letters - 1);
             assert_eq!(short, Err(refusal(8, letters)), "{name}");
         }
     }
@@ -31,20 +32,15 @@ fn die_groups() {
 #[test]
 fn the_longest_slips() {
     let case = longest();
-    let made = shortest_legend(&Tray::of(&case.slips), 32_000, 2_000).expect("ten slips");
+    let made = shortest_legend(&Tray::of(&case.slips), ONE_LETTER, 32_000, 2_000).expect("ten slips");
     assert_eq!((made.order, made.legend), (case.order, case.legend));
 }
 
 #[test]
 fn turned_back() {
     for case in all_turned() {
-        let expected = Err(refusal(case.number, case.detail));
-        assert_eq!(
-            shortest_legend(&case.tray, case.work, case.room),
-            expected,
-            "{}",
-            case.name
-        );
+        let told = shortest_legend(&case.tray, ONE_LETTER, case.work, case.room);
+        assert_eq!(told, Err(refusal(case.number, case.detail)), "{}", case.name);
     }
 }
 
@@ -61,11 +57,12 @@ fn orders(numbers: &[usize]) -> Vec<Vec<usize>> {
     numbers.iter().flat_map(begun).collect()
 }
 
-/// Every order of up to six kept slips laid, and the best by length and then as a list.
+/// Every order of up to six kept slips laid, and the best by length and then as a list; with several least overlaps.
 #[test]
 fn all_orders_laid() {
     let (mut chance, mut ties, mut stops) = (Chance::new(51), 0, 0);
     for n in 0..1_500 {
+        let least = [1, 1, 2, 3][n / 6 % 4];
         let mut all = die_group(&mut chance, [FEW, FEW_AND_STOP][n % 2], 6);
         if n % 3 == 0 {
             all = with_aside(&mut chance, all, 10);
@@ -73,9 +70,11 @@ fn all_orders_laid() {
         let tray = Tray::of(&all);
         let slips = tray.slips();
         let laid = orders(&kept_slips(&slips)).into_iter();
-        let all: Vec<_> = laid.map(|order| (order_legend(&slips, &order).len(), order)).collect();
+        let all: Vec<_> = laid
+            .map(|order| (order_legend(&slips, least, &order).len(), order))
+            .collect();
         let (letters, order) = all.iter().min().expect("there is an order");
-        let made = shortest_legend(&tray, 32_000, 2_000).expect("few kept slips");
+        let made = shortest_legend(&tray, least, 32_000, 2_000).expect("few kept slips");
         assert_eq!((made.legend.len(), &made.order), (*letters, order));
         ties += usize::from(all.iter().filter(|x| x.0 == *letters).count() > 1);
         stops += usize::from(share_stops_alone(&tray));
@@ -94,8 +93,8 @@ fn no_text_is_shorter() {
         let (text, all) = stretches(&mut chance, signs, [3, 5, 7][n / 3 % 3]);
         let tray = Tray::of(&all);
         let slips = tray.slips();
-        let composed = compose(&slips).legend.len();
-        let made = shortest_legend(&tray, 32_000, 2_000).expect("few kept slips");
+        let composed = compose(&slips, ONE_LETTER).legend.len();
+        let made = shortest_legend(&tray, ONE_LETTER, 32_000, 2_000).expect("few kept slips");
         let found = occurrences(&slips, &made.legend);
         assert!((1..=slips.len()).all(|i| found.iter().any(|x| x.slip == i)));
         let letters = made.legend.len();
@@ -121,12 +120,12 @@ fn no_text_is_shorter() {
     );
 }
 
-/// What the cases of `trials` meet.
+/// What the cases of `trials` meet that take every overlap.
 #[test]
 fn many_cases() {
     let (mut few, mut many, mut aside, mut shorter, mut short_room) = (0, 0, 0, 0, 0);
     for case in cases::all() {
-        let Case::Shortest(tray, work, room) = case else {
+        let Case::Shortest(tray, ONE_LETTER, work, room) = case else {
             continue;
         };
         if tray.fault().is_some() || work < 32_000 {
@@ -138,11 +137,9 @@ fn many_cases() {
         many += usize::from(kept.len() > 10);
         if kept.len() <= 7 {
             few += 1;
-            let need = shortest_legend(&tray, 32_000, 2_000)
-                .expect("few kept slips")
-                .legend
-                .len();
-            shorter += usize::from(need < compose(&slips).legend.len());
+            let made = shortest_legend(&tray, ONE_LETTER, 32_000, 2_000).expect("few kept slips");
+            let need = made.legend.len();
+            shorter += usize::from(need < compose(&slips, ONE_LETTER).legend.len());
             short_room += usize::from(room + 1 == need);
         }
     }

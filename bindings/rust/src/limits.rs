@@ -24,5 +24,8 @@ pub const FILE_ENDS: usize = 1_700;
 /// The most kept slips for which the shortest legend is sought (refusal 20).
 pub const MAX_SHORTEST: usize = 10;
 
+/// The most letters that a least overlap may ask for (refusal 21).
+pub const MAX_LEAST: usize = 32;
+
 /// So many numbers a place has.
 pub const PLACE_CELLS: usize = 3;

@@ -15,7 +15,7 @@ pub struct DieGroup {
     pub legend: &'static str,
 }
 
-const fn group(
+pub(super) const fn group(
     name: &'static str,
     slips: &'static [&'static str],
     order: &'static [usize],
@@ -30,7 +30,7 @@ const fn group(
 }
 
 /// A chain of eleven slips, the last of the chain first.
-const FALLING: [&str; 11] = ["KL", "JK", "IJ", "HI", "GH", "FG", "EF", "DE", "CD", "BC", "AB"];
+pub(super) const FALLING: [&str; 11] = ["KL", "JK", "IJ", "HI", "GH", "FG", "EF", "DE", "CD", "BC", "AB"];
 
 /// 200 slips: every twentieth is one of the last ten of [`FALLING`], all others stand in the last.
 const TEN_OF_MANY: [&str; 200] = {
@@ -142,7 +142,12 @@ pub struct Turned {
 }
 
 /// A name, a tray, the cells and letters lent, number and detail.
-fn turned(name: &'static str, tray: &Tray, [work, room]: [usize; 2], [number, detail]: [usize; 2]) -> Turned {
+pub(super) fn turned(
+    name: &'static str,
+    tray: &Tray,
+    [work, room]: [usize; 2],
+    [number, detail]: [usize; 2],
+) -> Turned {
     Turned {
         name,
         tray: tray.clone(),

@@ -78,7 +78,7 @@ fn list_sums(made: &Composition, rooms: [usize; 3], width: usize) -> String {
 }
 
 /// Composing with lists of numbers; with lists of records too where just so many of them are lent.
-pub fn compose(tray: &Tray, lent: &Lending) -> String {
+pub fn compose(tray: &Tray, least: usize, lent: &Lending) -> String {
     let [work, legend, joins, places] = lent.numbers;
     let rooms = Rooms {
         work,
@@ -86,8 +86,8 @@ pub fn compose(tray: &Tray, lent: &Lending) -> String {
         joins: joins / 3,
         places: places / PLACE_CELLS,
     };
-    let outcome = compose_tray(tray, rooms);
-    let fault = work_sum(compose::fault_before_c(tray, work), work);
+    let outcome = compose_tray(tray, least, rooms);
+    let fault = work_sum(compose::fault_before_c(tray, least, work), work);
     let answer = composed(&outcome, tray.ends.len());
     let made = outcome.unwrap_or_default();
     let text: String = made.legend.iter().copied().map(char::from).collect();
@@ -98,15 +98,15 @@ pub fn compose(tray: &Tray, lent: &Lending) -> String {
         told += &format!(" R{answer}{records}{fault}");
     }
     if tray.ends.len() <= SMALL {
-        told += &small(tray);
+        told += &small(tray, least);
     }
     told
 }
 
 /// The shortest legend: its letters, how many slips are laid, and ten numbers, those past the count 0.
-pub fn shortest(tray: &Tray, work: usize, room: usize) -> String {
-    let fault = work_sum(compose::fault_before_c(tray, work), work);
-    let outcome = shortest_legend(tray, work, room);
+pub fn shortest(tray: &Tray, least: usize, work: usize, room: usize) -> String {
+    let fault = work_sum(compose::fault_before_c(tray, least, work), work);
+    let outcome = shortest_legend(tray, least, work, room);
     let refused = match &outcome {
         Err(refusal) => [refusal.number, refusal.detail],
         Ok(_) => [0, 0],
@@ -122,12 +122,12 @@ pub fn shortest(tray: &Tray, work: usize, room: usize) -> String {
 }
 
 /// All slips and pairs, with the numbers 0 and one above the count.
-fn small(tray: &Tray) -> String {
+fn small(tray: &Tray, least: usize) -> String {
     let numbers = 0..=tray.ends.len() + 1;
     let (mut pairs, mut slips) = (Sum::default(), Sum::default());
     for i in numbers.clone() {
         for j in numbers.clone() {
-            pair(tray, i, j).into_iter().for_each(|x| pairs.add(x));
+            pair(tray, least, i, j).into_iter().for_each(|x| pairs.add(x));
         }
         let (answer, letters) = slip(tray, i);
         answer.into_iter().chain([letters.len()]).for_each(|x| slips.add(x));
@@ -136,8 +136,8 @@ fn small(tray: &Tray) -> String {
     format!(" P {} {}", pairs.0, slips.0)
 }
 
-fn pair(tray: &Tray, i: usize, j: usize) -> [usize; 3] {
-    match tray.pair(i, j) {
+fn pair(tray: &Tray, least: usize, i: usize, j: usize) -> [usize; 3] {
+    match tray.pair(i, j, least) {
         Ok(overlap) => [0, 0, overlap],
         Err(refusal) => [refusal.number, refusal.detail, 0],
     }
@@ -151,11 +151,12 @@ fn slip(tray: &Tray, i: usize) -> ([usize; 2], &[u8]) {
 }
 
 /// Tray check, one slip, one pair.
-pub fn ask(tray: &Tray, left: usize, right: usize) -> String {
+pub fn ask(tray: &Tray, least: usize, left: usize, right: usize) -> String {
     let fault = tray.fault().map_or([0, 0], |x| [x.number, x.detail]);
     let (answer, letters) = slip(tray, left);
     let text: String = letters.iter().copied().map(char::from).collect();
-    let (check, slip, pair) = (line(&fault), line(&answer), line(&pair(tray, left, right)));
+    let pair = pair(tray, least, left, right);
+    let (check, slip, pair) = (line(&fault), line(&answer), line(&pair));
     format!("A{check};{slip} [{text}];{pair}")
 }
 

@@ -1,15 +1,16 @@
 //! Made-up cases. Each kind has a seed of its own: later kinds are added at the end, and old ones stay as they are.
-use super::{lending, shortest, Case, Lending, WHOLE, WHOLE_LIST};
+use super::{least, lending, shortest, Case, Lending, WHOLE, WHOLE_LIST};
 use crate::compose::compose;
 use crate::find::occurrences;
 use crate::made::damage::{damaged, stored, DAMAGES};
 use crate::made::files::{damaged_file, tray_file, BLOTS};
+use crate::made::leasts::{any_least, LEASTS};
 use crate::made::stops::many_stops;
 use crate::made::texts::{damaged_text, text};
 use crate::made::typed::{many_forms, spoil, typed_slips};
 use crate::made::{near, slips, valid, Chance, Shape, SHAPES};
 use crate::tray::Tray;
-use crate::{FILE_ENDS, MAX_FILE, MAX_SLIP, PLACE_CELLS, WORK_CELLS};
+use crate::{FILE_ENDS, MAX_FILE, MAX_SLIP, ONE_LETTER, PLACE_CELLS, WORK_CELLS};
 
 /// A kind of case: what it is, its seed, how many there are, and how the n-th is made.
 struct Kind {
@@ -24,13 +25,13 @@ const KINDS: &[Kind] = &[
         name: "Small trays",
         seed: 101,
         count: 1_500,
-        make: |chance, _| Case::Compose(Tray::of(&valid(chance, 10, 20)), WHOLE),
+        make: |chance, _| whole(Tray::of(&valid(chance, 10, 20))),
     },
     Kind {
         name: "Trays of any size",
         seed: 102,
         count: 150,
-        make: |chance, _| Case::Compose(Tray::of(&valid(chance, 200, MAX_SLIP)), WHOLE),
+        make: |chance, _| whole(Tray::of(&valid(chance, 200, MAX_SLIP))),
     },
     Kind {
         name: "Full trays",
@@ -42,13 +43,13 @@ const KINDS: &[Kind] = &[
         name: "Damaged trays",
         seed: 104,
         count: 1_000,
-        make: |chance, n| Case::Compose(damaged(chance, DAMAGES[n % DAMAGES.len()], 12), WHOLE),
+        make: |chance, n| whole(damaged(chance, DAMAGES[n % DAMAGES.len()], 12)),
     },
     Kind {
         name: "Small rooms",
         seed: 105,
         count: 1_000,
-        make: small_rooms,
+        make: |chance, _| small_rooms(chance, ONE_LETTER),
     },
     Kind {
         name: "Damaged trays in small rooms",
@@ -56,7 +57,8 @@ const KINDS: &[Kind] = &[
         count: 200,
         make: |chance, n| {
             let tray = damaged(chance, DAMAGES[n % DAMAGES.len()], 10);
-            Case::Compose(tray, lending(chance.one(&[31_999, 0, WORK_CELLS]), 3, 5, 3))
+            let work = chance.one(&[31_999, 0, WORK_CELLS]);
+            Case::Compose(tray, ONE_LETTER, lending(work, 3, 5, 3))
         },
     },
     Kind {
@@ -144,7 +146,7 @@ const KINDS: &[Kind] = &[
         name: "Trays stored where a slip could have 8 letters more",
         seed: 116,
         count: 200,
-        make: |chance, n| Case::Compose(Tray::of(&stored(chance, [4, 12, 60][n % 3])), WHOLE),
+        make: |chance, n| whole(Tray::of(&stored(chance, [4, 12, 60][n % 3]))),
     },
     Kind {
         name: "Trays with many slips set aside",
@@ -156,66 +158,142 @@ const KINDS: &[Kind] = &[
         name: "Small die groups",
         seed: 118,
         count: 1_400,
-        make: |chance, _| shortest::whole(&shortest::small(chance)),
+        make: |chance, _| shortest::whole(&shortest::small(chance), ONE_LETTER),
     },
     Kind {
         name: "Small die groups with stops",
         seed: 119,
         count: 500,
-        make: |chance, _| shortest::whole(&shortest::with_stops(chance)),
+        make: |chance, _| shortest::whole(&shortest::with_stops(chance), ONE_LETTER),
     },
     Kind {
         name: "Small die groups with slips set aside",
         seed: 120,
         count: 300,
-        make: |chance, _| shortest::whole(&shortest::many_aside(chance)),
+        make: |chance, _| shortest::whole(&shortest::many_aside(chance), ONE_LETTER),
     },
     Kind {
         name: "Small die groups with slips of any length",
         seed: 121,
         count: 200,
-        make: |chance, _| shortest::whole(&valid(chance, 7, MAX_SLIP)),
+        make: |chance, _| shortest::whole(&valid(chance, 7, MAX_SLIP), ONE_LETTER),
     },
     Kind {
         name: "Small die groups in small rooms",
         seed: 122,
         count: 500,
-        make: shortest::small_room,
+        make: |chance, n| shortest::small_room(chance, n, ONE_LETTER),
     },
     Kind {
         name: "Die groups of 8 to 12 kept slips",
         seed: 123,
         count: 240,
-        make: shortest::more_kept,
+        make: |chance, n| shortest::more_kept(chance, n, ONE_LETTER),
     },
     Kind {
         name: "Damaged trays and the shortest legend",
         seed: 124,
         count: 200,
-        make: shortest::damaged_tray,
+        make: |chance, n| shortest::damaged_tray(chance, n, ONE_LETTER),
+    },
+    Kind {
+        name: "Small trays with a least overlap",
+        seed: 125,
+        count: 350,
+        make: |chance, _| least::whole(any_least(chance), &valid(chance, 10, 20)),
+    },
+    Kind {
+        name: "Neighbours that share few letters or many",
+        seed: 126,
+        count: 550,
+        make: least::neighbours,
+    },
+    Kind {
+        name: "Trays with many stops and a least overlap",
+        seed: 127,
+        count: 250,
+        make: |chance, _| least::whole(any_least(chance), &many_stops(chance, 10, 12)),
+    },
+    Kind {
+        name: "Trays of any size with a least overlap",
+        seed: 128,
+        count: 30,
+        make: least::any_size,
+    },
+    Kind {
+        name: "Small rooms with a least overlap",
+        seed: 129,
+        count: 200,
+        make: |chance, _| {
+            let least = any_least(chance);
+            small_rooms(chance, least)
+        },
+    },
+    Kind {
+        name: "Damaged trays with a least overlap",
+        seed: 130,
+        count: 60,
+        make: least::damaged_tray,
+    },
+    Kind {
+        name: "Small die groups with a least overlap",
+        seed: 131,
+        count: 400,
+        make: least::die_group,
+    },
+    Kind {
+        name: "Small die groups in small rooms with a least overlap",
+        seed: 132,
+        count: 150,
+        make: |chance, n| {
+            let least = any_least(chance);
+            shortest::small_room(chance, n, least)
+        },
+    },
+    Kind {
+        name: "Die groups of 8 to 12 kept slips with a least overlap",
+        seed: 133,
+        count: 60,
+        make: |chance, n| shortest::more_kept(chance, n, [2, 3, 5, 0][n / 3 % 4]),
+    },
+    Kind {
+        name: "Damaged trays and the shortest legend with a least overlap",
+        seed: 134,
+        count: 60,
+        make: |chance, n| shortest::damaged_tray(chance, n, LEASTS[n / DAMAGES.len()]),
+    },
+    Kind {
+        name: "Pairs with a least overlap",
+        seed: 135,
+        count: 600,
+        make: least::pair,
     },
 ];
+
+/// A tray with room for every outcome.
+fn whole(tray: Tray) -> Case {
+    Case::Compose(tray, ONE_LETTER, WHOLE)
+}
 
 /// 200 slips of 10 letters.
 fn full_tray(chance: &mut Chance, n: usize) -> Case {
     let few = [2, 3, 5, 26, 27][n / SHAPES.len() % 5];
     let signs = chance.signs(few);
-    let all = slips(SHAPES[n % SHAPES.len()], chance, 200, 10, 10, &signs);
-    Case::Compose(Tray::of(&all), WHOLE)
+    whole(Tray::of(&slips(SHAPES[n % SHAPES.len()], chance, 200, 10, 10, &signs)))
 }
 
 /// Long slips and parts of them, of few signs, so that many letters agree at places where the slip does not stand.
 fn many_aside(chance: &mut Chance, n: usize) -> Case {
     let signs = chance.signs([1, 2, 2, 3][n % 4]);
     let (count, long) = ([6, 12, 60][n % 3], chance.between(4, MAX_SLIP));
-    Case::Compose(Tray::of(&slips(Shape::Inside, chance, count, 1, long, &signs)), WHOLE)
+    whole(Tray::of(&slips(Shape::Inside, chance, count, 1, long, &signs)))
 }
 
 /// Rooms of about what the outcome needs, some of them one short.
-fn small_rooms(chance: &mut Chance, _: usize) -> Case {
+fn small_rooms(chance: &mut Chance, least: usize) -> Case {
     let all = valid(chance, 12, 15);
     let tray = Tray::of(&all);
-    let made = compose(&tray.slips());
+    let made = compose(&tray.slips(), least);
     let work = chance.one(&[WORK_CELLS, WORK_CELLS, WORK_CELLS + 7, 31_999]);
     let mut room = |need: usize| near(chance, need);
     let rooms: Lending = lending(
@@ -224,7 +302,7 @@ fn small_rooms(chance: &mut Chance, _: usize) -> Case {
         room(3 * made.joins.len()),
         room(PLACE_CELLS * all.len()),
     );
-    Case::Compose(tray, rooms)
+    Case::Compose(tray, least, rooms)
 }
 
 /// A list of about as many numbers as the occurrences need.
@@ -247,7 +325,7 @@ fn with_stops(chance: &mut Chance, n: usize) -> Case {
     let all = many_stops(chance, most, 12);
     let tray = Tray::of(&all);
     if n % 5 < 4 {
-        return Case::Compose(tray, WHOLE);
+        return whole(tray);
     }
     let letters = chance.below(60);
     Case::Find(tray, text(chance, &all, letters), WORK_CELLS, WHOLE_LIST)

@@ -3,20 +3,22 @@
 //! | line | what is asked |
 //! |---|---|
 //! | `- TEXT` | nothing: a heading, answered by itself |
-//! | `C WORK LEGEND JOINS PLACES TRAY` | composing, with so many cells, letters and numbers lent |
-//! | `L WORK LEGEND TRAY` | the shortest legend, with so many cells and letters lent |
+//! | `C LEAST WORK LEGEND JOINS PLACES TRAY` | composing, with so many cells, letters and numbers lent |
+//! | `L LEAST WORK LEGEND TRAY` | the shortest legend, with so many cells and letters lent |
 //! | `F WORK LIST TEXT TRAY` | finding, with so many cells and numbers lent |
-//! | `A LEFT RIGHT TRAY` | the tray check, the letters of slip LEFT, the overlap of LEFT and RIGHT |
+//! | `A LEAST LEFT RIGHT TRAY` | the tray check, the letters of slip LEFT, the overlap of LEFT and RIGHT |
 //! | `T LETTERS ENDS FILE` | reading a tray file, with so many letters and ends lent |
 //! | `S` | which bytes are signs |
 //!
-//! Every lent buffer is filled with a mark before the call, and behind it a sum over all its cells is told.
+//! LEAST is the least overlap. Every lent buffer is filled with a mark before the call, and behind it a sum over all its
+//! cells is told.
 use crate::tray::Tray;
-use crate::PLACE_CELLS;
+use crate::{ONE_LETTER, PLACE_CELLS};
 
 mod answers;
 mod code;
 pub mod edges;
+mod least;
 mod made_up;
 mod shortest;
 mod specimens;
@@ -63,14 +65,14 @@ impl Lending {
 pub enum Case {
     /// What follows, in words.
     Heading(String),
-    /// A tray, and how much is lent.
-    Compose(Tray, Lending),
-    /// A tray, and how many cells and letters are lent for its shortest legend.
-    Shortest(Tray, usize, usize),
+    /// A tray, the least overlap, and how much is lent.
+    Compose(Tray, usize, Lending),
+    /// A tray, the least overlap, and how many cells and letters are lent for its shortest legend.
+    Shortest(Tray, usize, usize, usize),
     /// A tray, a text, and how many cells and numbers are lent.
     Find(Tray, Vec<u8>, usize, usize),
-    /// A tray, and two slip numbers.
-    Ask(Tray, usize, usize),
+    /// A tray, the least overlap, and two slip numbers.
+    Ask(Tray, usize, usize, usize),
     /// A tray file, and how many letters and ends are lent.
     Read(Vec<u8>, usize, usize),
     /// All bytes.
@@ -81,15 +83,15 @@ impl Case {
     fn line(&self) -> String {
         match self {
             Case::Heading(text) => format!("- {text}"),
-            Case::Compose(tray, lent) => {
+            Case::Compose(tray, least, lent) => {
                 let [work, legend, joins, places] = lent.numbers;
-                format!("C {work} {legend} {joins} {places} {}", code::tray(tray))
+                format!("C {least} {work} {legend} {joins} {places} {}", code::tray(tray))
             }
-            Case::Shortest(tray, work, legend) => format!("L {work} {legend} {}", code::tray(tray)),
+            Case::Shortest(tray, least, work, legend) => format!("L {least} {work} {legend} {}", code::tray(tray)),
             Case::Find(tray, text, work, list) => {
                 format!("F {work} {list} {} {}", code::bytes(text), code::tray(tray))
             }
-            Case::Ask(tray, left, right) => format!("A {left} {right} {}", code::tray(tray)),
+            Case::Ask(tray, least, left, right) => format!("A {least} {left} {right} {}", code::tray(tray)),
             Case::Read(file, letters, ends) => format!("T {letters} {ends} {}", code::bytes(file)),
             Case::Signs => "S".to_string(),
         }
@@ -99,10 +101,10 @@ impl Case {
     pub fn answer(&self) -> String {
         match self {
             Case::Heading(_) => self.line(),
-            Case::Compose(tray, lent) => answers::compose(tray, lent),
-            Case::Shortest(tray, work, legend) => answers::shortest(tray, *work, *legend),
+            Case::Compose(tray, least, lent) => answers::compose(tray, *least, lent),
+            Case::Shortest(tray, least, work, legend) => answers::shortest(tray, *least, *work, *legend),
             Case::Find(tray, text, work, list) => answers::find(tray, text, *work, *list),
-            Case::Ask(tray, left, right) => answers::ask(tray, *left, *right),
+            Case::Ask(tray, least, left, right) => answers::ask(tray, *least, *left, *right),
             Case::Read(file, letters, ends) => answers::read(file, *letters, *ends),
             Case::Signs => answers::signs(),
         }
@@ -111,14 +113,15 @@ impl Case {
 
 /// All cases: the edge trays, the specimens, and the made-up ones.
 pub fn all() -> Vec<Case> {
-    [edge_trays(), specimens::all(), shortest::specimens(), made_up::all()].concat()
+    let specimens = [specimens::all(), shortest::specimens(), least::specimens()];
+    [edge_trays(), specimens.concat(), made_up::all()].concat()
 }
 
 fn edge_trays() -> Vec<Case> {
     let case = |row: String| match edges::asked(&row) {
         Some(asked) => vec![
             Case::Heading(asked.name),
-            Case::Ask(asked.tray, asked.left, asked.right),
+            Case::Ask(asked.tray, ONE_LETTER, asked.left, asked.right),
         ],
         None => vec![Case::Heading(row)],
     };

@@ -3,7 +3,7 @@ use super::{lending, Case, Lending, PLACES, WHOLE, WHOLE_LIST};
 use crate::by_hand::{COMPOSE, COMPOSE_FILE, SEARCHES, SPECIMENS, TYPED_FILE};
 use crate::made::files::tray_file;
 use crate::tray::Tray;
-use crate::{FILE_ENDS, MAX_FILE, MAX_SLIP, PLACE_CELLS, WORK_CELLS};
+use crate::{FILE_ENDS, MAX_FILE, MAX_SLIP, ONE_LETTER, PLACE_CELLS, WORK_CELLS};
 
 /// The places of the compose tray have so many numbers.
 const FIVE: usize = 5 * PLACE_CELLS;
@@ -134,20 +134,20 @@ pub fn all() -> Vec<Case> {
     let sample = Tray::of(COMPOSE.slips);
     let mut cases = vec![Case::Heading("Specimens".to_string())];
     for case in SPECIMENS {
-        cases.extend(named(case.name, Case::Compose(Tray::of(case.slips), WHOLE)));
+        cases.extend(named(case.name, Case::Compose(Tray::of(case.slips), ONE_LETTER, WHOLE)));
     }
     for (name, lent) in LENDINGS {
-        cases.extend(named(name, Case::Compose(sample.clone(), *lent)));
+        cases.extend(named(name, Case::Compose(sample.clone(), ONE_LETTER, *lent)));
     }
     cases.extend(named(
         "the empty tray and nothing but cells",
-        Case::Compose(Tray::default(), lending(WORK_CELLS, 0, 0, 0)),
+        Case::Compose(Tray::default(), ONE_LETTER, lending(WORK_CELLS, 0, 0, 0)),
     ));
     for (name, tray) in limits() {
-        cases.extend(named(&name, Case::Compose(tray.clone(), WHOLE)));
-        cases.push(Case::Compose(tray, lending(WORK_CELLS, 0, 600, PLACES)));
+        cases.extend(named(&name, Case::Compose(tray.clone(), ONE_LETTER, WHOLE)));
+        cases.push(Case::Compose(tray, ONE_LETTER, lending(WORK_CELLS, 0, 600, PLACES)));
     }
-    cases.extend(named("many letters compared", Case::Compose(runs(), WHOLE)));
+    cases.extend(named("many letters compared", Case::Compose(runs(), ONE_LETTER, WHOLE)));
     for case in SEARCHES {
         cases.extend(named(
             case.name,

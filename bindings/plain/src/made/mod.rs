@@ -6,6 +6,7 @@ pub mod damage;
 pub mod files;
 pub mod full;
 pub mod groups;
+pub mod leasts;
 pub mod stops;
 pub mod texts;
 pub mod typed;

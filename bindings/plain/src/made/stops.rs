@@ -2,6 +2,7 @@
 use super::{slips, within_limit, Chance, Slips, SHAPES};
 use crate::compose::compose;
 use crate::tray::{longest_shared, overlap, Tray};
+use crate::ONE_LETTER;
 
 /// Few signs, every second or third of them a stop.
 const FEW_SIGNS: [&[u8]; 4] = [b".A", b".AB", b"..AB", b"..ABCD"];
@@ -27,10 +28,10 @@ pub fn many_stops(chance: &mut Chance, most: usize, longest: usize) -> Slips {
 /// rule of stops.
 pub fn share_stops_alone(tray: &Tray) -> bool {
     let slips = tray.slips();
-    let made = compose(&slips);
+    let made = compose(&slips, ONE_LETTER);
     let all = slips.iter().zip(&made.places);
     // No two kept slips are equal.
     let kept: Vec<&[u8]> = all.filter(|(_, place)| place.kept).map(|(slip, _)| *slip).collect();
-    let stops_alone = |a: &[u8], b: &[u8]| a != b && !longest_shared(a, b).is_empty() && overlap(a, b) == 0;
+    let stops_alone = |a: &[u8], b: &[u8]| a != b && !longest_shared(a, b).is_empty() && overlap(a, b, ONE_LETTER) == 0;
     kept.iter().any(|a| kept.iter().any(|b| stops_alone(a, b)))
 }
