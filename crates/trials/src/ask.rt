@@ -18,32 +18,40 @@ fn slip(letters: &[u8], ends: &[u16], i: u32) {
     bracketed(part);
 }
 
-fn pair(letters: &[u8], ends: &[u16], i: u32, j: u32) {
-    let found = asking::pair_overlap(letters, ends, i, j);
+fn pair(letters: &[u8], ends: &[u16], i: u32, j: u32, least: u32) {
+    let found = asking::pair_overlap(letters, ends, i, j, least);
     refusal(found.number, found.detail);
     put(found.letters);
 }
 
-fn try_tray(letters: &[u8], ends: &[u16], left: u32, right: u32) {
+fn try_tray(letters: &[u8], ends: &[u16], left: u32, right: u32, least: u32) {
     io::write_all(1, b"A");
     check(letters, ends);
     io::write_all(1, b";");
     slip(letters, ends, left);
     io::write_all(1, b";");
-    pair(letters, ends, left, right);
+    pair(letters, ends, left, right, least);
 }
 
 pub fn row(line: &[u8]) {
     let mut letters = [0u8; 2300];
     let mut ends = [0u16; 300];
-    let left = table::field(line, table::start(line));
+    let least = table::field(line, table::start(line));
+    let left_at = least.at;
+    let left = table::field(line, left_at);
     let right_at = left.at;
     let right = table::field(line, right_at);
     let tray_at = right.at;
     let tray = table::tray_at(line, tray_at, &mut letters, &mut ends);
     let size = tray.letters;
     let slips = tray.ends;
-    try_tray(&letters[0..size], &ends[0..slips], left.value, right.value);
+    try_tray(
+        &letters[0..size],
+        &ends[0..slips],
+        left.value,
+        right.value,
+        least.value,
+    );
 }
 
 // Writes a byte if a tray of that one letter is accepted.

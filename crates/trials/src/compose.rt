@@ -11,6 +11,7 @@ use case_lines::sums;
 use case_lines::table;
 use case_lines::writing;
 use case_lines::writing::put;
+use trays::Settings;
 
 // The most numbers of places that are lent, and those of 200 and of two slips.
 const PLACES_ROOM: usize = 210 * PLACE_CELLS;
@@ -19,8 +20,9 @@ const ALL_PLACES: u32 = 200 * PLACE_CELLS as u32;
 
 const TWO_PLACES: u32 = 2 * PLACE_CELLS as u32;
 
-// How many cells, bytes and numbers are lent, and where the letters start in the line.
+// The least overlap, how many cells, bytes and numbers are lent, and where the letters start in the line.
 struct Rooms {
+    least: u32,
     work: u32,
     legend: u32,
     joins: u32,
@@ -37,6 +39,7 @@ fn read_rooms(line: &[u8]) -> Rooms
     let places_at = joins.at;
     let places = table::field(line, places_at);
     Rooms {
+        least: first.least,
         work: first.work,
         legend: first.legend,
         joins: joins.value,
@@ -66,12 +69,13 @@ fn lent(number: u8, legend: &[u8], joins: u32, places: u32, work: &[u16]) {
 fn flat(
     letters: &[u8],
     ends: &[u16],
+    settings: Settings,
     work: &mut [u16],
     legend: &mut [u8],
     joins: &mut [u16],
     places: &mut [u16],
 ) {
-    let a = flat::compose_flat(letters, ends, work, legend, joins, places);
+    let a = flat::compose_flat(letters, ends, settings, work, legend, joins, places);
     io::write_all(1, b"C");
     answer(a);
     let n = table::least(a.legend, legend.len());
@@ -94,9 +98,11 @@ fn try_flat(letters: &[u8], ends: &[u16], rooms: Rooms) {
     let legend_room = table::least(rooms.legend, 2100);
     let joins_room = table::least(rooms.joins, 620);
     let places_room = table::least(rooms.places, PLACES_ROOM);
+    let settings = Settings { least: rooms.least };
     flat(
         letters,
         ends,
+        settings,
         &mut work[0..work_room],
         &mut legend[0..legend_room],
         &mut joins[0..joins_room],
@@ -129,10 +135,10 @@ fn over_records(a: Composed, legend: &[u8], joins: u32, places: u32, work: &[u16
 }
 
 // Over lists of 200 records.
-fn records(letters: &[u8], ends: &[u16], work: &mut [u16], legend: &mut [u8]) {
+fn records(letters: &[u8], ends: &[u16], settings: Settings, work: &mut [u16], legend: &mut [u8]) {
     let join_list = [join_mark(); 200];
     let place_list = [place_mark(); 200];
-    let made = record_arrays::compose(letters, ends, work, legend, join_list, place_list);
+    let made = record_arrays::compose(letters, ends, settings, work, legend, join_list, place_list);
     let joins = made.joins;
     let places = made.places;
     over_records(
@@ -145,10 +151,24 @@ fn records(letters: &[u8], ends: &[u16], work: &mut [u16], legend: &mut [u8]) {
 }
 
 // Over lists of two records.
-fn two_records(letters: &[u8], ends: &[u16], work: &mut [u16], legend: &mut [u8]) {
+fn two_records(
+    letters: &[u8],
+    ends: &[u16],
+    settings: Settings,
+    work: &mut [u16],
+    legend: &mut [u8],
+) {
     let join_list = [join_mark(); 2];
     let place_list = [place_mark(); 2];
-    let made = record_arrays::compose_two(letters, ends, work, legend, join_list, place_list);
+    let made = record_arrays::compose_two(
+        letters,
+        ends,
+        settings,
+        work,
+        legend,
+        join_list,
+        place_list,
+    );
     let joins = made.joins;
     let places = made.places;
     over_records(
@@ -165,12 +185,13 @@ fn try_records(letters: &[u8], ends: &[u16], rooms: Rooms, count: u32) {
     let mut legend = [7u8; 2100];
     let work_room = table::least(rooms.work, 32100);
     let legend_room = table::least(rooms.legend, 2100);
+    let settings = Settings { least: rooms.least };
     let work_part = &mut work[0..work_room];
     let legend_part = &mut legend[0..legend_room];
     if count == 2 {
-        two_records(letters, ends, work_part, legend_part);
+        two_records(letters, ends, settings, work_part, legend_part);
     } else {
-        records(letters, ends, work_part, legend_part);
+        records(letters, ends, settings, work_part, legend_part);
     }
 }
 
@@ -196,7 +217,7 @@ fn try_tray(letters: &[u8], ends: &[u16], rooms: Rooms) {
         try_records(letters, ends, rooms, count);
     }
     if ends.len() < 13 {
-        pairs::show(letters, ends);
+        pairs::show(letters, ends, rooms.least);
     }
 }
 

@@ -1,11 +1,11 @@
 // Reads cases from standard input, a line each, and writes what the calls answer. Fields are separated by one blank; the first byte of a line is its tag:
-//     - heading                                      copied
-//     C WORK LEGEND JOINS PLACES LETTERS END END ..  composing, with so much lent
-//     L WORK LEGEND LETTERS END END ..               the shortest legend, with so much lent
-//     F WORK LIST TEXT LETTERS END END ..            finding, with so much lent
-//     A LEFT RIGHT LETTERS END END ..                the check of a tray, one slip, one pair
-//     T LETTERS ENDS FILE                            reading a tray file, with so much lent
-//     S                                              the bytes that are letters
+//     - heading                                            copied
+//     C LEAST WORK LEGEND JOINS PLACES LETTERS END END ..  composing, with a least overlap and so much lent
+//     L LEAST WORK LEGEND LETTERS END END ..               the shortest legend, with a least overlap and so much lent
+//     F WORK LIST TEXT LETTERS END END ..                  finding, with so much lent
+//     A LEAST LEFT RIGHT LETTERS END END ..                the check of a tray, one slip, one pair with a least overlap
+//     T LETTERS ENDS FILE                                  reading a tray file, with so much lent
+//     S                                                    the bytes that are letters
 // Letters, texts and files are coded: 12A is twelve times A, %0A the byte 10, and a comma an end. 12x3 among the ends is the twelve ends 3, 6, .. 36.
 // What was lent is filled with marks before a call, and its sum behind it is written.
 ghost use mathlib.Core.Path.{_≡_};

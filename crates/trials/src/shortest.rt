@@ -6,9 +6,11 @@ use case_lines::sums;
 use case_lines::table;
 use case_lines::writing;
 use case_lines::writing::put;
+use trays::Settings;
 
-// How many cells and bytes are lent, and where the line goes on.
+// The least overlap, how many cells and bytes are lent, and where the line goes on.
 pub struct Rooms {
+    pub least: u32,
     pub work: u32,
     pub legend: u32,
     pub at: usize,
@@ -17,10 +19,13 @@ pub struct Rooms {
 pub fn read_rooms(line: &[u8]) -> Rooms
     ensures { λ r. ⌜ r .at ≤ length (now (line .entry)) ⌝ }
 {
-    let work = table::field(line, table::start(line));
+    let least = table::field(line, table::start(line));
+    let work_at = least.at;
+    let work = table::field(line, work_at);
     let legend_at = work.at;
     let legend = table::field(line, legend_at);
     Rooms {
+        least: least.value,
         work: work.value,
         legend: legend.value,
         at: legend.at,
@@ -40,8 +45,8 @@ fn answer(a: Shortest) {
     }
 }
 
-fn seek(letters: &[u8], ends: &[u16], work: &mut [u16], legend: &mut [u8]) {
-    let a = seeking::shortest_legend(letters, ends, work, legend);
+fn seek(letters: &[u8], ends: &[u16], settings: Settings, work: &mut [u16], legend: &mut [u8]) {
+    let a = seeking::shortest_legend(letters, ends, settings, work, legend);
     answer(a);
     let n = table::least(a.legend, legend.len());
     writing::bracketed(&legend[0..n]);
@@ -54,9 +59,11 @@ fn try_tray(letters: &[u8], ends: &[u16], rooms: Rooms) {
     let mut legend = [7u8; 2100];
     let work_room = table::least(rooms.work, 32100);
     let legend_room = table::least(rooms.legend, 2100);
+    let settings = Settings { least: rooms.least };
     seek(
         letters,
         ends,
+        settings,
         &mut work[0..work_room],
         &mut legend[0..legend_room],
     );
