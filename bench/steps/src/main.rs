@@ -1,6 +1,6 @@
 //! `steps CALL FAMILY SLIPS TIMES`: makes the exported call `compose`, `find`, `read` or `shortest` so many times on one tray of a
 //! family, of so many slips of ten letters. `run` beside it counts the instructions of one call more.
-use kotsghane::{compose, find, read_tray, shortest, Found, Join, Place, FILE_ENDS, MAX_FILE, WORK_CELLS};
+use kotsghane::{compose, find, read_tray, shortest, Found, Join, Place, Settings, FILE_ENDS, MAX_FILE, WORK_CELLS};
 use plain::made::files::tray_file;
 use plain::made::{slips, Chance, Shape, Slips};
 use plain::tray::Tray;
@@ -54,12 +54,13 @@ fn main() {
     let (mut joins, mut places) = (vec![Join::default(); 200], vec![Place::default(); 200]);
     let mut found = vec![Found::default(); 8_000];
     let (mut read_letters, mut read_ends) = (vec![0; MAX_FILE], vec![0; FILE_ENDS]);
+    let settings = Settings::default();
     for _ in 0..number(4) {
         let (letters, ends) = (black_box(&tray.letters), black_box(&tray.ends));
         let refused = match words[1].as_str() {
-            "compose" => compose(letters, ends, &mut work, &mut legend, &mut joins, &mut places).number,
+            "compose" => compose(letters, ends, settings, &mut work, &mut legend, &mut joins, &mut places).number,
             "find" => find(letters, ends, black_box(&text), &mut work, &mut found).number,
-            "shortest" => shortest(letters, ends, &mut work, &mut legend).number,
+            "shortest" => shortest(letters, ends, settings, &mut work, &mut legend).number,
             "read" => read_tray(black_box(&file), &mut read_letters, &mut read_ends).number,
             call => panic!("no call {call}"),
         };

@@ -1,12 +1,12 @@
 //! Times the library and the plain program on the same trays and the same state of buffers: `cargo bench`.
 //! First the outcomes are compared, places included. Then the shortest legend of small die groups is timed beside composing.
-use kotsghane::{compose, shortest, Composed, Join, Place, Shortest, WORK_CELLS};
+use kotsghane::{compose, shortest, Composed, Join, Place, Settings, Shortest, WORK_CELLS};
 use plain::compose::{compose_tray, kept_slips, try_places, Rooms};
 use plain::made::full::{different, many_inside, mixed_lengths};
 use plain::made::{slips, Chance, Shape, Slips};
 use plain::shortest::shortest_legend;
 use plain::tray::Tray;
-use plain::SIGNS;
+use plain::{ONE_LETTER, SIGNS};
 use std::hint::black_box;
 use std::time::Instant;
 
@@ -80,12 +80,14 @@ impl Buffers {
     }
 
     fn ours(&mut self, tray: &Tray, places: usize) -> Composed {
+        let (letters, ends, settings) = (&tray.letters, &tray.ends, Settings::default());
         let (legend, joins, places) = (&mut self.legend, &mut self.joins, &mut self.places[..places]);
-        compose(&tray.letters, &tray.ends, &mut self.work, legend, joins, places)
+        compose(letters, ends, settings, &mut self.work, legend, joins, places)
     }
 
     fn shortest(&mut self, tray: &Tray) -> Shortest {
-        shortest(&tray.letters, &tray.ends, &mut self.work, &mut self.legend)
+        let (letters, ends, settings) = (&tray.letters, &tray.ends, Settings::default());
+        shortest(letters, ends, settings, &mut self.work, &mut self.legend)
     }
 }
 
@@ -115,7 +117,7 @@ fn compare(slips: &[Vec<u8>]) -> Timed {
     let (tray, mut outcome) = (Tray::of(slips), Buffers::new());
     let answer = outcome.ours(&tray, 200);
     assert_eq!((answer.number, answer.slips, tray.letters.len()), (0, 200, 2_000));
-    let made = compose_tray(&tray, AMPLE).expect("a tray within the limits");
+    let made = compose_tray(&tray, ONE_LETTER, AMPLE).expect("a tray within the limits");
     assert_eq!(outcome.legend[..answer.legend as usize], made.legend);
     let joins = outcome.joins[..answer.joins as usize].iter();
     assert!(joins
@@ -161,7 +163,9 @@ fn round(trays: &mut [Timed], buffers: &mut Buffers) {
         clock(&mut timed.ours, || buffers.ours(black_box(&timed.tray), 200));
     }
     for timed in trays.iter_mut() {
-        clock(&mut timed.plain, || compose_tray(black_box(&timed.tray), AMPLE));
+        clock(&mut timed.plain, || {
+            compose_tray(black_box(&timed.tray), ONE_LETTER, AMPLE)
+        });
     }
     for timed in trays.iter_mut() {
         buffers.reset();
@@ -239,7 +243,7 @@ fn seek(chance: &mut Chance, group: &Group, count: usize) -> Sought {
     }
     let mut outcome = Buffers::new();
     let answer = outcome.shortest(&tray);
-    let made = shortest_legend(&tray, WORK_CELLS, 2_000).expect("few kept slips");
+    let made = shortest_legend(&tray, ONE_LETTER, WORK_CELLS, 2_000).expect("few kept slips");
     let order = answer.order[..answer.count as usize].iter();
     assert!(order.map(|&slip| usize::from(slip)).eq(made.order));
     assert_eq!(outcome.legend[..answer.legend as usize], made.legend);

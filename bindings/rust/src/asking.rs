@@ -1,5 +1,5 @@
 //! One slip, a pair of slips, and reading a tray file.
-use crate::{Refusal, Tray, FILE_ENDS, MAX_FILE};
+use crate::{Refusal, Settings, Tray, FILE_ENDS, MAX_FILE};
 use std::ops::Range;
 
 extern "C" {
@@ -19,6 +19,7 @@ extern "C" {
         ends_len: usize,
         left: u32,
         right: u32,
+        least: u32,
         answer: *mut [u32; 3],
     );
     fn kotsghane_read_tray(
@@ -166,8 +167,22 @@ impl Tray {
     /// assert_eq!(Tray::of(&["A.", ".B"]).overlap(1, 2), Ok(0));
     /// assert_eq!(Tray::of(&["X.A", ".AB"]).overlap(1, 2), Ok(2));
     /// ```
-    #[allow(unsafe_code)]
     pub fn overlap(&self, left: u32, right: u32) -> Result<usize, Refusal> {
+        self.overlap_from(left, right, Settings::default().least)
+    }
+
+    /// The overlap as [`Tray::overlap`] has it, with a least overlap from 1 to [`MAX_LEAST`](crate::MAX_LEAST): fewer letters
+    /// count as none. Any other number is refused first (21).
+    ///
+    /// ```
+    /// use kotsghane::Tray;
+    ///
+    /// let tray = Tray::of(&["IMPCAES", "CAESAVG"]);
+    /// assert_eq!((tray.overlap_from(1, 2, 4), tray.overlap_from(1, 2, 5)), (Ok(4), Ok(0)));
+    /// assert_eq!(tray.overlap_from(2, 2, 0).unwrap_err().number, 21);
+    /// ```
+    #[allow(unsafe_code)]
+    pub fn overlap_from(&self, left: u32, right: u32, least: u32) -> Result<usize, Refusal> {
         let (letters, ends, mut answer) = (self.letters(), self.ends(), [0; 3]);
         // SAFETY: as for `read_tray`.
         unsafe {
@@ -178,6 +193,7 @@ impl Tray {
                 ends.len(),
                 left,
                 right,
+                least,
                 &mut answer,
             );
         }

@@ -5,6 +5,9 @@
 //! lend their own. [`Tray::read`] reads a tray file, [`Tray::slip`] and [`Tray::overlap`] answer for one slip and for a pair.
 //! For few kept slips [`shortest_legend`], or [`shortest`] in lent buffers, seeks the shortest legend, not a good one.
 //!
+//! One common letter joins strangers: [`compose_tray_with`] and [`shortest_legend_with`] take [`Settings`], by which a shorter
+//! overlap than the least one counts as empty, and so does [`Tray::overlap_from`].
+//!
 //! Letters are 27 signs: the capitals A to Z and the full stop. A tray file may have small letters, and U and J, which are
 //! not on the die: [`Tray::read`] files them as the die has them. No other call does.
 //!
@@ -28,17 +31,19 @@ mod asking;
 mod finding;
 mod limits;
 mod refusal;
+mod settings;
 mod shortest;
 mod tray;
 
 pub use asking::{read_tray, Read};
 pub use finding::{find, find_slips, Finding, Found, Search};
 pub use limits::{
-    FILE_ENDS, MAX_FILE, MAX_LETTERS, MAX_SHORTEST, MAX_SLIP, MAX_SLIPS, MAX_TEXT, PLACE_CELLS, WORK_CELLS,
+    FILE_ENDS, MAX_FILE, MAX_LEAST, MAX_LETTERS, MAX_SHORTEST, MAX_SLIP, MAX_SLIPS, MAX_TEXT, PLACE_CELLS, WORK_CELLS,
 };
 pub use refusal::Refusal;
-pub use shortest::{shortest, shortest_legend, Shortest, ShortestLegend};
-pub use tray::{compose_tray, Legend, Tray};
+pub use settings::Settings;
+pub use shortest::{shortest, shortest_legend, shortest_legend_with, Shortest, ShortestLegend};
+pub use tray::{compose_tray, compose_tray_with, Legend, Tray};
 
 /// Two slips joined: the right one is laid behind the left one and shares `overlap` letters with it.
 #[repr(C)]
@@ -122,6 +127,7 @@ extern "C" {
         letters_len: usize,
         ends: *const u16,
         ends_len: usize,
+        least: u32,
         work: *mut u16,
         work_len: usize,
         legend: *mut u8,
@@ -138,16 +144,18 @@ extern "C" {
 ///
 /// Slip i runs in `letters` from the end before its own to `ends[i - 1]`. On success the first part of `legend`, `joins`
 /// (in the order made) and `places` (one a slip) is the outcome, and the rest is unchanged. On a refusal all three hold
-/// what they held; `work` may differ, but not after refusals 1 to 7.
+/// what they held; `work` may differ, but not after refusals 1 to 7 and 21.
 ///
 /// ```
-/// use kotsghane::{compose, Join, Place, WORK_CELLS};
+/// use kotsghane::{compose, Join, Place, Settings, WORK_CELLS};
 ///
 /// let mut work = vec![0; WORK_CELLS];
 /// let mut legend = [b'-'; 5];
 /// let mut joins = [Join::default(); 2];
 /// let mut places = [Place::default(); 2];
-/// let answer = compose(b"ABBA", &[2, 4], &mut work, &mut legend, &mut joins, &mut places);
+/// let mut call = |settings| compose(b"ABBA", &[2, 4], settings, &mut work, &mut legend, &mut joins, &mut places);
+/// assert_eq!(call(Settings::least(0)).number, 21);
+/// let answer = call(Settings::default());
 /// assert_eq!((answer.number, answer.legend, answer.joins), (0, 3, 1));
 /// assert_eq!(&legend, b"BAB--");
 /// assert_eq!(joins[0], Join { left: 2, right: 1, overlap: 1 });
@@ -156,6 +164,7 @@ extern "C" {
 pub fn compose(
     letters: &[u8],
     ends: &[u16],
+    settings: Settings,
     work: &mut [u16],
     legend: &mut [u8],
     joins: &mut [Join],
@@ -172,6 +181,7 @@ pub fn compose(
             letters.len(),
             ends.as_ptr(),
             ends.len(),
+            settings.least,
             work.as_mut_ptr(),
             work.len(),
             legend.as_mut_ptr(),

@@ -1,5 +1,5 @@
 //! What turns a call back.
-use crate::{MAX_SHORTEST, MAX_SLIP};
+use crate::{MAX_LEAST, MAX_SHORTEST, MAX_SLIP};
 use std::error::Error;
 use std::fmt;
 
@@ -55,6 +55,7 @@ impl fmt::Display for Refusal {
                 "line {d} of the tray file states another length than its letters have"
             ),
             20 => write!(f, "the tray has over {MAX_SHORTEST} kept slips"),
+            21 => write!(f, "the least overlap is 0 or more than {MAX_LEAST}"),
             n => write!(f, "refused by {n}, detail {d}"),
         }
     }

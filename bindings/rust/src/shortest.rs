@@ -1,5 +1,5 @@
 //! The shortest legend of a small die group.
-use crate::{Refusal, Tray, MAX_SHORTEST, MAX_SLIP, WORK_CELLS};
+use crate::{Refusal, Settings, Tray, MAX_SHORTEST, MAX_SLIP, WORK_CELLS};
 use std::fmt;
 
 /// The numbers of an answer: number, detail, letters, count, and the order.
@@ -44,6 +44,7 @@ extern "C" {
         letters_len: usize,
         ends: *const u16,
         ends_len: usize,
+        least: u32,
         work: *mut u16,
         work_len: usize,
         legend: *mut u8,
@@ -57,20 +58,20 @@ extern "C" {
 /// The kept slips are laid as one chain, each behind the one before it with the overlap of the two, in the order whose
 /// legend is shortest; of several, in the order that is smallest as a list of slip numbers. On success the first part of
 /// `legend` is the outcome, and the rest is unchanged. On a refusal it holds what it held; `work` may differ, but not after
-/// refusals 1 to 7. Of refusal 8 the detail is how many letters the legend has.
+/// refusals 1 to 7 and 21. Of refusal 8 the detail is how many letters the legend has.
 ///
 /// ```
-/// use kotsghane::{shortest, WORK_CELLS};
+/// use kotsghane::{shortest, Settings, WORK_CELLS};
 ///
 /// let mut work = vec![0; WORK_CELLS];
 /// let mut legend = [b'-'; 7];
-/// let answer = shortest(b"CAABADA", &[2, 4, 7], &mut work, &mut legend);
+/// let answer = shortest(b"CAABADA", &[2, 4, 7], Settings::default(), &mut work, &mut legend);
 /// assert_eq!((answer.number, answer.legend, answer.count), (0, 5, 3));
 /// assert_eq!(answer.order, [1, 3, 2, 0, 0, 0, 0, 0, 0, 0]);
 /// assert_eq!(&legend, b"CADAB--");
 /// ```
 #[allow(unsafe_code)]
-pub fn shortest(letters: &[u8], ends: &[u16], work: &mut [u16], legend: &mut [u8]) -> Shortest {
+pub fn shortest(letters: &[u8], ends: &[u16], settings: Settings, work: &mut [u16], legend: &mut [u8]) -> Shortest {
     let mut answer = [0; NUMBERS];
     // SAFETY: every pointer comes with the length of the slice that it was taken from, and the slices outlive the call and do
     // not overlap, as Rust has it for `&mut`. The function is proved for every content and every length, keeps no pointer,
@@ -81,6 +82,7 @@ pub fn shortest(letters: &[u8], ends: &[u16], work: &mut [u16], legend: &mut [u8
             letters.len(),
             ends.as_ptr(),
             ends.len(),
+            settings.least,
             work.as_mut_ptr(),
             work.len(),
             legend.as_mut_ptr(),
@@ -106,8 +108,8 @@ impl fmt::Display for ShortestLegend {
     }
 }
 
-/// The shortest legend of a tray with at most [`MAX_SHORTEST`] kept slips, or why there is none. Refusals 7 and 8 cannot
-/// occur: the buffers are made here and large enough for any tray.
+/// The shortest legend of a tray with at most [`MAX_SHORTEST`] kept slips, or why there is none. Refusals 7, 8 and 21 cannot
+/// occur: the buffers are made here and large enough for any tray, and no overlap is too short.
 ///
 /// ```
 /// use kotsghane::{compose_tray, shortest_legend, Tray};
@@ -122,9 +124,24 @@ impl fmt::Display for ShortestLegend {
 /// assert_eq!(shortest_legend(&Tray::of(&eleven[1..])).unwrap().text, "ABCDEFGHIJK");
 /// ```
 pub fn shortest_legend(tray: &Tray) -> Result<ShortestLegend, Refusal> {
+    shortest_legend_with(tray, Settings::default())
+}
+
+/// The shortest legend by these settings, or why there is none, as [`shortest_legend`] has it. Refusal 21 may occur.
+///
+/// ```
+/// use kotsghane::{shortest_legend_with, Settings, Tray};
+///
+/// let tray = Tray::of(&["XYA", "AXY", "YZ"]);
+/// let order = |least| shortest_legend_with(&tray, Settings::least(least)).map(|made| made.order);
+/// assert_eq!(order(1), Ok(vec![1, 2, 3]));
+/// assert_eq!(order(2), Ok(vec![2, 1, 3]));
+/// assert_eq!(order(33).unwrap_err().number, 21);
+/// ```
+pub fn shortest_legend_with(tray: &Tray, settings: Settings) -> Result<ShortestLegend, Refusal> {
     let mut work = vec![0; WORK_CELLS];
     let mut letters = vec![0; MAX_SHORTEST * MAX_SLIP];
-    let answer = shortest(tray.letters(), tray.ends(), &mut work, &mut letters);
+    let answer = shortest(tray.letters(), tray.ends(), settings, &mut work, &mut letters);
     if let Some(refusal) = answer.refusal() {
         return Err(refusal);
     }

@@ -1,5 +1,5 @@
 //! Trays and legends that own their letters.
-use crate::{compose, Join, Place, Refusal, MAX_LETTERS, MAX_SLIP, MAX_SLIPS, WORK_CELLS};
+use crate::{compose, Join, Place, Refusal, Settings, MAX_LETTERS, MAX_SLIP, MAX_SLIPS, WORK_CELLS};
 use std::fmt;
 
 /// A tray: slips of letters, numbered from 1.
@@ -64,7 +64,8 @@ impl fmt::Display for Legend {
     }
 }
 
-/// Composes a tray, or says why not. Refusals 7 to 9 cannot occur: the buffers are made here and large enough for any tray.
+/// Composes a tray, or says why not. Refusals 7 to 9 and 21 cannot occur: the buffers are made here and large enough for any
+/// tray, and no overlap is too short.
 ///
 /// ```
 /// use kotsghane::{compose_tray, Tray};
@@ -73,6 +74,23 @@ impl fmt::Display for Legend {
 /// assert_eq!((legend.text.as_str(), legend.saved), ("ELEAKIKIRA", 7));
 /// ```
 pub fn compose_tray(tray: &Tray) -> Result<Legend, Refusal> {
+    compose_tray_with(tray, Settings::default())
+}
+
+/// Composes a tray by these settings, or says why not, as [`compose_tray`] does. Refusal 21 may occur.
+///
+/// ```
+/// use kotsghane::{compose_tray_with, Settings, Tray};
+///
+/// let tray = Tray::of(&["AKI", "ELE", "KIKI", "KIRA", "LEA"]);
+/// let legend = compose_tray_with(&tray, Settings::least(2)).unwrap();
+/// assert_eq!((legend.text.as_str(), legend.saved), ("AKIKIRAELEA", 6));
+///
+/// let refusal = compose_tray_with(&tray, Settings::least(33)).unwrap_err();
+/// assert_eq!((refusal.number, refusal.detail), (21, 0));
+/// assert_eq!(refusal.to_string(), "the least overlap is 0 or more than 32");
+/// ```
+pub fn compose_tray_with(tray: &Tray, settings: Settings) -> Result<Legend, Refusal> {
     let mut work = vec![0; WORK_CELLS];
     let mut letters = vec![0; tray.letters.len().min(MAX_LETTERS)];
     let mut joins = vec![Join::default(); tray.ends.len().min(MAX_SLIPS)];
@@ -80,6 +98,7 @@ pub fn compose_tray(tray: &Tray) -> Result<Legend, Refusal> {
     let answer = compose(
         &tray.letters,
         &tray.ends,
+        settings,
         &mut work,
         &mut letters,
         &mut joins,

@@ -8,7 +8,7 @@ use plain::made::files::{damaged_file, tray_file, BLOTS};
 use plain::made::stops::{many_stops, share_stops_alone};
 use plain::made::typed::{has_other_forms, many_forms, spoil, typed_slips};
 use plain::made::{valid, Chance};
-use plain::{file, tray};
+use plain::{file, tray, ONE_LETTER};
 use tally::Tally;
 
 fn refusal(plain: plain::Refusal) -> Refusal {
@@ -37,7 +37,7 @@ fn try_tray(plain: &tray::Tray, tally: &mut Tally) -> usize {
         for j in numbers.clone() {
             let told = ours.overlap(i as u32, j as u32);
             tally.count(told.err().map_or(0, |refusal| refusal.number));
-            assert_eq!(told, plain.pair(i, j).map_err(refusal));
+            assert_eq!(told, plain.pair(i, j, ONE_LETTER).map_err(refusal));
         }
     }
     numbers.count().pow(2)

@@ -1,10 +1,10 @@
 //! The limits, and how many numbers a place has, stand in other files too, for other readers. There they are the same numbers.
 use kotsghane::{
-    FILE_ENDS, MAX_FILE, MAX_LETTERS, MAX_SHORTEST, MAX_SLIP, MAX_SLIPS, MAX_TEXT, PLACE_CELLS, WORK_CELLS,
+    FILE_ENDS, MAX_FILE, MAX_LEAST, MAX_LETTERS, MAX_SHORTEST, MAX_SLIP, MAX_SLIPS, MAX_TEXT, PLACE_CELLS, WORK_CELLS,
 };
 
 /// Each with its names in the definitions and in the C header.
-const LIMITS: [(&str, &str, usize); 8] = [
+const LIMITS: [(&str, &str, usize); 9] = [
     ("maxSlips", "MAX_SLIPS", MAX_SLIPS),
     ("maxSlip", "MAX_SLIP", MAX_SLIP),
     ("maxLetters", "MAX_LETTERS", MAX_LETTERS),
@@ -13,6 +13,7 @@ const LIMITS: [(&str, &str, usize); 8] = [
     ("maxFile", "MAX_FILE", MAX_FILE),
     ("endsNeed", "FILE_ENDS", FILE_ENDS),
     ("maxShortest", "MAX_SHORTEST", MAX_SHORTEST),
+    ("maxLeast", "MAX_LEAST", MAX_LEAST),
 ];
 
 /// Each of these stands in that file of the repository, and no digit behind it.
@@ -55,4 +56,12 @@ fn the_rules_have_the_most_kept_slips() {
     let row = format!("more than {MAX_SHORTEST} kept slips");
     assert_stand("docs/RULES.md", [row.clone()]);
     assert_stand("docs/REFUSALS.md", [row]);
+}
+
+#[test]
+fn the_rules_have_the_least_overlap() {
+    let row = format!("the least overlap is 0 or more than {MAX_LEAST} |");
+    let sentence = format!("a least overlap from 1 to {MAX_LEAST}");
+    assert_stand("docs/RULES.md", [sentence, format!("| 21 | {row}")]);
+    assert_stand("docs/REFUSALS.md", [format!("| 21 | {row}")]);
 }

@@ -3,7 +3,7 @@ mod buffers;
 mod tally;
 
 use buffers::{trial, Buffers, AMPLE};
-use kotsghane::{compose_tray, Refusal, Tray, MAX_SLIP};
+use kotsghane::{compose_tray, Refusal, Settings, Tray, MAX_SLIP};
 use plain::compose::Rooms;
 use plain::made::damage::{damaged, stored, DAMAGES};
 use plain::made::stops::{many_stops, share_stops_alone};
@@ -11,10 +11,13 @@ use plain::made::{near, slips, valid, Chance, SHAPES};
 use plain::tray;
 use tally::Tally;
 
+/// No overlap is too short.
+const DEFAULT: Settings = Settings::least(1);
+
 /// One tray, first in ample buffers, then in buffers of about the length that the outcome needs.
 fn try_tray(chance: &mut Chance, tray: &tray::Tray, tally: &mut Tally) {
     let ample = Buffers::of(AMPLE, chance);
-    let (answer, _) = trial(tray, &ample);
+    let (answer, _) = trial(tray, DEFAULT, &ample);
     tally.count(answer.number);
     let rooms = Rooms {
         work: [32_000, 32_000, 32_007, 31_999][chance.below(4)],
@@ -23,7 +26,7 @@ fn try_tray(chance: &mut Chance, tray: &tray::Tray, tally: &mut Tally) {
         places: near(chance, tray.ends.len()),
     };
     let before = Buffers::of(rooms, chance);
-    let (answer, _) = trial(tray, &before);
+    let (answer, _) = trial(tray, DEFAULT, &before);
     tally.count(answer.number);
 }
 
@@ -89,7 +92,7 @@ fn stored_trays_agree() {
     let (mut chance, mut tally) = (Chance::new(11), Tally::default());
     for n in 0..2_000 {
         let all = stored(&mut chance, [4, 12, 200][n % 3]);
-        let (answer, _) = trial(&tray::Tray::of(&all), &Buffers::of(AMPLE, &mut chance));
+        let (answer, _) = trial(&tray::Tray::of(&all), DEFAULT, &Buffers::of(AMPLE, &mut chance));
         let too_long = all.iter().position(|slip| slip.len() > MAX_SLIP);
         let expected = too_long.map_or((0, 0), |i| (3, i as u32 + 1));
         assert_eq!((answer.number, answer.detail), expected);
@@ -106,7 +109,7 @@ fn each_buffer_one_short() {
         let tray = tray::Tray::of(&valid(&mut chance, 30, MAX_SLIP));
         let slips = tray.ends.len();
         let before = Buffers::of(AMPLE, &mut chance);
-        let (answer, _) = trial(&tray, &before);
+        let (answer, _) = trial(&tray, DEFAULT, &before);
         let (legend, joins) = (answer.legend as usize, answer.joins as usize);
         let exact = Rooms {
             work: 32_000,
@@ -132,7 +135,7 @@ fn each_buffer_one_short() {
         }
         for (rooms, number, detail) in cases {
             let before = Buffers::of(rooms, &mut chance);
-            let (answer, _) = trial(&tray, &before);
+            let (answer, _) = trial(&tray, DEFAULT, &before);
             assert_eq!((answer.number, answer.detail), (number, detail), "{rooms:?}");
         }
     }
@@ -150,7 +153,7 @@ fn owned_trays_agree() {
         };
         let slips = tray.ends.len();
         let before = Buffers::of(AMPLE, &mut chance);
-        let (answer, after) = trial(&tray, &before);
+        let (answer, after) = trial(&tray, DEFAULT, &before);
         match compose_tray(&Tray::from_parts(tray.letters, tray.ends)) {
             Err(refusal) => assert_eq!(Some(refusal), answer.refusal()),
             Ok(legend) => {

@@ -1,89 +1,21 @@
 //! The shortest legend: what was worked out by hand, made-up trays against the plain program, and what is claimed of it.
+mod sought;
 mod tally;
 
-use kotsghane::{compose_tray, shortest, shortest_legend, Refusal, Shortest, Tray, MAX_SHORTEST, MAX_SLIP};
+use kotsghane::{compose_tray, shortest_legend, Refusal, Settings, Tray, MAX_SLIP};
 use plain::by_hand::shortest::{all_turned, longest, DIE_GROUPS};
-use plain::compose::{fault_before_c, kept_slips};
+use plain::compose::kept_slips;
 use plain::made::damage::{damaged, DAMAGES};
 use plain::made::groups::{die_group, just_kept, stretches, with_aside, FEW, FEW_AND_STOP};
 use plain::made::stops::share_stops_alone;
 use plain::made::{near, valid, Chance};
 use plain::shortest::order_legend;
-use plain::tray;
+use plain::{tray, ONE_LETTER};
+use sought::{answer_of, call, refused, trial, Lent};
 use tally::Tally;
 
-/// What is lent besides the tray.
-#[derive(Clone, Debug, PartialEq, Eq)]
-struct Lent {
-    work: Vec<u16>,
-    legend: Vec<u8>,
-}
-
-impl Lent {
-    /// So many cells and letters, which hold anything.
-    fn of(cells: usize, letters: usize, chance: &mut Chance) -> Lent {
-        let mut number = |n: usize| chance.below(n);
-        Lent {
-            work: (0..cells).map(|_| number(1 << 16) as u16).collect(),
-            legend: (0..letters).map(|_| number(1 << 8) as u8).collect(),
-        }
-    }
-}
-
-/// The answer to a legend of so many letters with this order.
-fn answer_of(letters: usize, order: &[usize]) -> Shortest {
-    let mut numbers = [0; MAX_SHORTEST];
-    numbers.iter_mut().zip(order).for_each(|(to, &slip)| *to = slip as u16);
-    Shortest {
-        legend: letters as u32,
-        count: order.len() as u32,
-        order: numbers,
-        ..Shortest::default()
-    }
-}
-
-/// The answer that is refused, all else 0.
-fn refused(number: usize, detail: usize) -> Shortest {
-    Shortest {
-        number: number as u32,
-        detail: detail as u32,
-        ..Shortest::default()
-    }
-}
-
-/// What is expected: the answer, and the legend's buffer afterwards. A refusal leaves it as it was, and behind the outcome
-/// it is unchanged.
-fn expected(tray: &tray::Tray, before: &Lent) -> (Shortest, Vec<u8>) {
-    let mut after = before.legend.clone();
-    let answer = match plain::shortest::shortest_legend(tray, before.work.len(), before.legend.len()) {
-        Ok(made) => {
-            after[..made.legend.len()].copy_from_slice(&made.legend);
-            answer_of(made.legend.len(), &made.order)
-        }
-        Err(refusal) => refused(refusal.number, refusal.detail),
-    };
-    (answer, after)
-}
-
-/// The call in the given buffers: the answer, and what the buffers hold afterwards. Checks that the work area has as many
-/// cells as before, and the same where the call is refused before place C.
-fn call(tray: &tray::Tray, before: &Lent) -> (Shortest, Lent) {
-    let mut ours = before.clone();
-    let answer = shortest(&tray.letters, &tray.ends, &mut ours.work, &mut ours.legend);
-    assert_eq!(ours.work.len(), before.work.len());
-    let before_c = fault_before_c(tray, before.work.len()).is_some();
-    assert!(ours.work == before.work || !before_c);
-    (answer, ours)
-}
-
-/// The same, compared with what the plain program says.
-fn trial(tray: &tray::Tray, before: &Lent) -> Shortest {
-    let (answer, ours) = call(tray, before);
-    let (wanted, after) = expected(tray, before);
-    assert_eq!(answer, wanted);
-    assert_eq!(ours.legend, after);
-    answer
-}
+/// No overlap is too short.
+const DEFAULT: Settings = Settings::least(1);
 
 #[test]
 fn die_groups() {
@@ -97,14 +29,14 @@ fn die_groups() {
         let tray = tray::Tray::of(case.slips);
         for (cells, room) in [(32_000, letters), (32_100, letters + 9)] {
             let before = Lent::of(cells, room, &mut chance);
-            let (answer, after) = call(&tray, &before);
+            let (answer, after) = call(&tray, DEFAULT, &before);
             assert_eq!(answer, answer_of(letters, case.order), "{name}");
             assert_eq!(&after.legend[..letters], case.legend.as_bytes(), "{name}");
             assert_eq!(after.legend[letters..], before.legend[letters..], "{name}");
         }
         if letters > 0 {
             let before = Lent::of(32_000, letters - 1, &mut chance);
-            let (answer, after) = call(&tray, &before);
+            let (answer, after) = call(&tray, DEFAULT, &before);
             assert_eq!((answer, after.legend), (refused(8, letters), before.legend), "{name}");
         }
     }
@@ -124,7 +56,7 @@ fn turned_back() {
     for case in all_turned() {
         let name = case.name;
         let before = Lent::of(case.work, case.room, &mut chance);
-        let (answer, after) = call(&case.tray, &before);
+        let (answer, after) = call(&case.tray, DEFAULT, &before);
         assert_eq!(answer, refused(case.number, case.detail), "{name}");
         assert_eq!(after.legend, before.legend, "{name}");
         assert!(after.work == before.work || case.number > 7, "{name}");
@@ -133,11 +65,11 @@ fn turned_back() {
 
 /// One tray, first in ample buffers, then in buffers of about the length that the legend needs.
 fn try_tray(chance: &mut Chance, tray: &tray::Tray, tally: &mut Tally) {
-    let answer = trial(tray, &Lent::of(32_000, 2_000, chance));
+    let answer = trial(tray, DEFAULT, &Lent::of(32_000, 2_000, chance));
     tally.count(answer.number);
     let cells = [32_000, 32_000, 32_007, 31_999][chance.below(4)];
     let room = near(chance, answer.legend as usize);
-    let answer = trial(tray, &Lent::of(cells, room, chance));
+    let answer = trial(tray, DEFAULT, &Lent::of(cells, room, chance));
     tally.count(answer.number);
 }
 
@@ -177,7 +109,7 @@ fn groups_of_8_to_12_kept_slips_agree() {
         if n % 4 == 0 {
             all = with_aside(&mut chance, all, 150);
         }
-        let answer = trial(&tray::Tray::of(&all), &Lent::of(32_000, 2_000, &mut chance));
+        let answer = trial(&tray::Tray::of(&all), DEFAULT, &Lent::of(32_000, 2_000, &mut chance));
         assert_eq!(answer.number, if kept > 10 { 20 } else { 0 });
         tally.count(answer.number);
     }
@@ -201,7 +133,7 @@ fn each_buffer_one_short() {
     for n in 0..400 {
         let sets = [FEW, FEW_AND_STOP][n % 2];
         let tray = tray::Tray::of(&die_group(&mut chance, sets, 7));
-        let (whole, _) = call(&tray, &Lent::of(32_000, 2_000, &mut chance));
+        let (whole, _) = call(&tray, DEFAULT, &Lent::of(32_000, 2_000, &mut chance));
         let letters = whole.legend as usize;
         let cases = [
             (32_000, letters, whole),
@@ -210,7 +142,7 @@ fn each_buffer_one_short() {
             (31_999, letters - 1, refused(7, 0)),
         ];
         for (cells, room, wanted) in cases {
-            let answer = trial(&tray, &Lent::of(cells, room, &mut chance));
+            let answer = trial(&tray, DEFAULT, &Lent::of(cells, room, &mut chance));
             assert_eq!(answer, wanted, "{cells} cells, room for {room} letters");
         }
     }
@@ -226,7 +158,7 @@ fn owned_trays_agree() {
             1 => tray::Tray::of(&valid(&mut chance, 40, MAX_SLIP)),
             _ => tray::Tray::of(&die_group(&mut chance, FEW, 10)),
         };
-        let (answer, after) = call(&tray, &Lent::of(32_000, 2_000, &mut chance));
+        let (answer, after) = call(&tray, DEFAULT, &Lent::of(32_000, 2_000, &mut chance));
         tally.count(answer.number);
         match shortest_legend(&Tray::from_parts(tray.letters, tray.ends)) {
             Err(refusal) => assert_eq!(Some(refusal), answer.refusal()),
@@ -307,15 +239,15 @@ fn other_orders_of_ten_kept_slips() {
         let sets = [FEW, FEW_AND_STOP][n % 2];
         let tray = tray::Tray::of(&just_kept(&mut chance, sets, 10));
         let slips = tray.slips();
-        let (answer, after) = call(&tray, &Lent::of(32_000, 2_000, &mut chance));
+        let (answer, after) = call(&tray, DEFAULT, &Lent::of(32_000, 2_000, &mut chance));
         let order: Vec<usize> = answer.order.iter().map(|&slip| slip.into()).collect();
         let mut ascending = order.clone();
         ascending.sort_unstable();
         assert_eq!((answer.number, ascending), (0, kept_slips(&slips)));
         let best = (answer.legend as usize, &order);
-        assert_eq!(after.legend[..best.0], order_legend(&slips, &order));
+        assert_eq!(after.legend[..best.0], order_legend(&slips, ONE_LETTER, &order));
         for other in others(&mut chance, &order) {
-            let letters = order_legend(&slips, &other).len();
+            let letters = order_legend(&slips, ONE_LETTER, &other).len();
             assert!(best <= (letters, &other), "{other:?} has {letters} letters");
             ties += usize::from(letters == best.0 && other != order);
         }

@@ -2,11 +2,14 @@
 mod buffers;
 
 use buffers::{join, place, trial, Buffers, AMPLE};
-use kotsghane::{compose_tray, Join, Place, Refusal, Tray, MAX_SLIP};
+use kotsghane::{compose_tray, Join, Place, Refusal, Settings, Tray, MAX_SLIP};
 use plain::by_hand::{COMPOSE, SPECIMENS};
 use plain::compose::Rooms;
 use plain::made::Chance;
 use plain::tray;
+
+/// No overlap is too short.
+const DEFAULT: Settings = Settings::least(1);
 
 fn record(&(left, right, overlap): &(usize, usize, usize)) -> Join {
     join(&plain::compose::Join { left, right, overlap })
@@ -33,7 +36,7 @@ fn specimen_trays() {
         assert_eq!(legend.places, places, "{name}");
         assert_eq!(legend.kept, places.iter().filter(|p| p.is_kept()).count(), "{name}");
         assert_eq!(legend.kept_letters, legend.saved + case.legend.len(), "{name}");
-        trial(&tray::Tray::of(case.slips), &Buffers::of(AMPLE, &mut chance));
+        trial(&tray::Tray::of(case.slips), DEFAULT, &Buffers::of(AMPLE, &mut chance));
     }
 }
 
@@ -91,7 +94,7 @@ fn buffers_of_the_compose_tray() {
             places,
         };
         let before = Buffers::of(rooms, &mut chance);
-        let (answer, after) = trial(&tray, &before);
+        let (answer, after) = trial(&tray, DEFAULT, &before);
         assert_eq!((answer.number, answer.detail), (case.number, case.detail), "{name}");
         let mut expected = before.clone();
         if case.number == 0 {
@@ -203,10 +206,10 @@ fn edge_trays() {
     for case in edges() {
         let name = case.name;
         let before = Buffers::of(AMPLE, &mut chance);
-        let (answer, _) = trial(&case.tray, &before);
+        let (answer, _) = trial(&case.tray, DEFAULT, &before);
         assert_eq!((answer.number, answer.detail), (case.number, case.detail), "{name}");
         let short = Buffers::of(Rooms { work: 31_999, ..AMPLE }, &mut chance);
-        let (answer, _) = trial(&case.tray, &short);
+        let (answer, _) = trial(&case.tray, DEFAULT, &short);
         let expected = if case.number == 0 { 7 } else { case.number };
         assert_eq!(answer.number, expected, "{name}, work area of 31,999");
     }
@@ -215,7 +218,7 @@ fn edge_trays() {
 #[test]
 fn every_refusal_has_its_own_text() {
     let text = |number| Refusal { number, detail: 77 }.to_string();
-    let texts: Vec<String> = (1..=20).map(text).collect();
+    let texts: Vec<String> = (1..=21).map(text).collect();
     let with_detail = [2, 3, 6, 8, 9, 10, 11, 13, 14, 17, 18, 19];
     for (i, text) in texts.iter().enumerate() {
         assert_eq!(text.contains("77"), with_detail.contains(&(i + 1)), "{text}");

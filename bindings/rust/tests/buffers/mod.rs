@@ -1,5 +1,5 @@
 //! Lent buffers, and one trial: the library and the plain program on the same tray and the same state of buffers.
-use kotsghane::{compose, Composed, Join, Place};
+use kotsghane::{compose, Composed, Join, Place, Settings};
 use plain::compose::{compose_tray, fault_before_c, Composition, Rooms};
 use plain::made::Chance;
 use plain::tray::Tray;
@@ -99,9 +99,9 @@ pub fn counts(made: &Composition) -> Composed {
 
 /// What is expected of a tray in these buffers: the answer, and what they hold afterwards but for the work area. A refusal
 /// leaves them as they were, and behind the outcome each is unchanged.
-fn expected(tray: &Tray, before: &Buffers) -> (Composed, Buffers) {
+fn expected(tray: &Tray, settings: Settings, before: &Buffers) -> (Composed, Buffers) {
     let mut after = before.clone();
-    let answer = match compose_tray(tray, before.rooms()) {
+    let answer = match compose_tray(tray, settings.least as usize, before.rooms()) {
         Ok(made) => {
             after.write(&made);
             counts(&made)
@@ -117,23 +117,24 @@ fn expected(tray: &Tray, before: &Buffers) -> (Composed, Buffers) {
 
 /// One trial in the given buffers: the answer, and what the buffers hold afterwards. Checks that both are what the plain
 /// program says; the work area is unchanged where the call is refused before place C.
-pub fn trial(tray: &Tray, before: &Buffers) -> (Composed, Buffers) {
+pub fn trial(tray: &Tray, settings: Settings, before: &Buffers) -> (Composed, Buffers) {
     let mut ours = before.clone();
     let answer = compose(
         &tray.letters,
         &tray.ends,
+        settings,
         &mut ours.work,
         &mut ours.legend,
         &mut ours.joins,
         &mut ours.places,
     );
-    let (wanted, after) = expected(tray, before);
+    let (wanted, after) = expected(tray, settings, before);
     assert_eq!(answer, wanted);
     assert_eq!(ours.legend, after.legend);
     assert_eq!(ours.joins, after.joins);
     assert_eq!(ours.places, after.places);
     assert_eq!(ours.work.len(), before.work.len());
-    let before_c = fault_before_c(tray, before.work.len()).is_some();
+    let before_c = fault_before_c(tray, settings.least as usize, before.work.len()).is_some();
     assert!(ours.work == before.work || !before_c);
     (answer, ours)
 }

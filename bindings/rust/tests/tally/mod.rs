@@ -2,7 +2,7 @@
 
 /// By number; 0 for none.
 #[derive(Default)]
-pub struct Tally([usize; 21]);
+pub struct Tally([usize; 22]);
 
 impl Tally {
     pub fn count(&mut self, number: u32) {
