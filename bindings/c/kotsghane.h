@@ -6,6 +6,9 @@
  * lengths; what cannot be done is refused, by a number and a detail in the answer (docs/REFUSALS.md). A refusal leaves every lent buffer as it was; only
  * the work area may differ, and only after 8, 9, 14 and 20. On success the first part of each buffer is the outcome, and the rest is unchanged.
  *
+ * Three calls take the least overlap, from 1 to KOTSGHANE_MAX_LEAST: a shorter overlap counts as empty. With 1 none is too short. Any other number is
+ * refused by 21, which is said first, before any fault of the tray. Which slips are kept, what is found and what is read do not go by it.
+ *
  * Each pointer comes with a length in elements and must point to as many; one with length 0 is never followed. What is lent for writing must not
  * overlap anything else that is lent. No call keeps a pointer, allocates, or unwinds.
  */
@@ -28,7 +31,8 @@ enum {
     KOTSGHANE_WORK = 32000,        /* cells of the work area (7) */
     KOTSGHANE_MAX_FILE = 16384,    /* bytes of a tray file (16), and letters to lend for one (15) */
     KOTSGHANE_FILE_ENDS = 1700,    /* ends to lend for a tray file (15) */
-    KOTSGHANE_MAX_SHORTEST = 10    /* kept slips of which the shortest legend is sought (20) */
+    KOTSGHANE_MAX_SHORTEST = 10,   /* kept slips of which the shortest legend is sought (20) */
+    KOTSGHANE_MAX_LEAST = 32       /* letters that a least overlap may ask for (21) */
 };
 
 /* So many numbers make a record of each list. */
@@ -73,17 +77,17 @@ enum { KOTSGHANE_PAIR_OVERLAP = 2, KOTSGHANE_PAIR_NUMBERS };
 /* The answer of kotsghane_read_tray. */
 enum { KOTSGHANE_READ_LETTERS = 2, KOTSGHANE_READ_SLIPS, KOTSGHANE_READ_NUMBERS };
 
-/* Composes a tray. Lend KOTSGHANE_WORK cells, and lists that suffice for any tray: MAX_LETTERS letters, MAX_SLIPS joins and MAX_SLIPS places. Lengths of
- * lists are counted in numbers. Refusals 1 to 9. */
-void kotsghane_compose(const uint8_t *letters, size_t letters_len, const uint16_t *ends, size_t ends_len, uint16_t *work, size_t work_len,
-                       uint8_t *legend, size_t legend_len, uint16_t *joins, size_t joins_len, uint16_t *places, size_t places_len,
-                       uint32_t answer[KOTSGHANE_COMPOSED_NUMBERS]);
+/* Composes a tray: slips are joined by overlaps of at least so many letters. Lend KOTSGHANE_WORK cells, and lists that suffice for any tray: MAX_LETTERS
+ * letters, MAX_SLIPS joins and MAX_SLIPS places. Lengths of lists are counted in numbers. Refusals 1 to 9, and 21, which is said first. */
+void kotsghane_compose(const uint8_t *letters, size_t letters_len, const uint16_t *ends, size_t ends_len, uint32_t least, uint16_t *work,
+                       size_t work_len, uint8_t *legend, size_t legend_len, uint16_t *joins, size_t joins_len, uint16_t *places,
+                       size_t places_len, uint32_t answer[KOTSGHANE_COMPOSED_NUMBERS]);
 
 /* Seeks the order of the kept slips whose legend is shortest; of several, the one that is smallest as a list of slip numbers. The legend is laid as one
- * chain: each slip adds its letters beyond the overlap with the one before it. Lend KOTSGHANE_WORK cells; MAX_SHORTEST * MAX_SLIP letters suffice for any
- * tray. Refusals 1 to 8 and 20, which is said before 8. */
-void kotsghane_shortest(const uint8_t *letters, size_t letters_len, const uint16_t *ends, size_t ends_len, uint16_t *work, size_t work_len,
-                        uint8_t *legend, size_t legend_len, uint32_t answer[KOTSGHANE_SHORTEST_NUMBERS]);
+ * chain: each slip adds its letters beyond the overlap with the one before it, if that has at least so many letters. Lend KOTSGHANE_WORK cells;
+ * MAX_SHORTEST * MAX_SLIP letters suffice for any tray. Refusals 1 to 8, 20, which is said before 8, and 21, which is said first. */
+void kotsghane_shortest(const uint8_t *letters, size_t letters_len, const uint16_t *ends, size_t ends_len, uint32_t least, uint16_t *work,
+                        size_t work_len, uint8_t *legend, size_t legend_len, uint32_t answer[KOTSGHANE_SHORTEST_NUMBERS]);
 
 /* Finds every occurrence of every slip in a text: by end place, then longer slips first, then lower numbers. Refusals 1 to 7 and 12 to 14; the detail of
  * 14 is how many occurrences there are. */
@@ -94,9 +98,10 @@ void kotsghane_find(const uint8_t *letters, size_t letters_len, const uint16_t *
 void kotsghane_slip(const uint8_t *letters, size_t letters_len, const uint16_t *ends, size_t ends_len, uint32_t slip,
                     uint32_t answer[KOTSGHANE_SLIP_NUMBERS]);
 
-/* How many letters end the left slip and begin the right one; full stops alone do not count. 0 if refused. Refusals 1 to 6, 10, 11. */
+/* How many letters end the left slip and begin the right one; full stops alone do not count, nor do fewer letters than the least overlap. 0 if refused.
+ * Refusals 1 to 6, 10, 11, and 21, which is said first. */
 void kotsghane_pair(const uint8_t *letters, size_t letters_len, const uint16_t *ends, size_t ends_len, uint32_t left, uint32_t right,
-                    uint32_t answer[KOTSGHANE_PAIR_NUMBERS]);
+                    uint32_t least, uint32_t answer[KOTSGHANE_PAIR_NUMBERS]);
 
 /* Reads a tray file into letters and ends. Lend at least KOTSGHANE_MAX_FILE letters and KOTSGHANE_FILE_ENDS ends. Letters are filed as the die has them:
  * small ones as capitals, U as V, J as I, and 0 for a byte that is no sign. No other call folds: they take the 27 signs alone. Refusals 15 to 19, of the

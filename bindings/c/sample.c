@@ -1,4 +1,5 @@
-/* Reads a tray file on standard input, composes it, finds its slips in the legend, and seeks the shortest legend: every call of kotsghane.h. */
+/* Reads a tray file on standard input, composes it, finds its slips in the legend, and seeks the shortest legend: every call of kotsghane.h. No overlap of
+ * the tray is too short; what a least overlap does is shown of a tray of two slips. */
 #include "kotsghane.h"
 #include <stdio.h>
 
@@ -18,7 +19,7 @@ static int refused(const char *call, const uint32_t *answer) {
 /* Says the shortest legend of k slips with n letters, in a buffer of so many letters. */
 static void say_shortest(size_t n, size_t k, size_t room) {
     uint32_t shortest[KOTSGHANE_SHORTEST_NUMBERS];
-    kotsghane_shortest(letters, n, ends, k, work, KOTSGHANE_WORK, legend, room, shortest);
+    kotsghane_shortest(letters, n, ends, k, 1, work, KOTSGHANE_WORK, legend, room, shortest);
     if (refused("shortest", shortest)) {
         return;
     }
@@ -27,6 +28,21 @@ static void say_shortest(size_t n, size_t k, size_t room) {
         printf(" %u", (unsigned)shortest[KOTSGHANE_SHORTEST_ORDER + i]);
     }
     printf("\n");
+}
+
+/* Says the legend of AB and BC with a least overlap. */
+static void say_least(uint32_t least) {
+    static const uint8_t two[] = {'A', 'B', 'B', 'C'};
+    static const uint16_t two_ends[] = {2, 4};
+    uint32_t composed[KOTSGHANE_COMPOSED_NUMBERS], pair[KOTSGHANE_PAIR_NUMBERS];
+    kotsghane_compose(two, 4, two_ends, 2, least, work, KOTSGHANE_WORK, legend, sizeof legend, joins, sizeof joins / sizeof *joins, places,
+                      sizeof places / sizeof *places, composed);
+    kotsghane_pair(two, 4, two_ends, 2, 1, 2, least, pair);
+    if (refused("compose", composed) || refused("pair", pair)) {
+        return;
+    }
+    printf("least overlap %u: legend %.*s, overlap %u\n", (unsigned)least, (int)composed[KOTSGHANE_COMPOSED_LEGEND], (const char *)legend,
+           (unsigned)pair[KOTSGHANE_PAIR_OVERLAP]);
 }
 
 /* Says every slip that is found in a text. */
@@ -53,7 +69,7 @@ int main(void) {
         return 1;
     }
     size_t n = read[KOTSGHANE_READ_LETTERS], k = read[KOTSGHANE_READ_SLIPS];
-    kotsghane_compose(letters, n, ends, k, work, KOTSGHANE_WORK, legend, sizeof legend, joins, sizeof joins / sizeof *joins, places,
+    kotsghane_compose(letters, n, ends, k, 1, work, KOTSGHANE_WORK, legend, sizeof legend, joins, sizeof joins / sizeof *joins, places,
                       sizeof places / sizeof *places, composed);
     if (refused("compose", composed)) {
         return 1;
@@ -62,7 +78,7 @@ int main(void) {
     printf("legend %.*s, %u letters saved\n", (int)length, (const char *)legend, (unsigned)composed[KOTSGHANE_COMPOSED_SAVED]);
     for (uint32_t j = 0; j < composed[KOTSGHANE_COMPOSED_JOINS]; j++) {
         const uint16_t *join = joins + KOTSGHANE_JOIN * j;
-        kotsghane_pair(letters, n, ends, k, join[0], join[1], pair);
+        kotsghane_pair(letters, n, ends, k, join[0], join[1], 1, pair);
         printf("join %u to %u by %u, overlap %u\n", join[0], join[1], join[2], (unsigned)pair[KOTSGHANE_PAIR_OVERLAP]);
     }
     for (uint32_t i = 0; i < composed[KOTSGHANE_COMPOSED_SLIPS]; i++) {
@@ -74,7 +90,10 @@ int main(void) {
     say_found(n, k, legend, length);
     say_shortest(n, k, sizeof legend);
     say_shortest(n, k, 0);
-    kotsghane_pair(letters, n, ends, k, 1, 1, pair);
+    say_least(1);
+    say_least(2);
+    say_least(KOTSGHANE_MAX_LEAST + 1);
+    kotsghane_pair(letters, n, ends, k, 1, 1, 1, pair);
     refused("pair", pair);
     kotsghane_slip(letters, n, ends, k, 0, slip);
     refused("slip", slip);
