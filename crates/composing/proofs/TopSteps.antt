@@ -26,7 +26,7 @@ use Rattle.answers.specs.Composing.{beforeC, roomRows, composeFault, composedOf
 use Rattle.answers.proofs.BeforeC.{set-first, work-first, rows-left, work-same, work-kept}
 use Rattle.finishing.specs.steps.Finishing.{Joined, SomeJoined, Finished, FinishedAs}
 use Rattle.composing.specs.steps.Composing.{Staged}
-use Rattle.finishing.proofs.FinishSteps.{turned-back}
+use Rattle.finishing.proofs.FinishSteps.{turned-back, not-composed}
 
 pub least-here : (g : Settings) (m : ℕ) → 1 ≤ g .least → m ≡ g .least → 1 ≤ m
 least-here g m h e = omega arith
@@ -72,7 +72,7 @@ module _ (s es w : List ℕ) (a : Buildable s es w) (nodes : ℕ) (w₁ : List �
     finish-can = let g : Settings = record { least = m } in record { settings = g; joined = joined-as g refl }
 
     module _ (w₄ l₀ l₁ : List ℕ) (jr pr : ℕ) (r : Composed) (f : FinishedAs s es w₃ w₄ l₀ l₁ k j left right overs jr pr r) where
-      pub finished-same : length w₄ ≡ length w
+      finished-same : length w₄ ≡ length w
       finished-same = f .same ∙ long
 
       pub finished-all : (g : Settings) → m ≡ g .least → Finished (whole g (slipsOf s es)) w w₄ l₀ l₁ jr pr r
@@ -100,12 +100,9 @@ module _ (g : Settings) (s es w l : List ℕ) (jr pr : ℕ) (r : Composed) where
         answer-is = q ∙ rw h answer;
         legend-is = rw h legend;
         work-is = work-same (beforeC g s es (length w)) w;
-        joins-are = λ z. absurd (no z);
-        places-are = λ z. absurd (no z);
+        joins-are = λ z. absurd (not-composed f n d r e q z);
+        places-are = λ z. absurd (not-composed f n d r e q z);
       }
-    where
-      no : r .number ≡ 0 → ⊥
-      no z = let u : r .number ≡ suc n = ap (λ (c : Composed). c .number) q ∙ ap (λ (f : Refusal). f .number) e in omega arith
 
   pub staged-set : (f : Refusal) → f ≡ setFault (g .least) s es → (f .number ≡ 0 → ⊥) → r ≡ refusedBy (refusal (f .number) (f .detail)) →
       Staged g s es w w l l jr pr r

@@ -36,6 +36,11 @@ module _ (c : Composing) (l j p : ℕ) where
     pub nothing-short : length (joinsOf c) ≤ j → length (c .slips) ≤ p → fault ≡ accepted
     nothing-short u v = rw (le-ltb l (length (legendOf c)) h, le-ltb j (length (joinsOf c)) u, le-ltb p (length (c .slips)) v)
 
+-- a refusal is no answer to a tray that is composed
+pub not-composed : (f : Refusal) (n d : ℕ) (r : Composed) → f ≡ refusal (suc n) d → r ≡ refusedBy f → r .number ≡ 0 → ⊥
+not-composed f n d r e q z =
+    let u : r .number ≡ suc n = ap (λ (c : Composed). c .number) q ∙ ap (λ (g : Refusal). g .number) e in omega arith
+
 -- the two cases of the answer
 module _ (c : Composing) (l : List ℕ) where
   pub turned-back : (f : Refusal) (n d : ℕ) → f ≡ refusal (suc n) d → (refusedBy f ≡ composedBy f c) × (l ≡ written f (legendOf c) l)
@@ -53,12 +58,9 @@ module _ (c : Composing) (l : List ℕ) where
         answer-is = q ∙ rw h answer;
         legend-is = rw h legend;
         same = refl;
-        joins-are = λ z. absurd (no z);
-        places-are = λ z. absurd (no z);
+        joins-are = λ z. absurd (not-composed f n d r e q z);
+        places-are = λ z. absurd (not-composed f n d r e q z);
       }
-    where
-      no : r .number ≡ 0 → ⊥
-      no z = let u : r .number ≡ suc n = ap (λ (c : Composed). c .number) q ∙ ap (λ (g : Refusal). g .number) e in omega arith
 
 -- the joins as numbers
 flat-more : (js : List Join) (j : Join) → flatJoins (js ++ (j ∷ [])) ≡ flatJoins js ++ (j .left ∷ (j .right ∷ (j .overlap ∷ [])))
