@@ -3,13 +3,13 @@
 --   slip-..     == rows 1 to 6, then 10
 --   pair-..     == rows 21, 1 to 6, 10, 10, 11
 use mathlib.Core.Path.{_≡_, refl, sym, _∙_, ap, ap₂}
+use mathlib.Core.Bool.{_||_}
 use mathlib.Core.List.{List, [], _∷_}
 use Prim.Native.Nat.{ℕ, zero, suc, _-_, _^_, _≤_, _<_, _+_}
-use borrow.Author.Tests.{ltb-false, lt-ltb, le-ltb, eq-eqb, ne-eqb, eqb-false}
+use borrow.Author.Tests.{lt-ltb, le-ltb, eq-eqb, ne-eqb}
 use native.Mathlib.Omega.{arith}
 use lib.Dec.{ltb, eqb}
 use lib.ListN.{length, take, drop}
-use Rattle.words.proofs.Tests.{by-test}
 use Rattle.trays.specs.declared.Refusal.{Refusal}
 use Rattle.trays.specs.declared.Pair.{Pair}
 use Rattle.trays.specs.declared.Span.{Span}
@@ -18,7 +18,7 @@ use Rattle.trays.specs.Slips.{spanOf}
 use Rattle.trays.specs.Faults.{refusal, accepted, orElse, firstRow, trayRows, trayFault, setRows, setFault, slipRow, slipFault, pairRow, pairFault}
 use Rattle.trays.specs.Answers.{stretchOf, stretchStart, stretchEnd, Stretch, locatedOf, pairOf}
 use Rattle.trays.proofs.Rows.{or-zero, or-some, both-silent, by-number, rows-append}
-use Rattle.trays.proofs.Accepted.{accepted-tells}
+use Rattle.trays.proofs.Accepted.{row-silent, range-silent, accepted-tells}
 use Rattle.trays.proofs.SetTrays.{set-tells}
 use Rattle.spans.proofs.Stretches.{part-rises, part-fits, part-is}
 use Rattle.overlaps.specs.Pairs.{TwoSlips, Overlap}
@@ -35,16 +35,8 @@ request-good es i n r q z e h = q ∙ rw (ne-eqb i 0 z, le-ltb (length es) i (om
 -- a row that is silent is the accepting one
 row-accepts : (es : List ℕ) (i : ℕ) → slipRow es i .number ≡ 0 → (1 ≤ i) × (i ≤ length es) × (slipRow es i ≡ accepted)
 row-accepts es i h =
-    by-test (eqb i 0)
-    (λ t. absurd (ten (rw t at h)))
-    (λ t. by-test (ltb (length es) i)
-    (λ u. absurd (ten (rw (t, u) at h)))
-    (λ u.
-    let z : i ≡ 0 → ⊥ = eqb-false i 0 t in
-    (omega arith, ltb-false (length es) i u, rw (t, u))))
-  where
-    ten : _≡_ {A = ℕ} 10 0 → ⊥
-    ten q = omega arith
+    let (some, most) = range-silent 9 (length es) i i h in
+    (some, most, rw (row-silent 9 (eqb i 0 || ltb (length es) i) i h))
 
 row-then : (es : List ℕ) (i : ℕ) → orElse (slipRow es i) accepted ≡ slipRow es i
 row-then es i =

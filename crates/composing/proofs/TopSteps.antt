@@ -1,7 +1,7 @@
 -- From the check of the tray to the last step.
 use mathlib.Core.Path.{_≡_, refl, sym, _∙_, ap}
 use mathlib.Core.List.{List, [], _∷_}
-use Prim.Native.Nat.{ℕ, zero, suc, _≤_, _<_}
+use Prim.Native.Nat.{ℕ, suc, _≤_, _<_}
 use native.Mathlib.Omega.{arith}
 use lib.ListN.{length}
 use Rattle.tables.proofs.Tables.{cells-below}
@@ -11,6 +11,7 @@ use Rattle.trays.specs.declared.Settings.{Settings}
 use Rattle.trays.specs.Slips.{slipsOf, numbers}
 use Rattle.trays.specs.Aside.{kept}
 use Rattle.trays.specs.Faults.{refusal, setFault}
+use Rattle.trays.proofs.Rows.{speaking}
 use Rattle.trays.proofs.SetTrays.{set-tells}
 use Rattle.greedy.specs.Composing.{Composing, whole}
 use Rattle.layout.specs.Layout.{KEPT}
@@ -107,13 +108,9 @@ module _ (g : Settings) (s es w l : List ℕ) (jr pr : ℕ) (r : Composed) where
   pub staged-set : (f : Refusal) → f ≡ setFault (g .least) s es → (f .number ≡ 0 → ⊥) → r ≡ refusedBy (refusal (f .number) (f .detail)) →
       Staged g s es w w l l jr pr r
   unfolding composeFault
-  staged-set f e z q = go (f .number) refl
-    where
-      go : (n : ℕ) → f .number ≡ n → Staged g s es w w l l jr pr r
-      go zero h = absurd (z h)
-      go (suc n) h =
-          refused-before f n (f .detail) (ap (λ (m : ℕ). refusal m (f .detail)) h)
-          (set-first (g .least) s es (workRow (length w) ∷ roomRows c (length l) jr pr) f e z) q
+  staged-set f e z q =
+      let (n, h) = speaking f z in
+      refused-before f n (f .detail) h (set-first (g .least) s es (workRow (length w) ∷ roomRows c (length l) jr pr) f e z) q
 
   module _ (f : Refusal) (e : f ≡ setFault (g .least) s es) (z : f .number ≡ 0) where
     silent : setFault (g .least) s es .number ≡ 0

@@ -3,8 +3,7 @@
 --   before-..       == the ways through check_find
 --   silent-..       == what holds where none of them turns the call back
 --   fault-is        == then only 14 is left
-use mathlib.Core.Path.{_≡_, refl, sym, _∙_}
-use mathlib.Core.Bool.{Bool, true, false}
+use mathlib.Core.Path.{_≡_, sym, _∙_}
 use mathlib.Core.List.{List, [], _∷_, _++_}
 use Prim.Native.Nat.{ℕ, suc, _+_, _≤_, _<_}
 use borrow.Author.Tests.{ltb-false, lt-ltb, le-ltb, le-leb}
@@ -17,6 +16,7 @@ use Rattle.trays.specs.Limits.{maxText, workNeed}
 use Rattle.trays.specs.Slips.{slipsOf, isLetter}
 use Rattle.trays.specs.Faults.{refusal, accepted, row, orElse, firstRow, badPlace, trayRows, trayFault}
 use Rattle.trays.proofs.Rows.{or-zero, or-some, both-silent, rows-append}
+use Rattle.trays.proofs.Accepted.{row-silent}
 use Rattle.matching.specs.Occurrences.{occurrences}
 use Rattle.answers.specs.WorkArea.{workRow}
 use Rattle.automaton.specs.steps.Built.{Buildable}
@@ -32,11 +32,6 @@ place-from i (b ∷ bs) =
 
 pub place-most : (t : List ℕ) → badPlace 1 t ≤ 1 + length t
 place-most t = place-from 1 t
-
--- a row that is silent
-row-silent : (n d : ℕ) (b : Bool) → row (suc n) b d .number ≡ 0 → b ≡ false
-row-silent n d true h = absurd (omega arith)
-row-silent n d false h = refl
 
 module _ (s es t : List ℕ) (cells : ℕ) (f : Refusal) (e : f ≡ trayFault s es) where
   pub before-tray : (f .number ≡ 0 → ⊥) → f ≡ findBefore s es t cells
@@ -87,10 +82,10 @@ module _ {s es t w : List ℕ} (c : Clear s es t w) where
       (both-silent (row 13 (leb 1 (badPlace 1 t)) (badPlace 1 t)) (orElse (workRow (length w)) accepted) (text-parts .1) .1) .0
 
   pub silent-short : length t ≤ maxText
-  silent-short = ltb-false maxText (length t) (row-silent 11 0 (ltb maxText (length t)) (text-parts .0))
+  silent-short = ltb-false maxText (length t) (row-silent 11 (ltb maxText (length t)) 0 (text-parts .0))
 
   pub silent-builds : Buildable s es w
-  silent-builds = record { tray = parts .0; room = ltb-false (length w) workNeed (row-silent 6 0 (ltb (length w) workNeed) work-parts) }
+  silent-builds = record { tray = parts .0; room = ltb-false (length w) workNeed (row-silent 6 (ltb (length w) workNeed) 0 work-parts) }
 
 -- behind them only 14 is left
 pub fault-or : (s es t : List ℕ) (w k : ℕ) → findFault s es t w k ≡ orElse (findBefore s es t w) (orElse (listRow (slipsOf s es) t k) accepted)

@@ -4,7 +4,7 @@
 --   says-set, says-room, says-all == 21 and 1 to 6; 7; what is behind them
 use mathlib.Core.Path.{_≡_, refl, sym, ap, _∙_}
 use mathlib.Core.List.{List, [], _∷_, _++_}
-use Prim.Native.Nat.{ℕ, zero, suc, _+_, _≤_, _<_}
+use Prim.Native.Nat.{ℕ, suc, _+_, _≤_, _<_}
 use native.Mathlib.Omega.{arith}
 use borrow.Rule.Slice.PartMut.{same-len-mid}
 use lib.ListN.{length, getD, take, drop, length-drop}
@@ -16,6 +16,7 @@ use Rattle.trays.specs.declared.Settings.{Settings}
 use Rattle.trays.specs.Slips.{slipsOf, numbers}
 use Rattle.trays.specs.Aside.{kept, counted}
 use Rattle.trays.specs.Faults.{refusal, setFault}
+use Rattle.trays.proofs.Rows.{speaking}
 use Rattle.trays.proofs.SetTrays.{set-tells}
 use Rattle.trays.proofs.Kept.{kept-asc}
 use Rattle.greedy.specs.Composing.{Composing, whole}
@@ -124,13 +125,9 @@ module _ (g : Settings) (s es w l : List ℕ) (r : Shortest) where
   pub says-set : (f : Refusal) → f ≡ setFault (g .least) s es → (f .number ≡ 0 → ⊥) → r ≡ shortestRefused (refusal (f .number) (f .detail)) →
       ShortestSays g s es w w l l r
   unfolding shortestFault
-  says-set f e z q = go (f .number) refl
-    where
-      go : (n : ℕ) → f .number ≡ n → ShortestSays g s es w w l l r
-      go zero h = absurd (z h)
-      go (suc n) h =
-          refused-before f n (f .detail) (ap (λ (m : ℕ). refusal m (f .detail)) h)
-          (set-first (g .least) s es (workRow (length w) ∷ shortestRows c (length l)) f e z) q
+  says-set f e z q =
+      let (n, h) = speaking f z in
+      refused-before f n (f .detail) h (set-first (g .least) s es (workRow (length w) ∷ shortestRows c (length l)) f e z) q
 
   module _ (f : Refusal) (e : f ≡ setFault (g .least) s es) (z : f .number ≡ 0) where
     silent : setFault (g .least) s es .number ≡ 0

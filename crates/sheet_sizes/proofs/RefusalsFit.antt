@@ -1,7 +1,7 @@
 -- A refusal's number has at most two digits, and its detail at most six.
 --   or-fits, rows-fit  == of rows that fit, the first that speaks fits
 --   NAME-most          == a slip or place that NAME counts from 1 is at most the length
-use mathlib.Core.Path.{_≡_, refl}
+use mathlib.Core.Path.{_≡_}
 use mathlib.Core.Bool.{Bool, true, false, _||_, not}
 use mathlib.Core.List.{List, [], _∷_}
 use Prim.Native.Nat.{ℕ, suc, _+_, _≤_, _<_, _^_}
@@ -17,7 +17,7 @@ use Rattle.trays.specs.Limits.{maxSlips, maxSlip, maxLetters, maxFile, endsNeed
 use Rattle.trays.specs.Slips.{slipsOf, isLetter}
 use Rattle.trays.specs.Faults.{row, orElse, firstRow, notAbove, tooLong, badSlip, badPlace, trayRows, trayFault}
 use Rattle.trays.proofs.Rows.{or-zero, or-some, by-number}
-use Rattle.trays.proofs.Accepted.{slips-count}
+use Rattle.trays.proofs.Accepted.{row-silent, slips-count}
 use Rattle.files.specs.Lines.{lf, onFirst, linesOf, isLaidOut, slipField, lengthField, letters}
 use Rattle.files.specs.Faults.{lineFault, linesFault, readFault}
 use Rattle.sheets.specs.Sheets.{detailWidth}
@@ -62,10 +62,6 @@ badPlace-most i (b ∷ bs) =
     by-test (isLetter b)
     (λ t. rw (t, badPlace) (omega (arith, badPlace-most (suc i) bs)))
     (λ t. rw (t, badPlace) (omega arith))
-
-row-silent : (n : ℕ) (b : Bool) (d : ℕ) → row (suc n) b d .number ≡ 0 → b ≡ false
-row-silent n true d h = let z : suc n ≡ 0 = h in absurd (omega arith)
-row-silent n false d h = refl
 
 -- rows 1 to 6: behind row 1 there are few slips
 pub tray-refusal-fits : (s es : List ℕ) → RefusalFits (trayFault s es)

@@ -3,16 +3,16 @@
 --   rows-tell        == so where the rows for m are silent; accepted-tells, for the limit that holds
 --   Signs x          == x is made of the 27 signs
 use mathlib.Core.Path.{_≡_, refl, _∙_, ap}
-use mathlib.Core.Bool.{Bool, true, false, not}
+use mathlib.Core.Bool.{Bool, true, false, not, _||_}
 use mathlib.Core.List.{List, [], _∷_}
 use Prim.Native.Nat.{ℕ, zero, suc, _+_, _-_, _≤_, _<_}
-use borrow.Author.Tests.{ltb-false, eqb-true, not-false}
+use borrow.Author.Tests.{ltb-false, eqb-true, eqb-false, not-false}
 use native.Mathlib.Omega.{arith}
 use lib.Dec.{ltb, eqb}
 use lib.ListN.{length, getD, take, drop}
 use lib.Seq.{drop-drop}
 use Rattle.words.specs.Lists.{any, lastOr}
-use Rattle.words.proofs.Tests.{by-test}
+use Rattle.words.proofs.Tests.{by-test, neither}
 use Rattle.words.proofs.Sums.{All}
 use Rattle.trays.specs.declared.Refusal.{Refusal}
 use Rattle.trays.specs.Limits.{maxSlips, maxSlip, maxLetters}
@@ -32,6 +32,13 @@ row-silent n true d h = absurd (no h)
     no : suc n ≡ 0 → ⊥
     no q = omega arith
 row-silent n false d h = refl
+
+-- a row that asks for a number from 1 to a limit
+pub range-silent : (n top i d : ℕ) → row (suc n) (eqb i 0 || ltb top i) d .number ≡ 0 → (1 ≤ i) × (i ≤ top)
+range-silent n top i d h =
+    let (none, over) = neither (eqb i 0) (ltb top i) (row-silent n (eqb i 0 || ltb top i) d h) in
+    let z : i ≡ 0 → ⊥ = eqb-false i 0 none in
+    (omega arith, ltb-false top i over)
 
 pub record Accepted (m : ℕ) (s es : List ℕ) : Type 0 where
   pub few : length es ≤ maxSlips

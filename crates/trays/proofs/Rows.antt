@@ -1,5 +1,6 @@
 -- Rows of the table: the first one that holds.
 --   or-zero, or-some   == the two cases of orElse; both-silent, if neither speaks
+--   speaking           == a row that is not silent has a number above 0, and its detail
 --   rows-append        == rows are taken top to bottom, one part after another
 --   written-all, written-none == a lent buffer is written over, or is as it was
 use mathlib.Core.Path.{_≡_, refl, sym, ap}
@@ -9,7 +10,7 @@ use borrow.Author.Tests.{le-leb}
 use native.Mathlib.Omega.{arith}
 use Rattle.words.specs.Lists.{over}
 use Rattle.trays.specs.declared.Refusal.{Refusal}
-use Rattle.trays.specs.Faults.{orElse, firstRow, slipAt, written}
+use Rattle.trays.specs.Faults.{refusal, orElse, firstRow, slipAt, written}
 
 pub or-zero : (f g : Refusal) → f .number ≡ 0 → orElse f g ≡ g
 or-zero f g e = rw (e, orElse)
@@ -27,6 +28,13 @@ by-number {P} f z s = go (f .number) refl
     go : (n : ℕ) → f .number ≡ n → P
     go zero e = z e
     go (suc n) e = s (omega arith)
+
+pub speaking : (f : Refusal) → (f .number ≡ 0 → ⊥) → (n : ℕ) × (f ≡ refusal (suc n) (f .detail))
+speaking f z = go (f .number) refl
+  where
+    go : (m : ℕ) → f .number ≡ m → (n : ℕ) × (f ≡ refusal (suc n) (f .detail))
+    go zero e = absurd (z e)
+    go (suc n) e = (n, ap (λ (m : ℕ). refusal m (f .detail)) e)
 
 pub both-silent : (f g : Refusal) → orElse f g .number ≡ 0 → (f .number ≡ 0) × (g .number ≡ 0)
 both-silent f g h =
