@@ -9,7 +9,7 @@ use Prim.Native.Nat.{ℕ}
 use Rattle.trays.specs.declared.Located.{Located}
 use Rattle.trays.specs.declared.Pair.{Pair}
 use Rattle.trays.specs.Answers.{locatedOf, pairOf}
-use Rattle.files.specs.declared.Read.{Read}
+use Rattle.trays.specs.declared.Written.{Written}
 use Rattle.files.specs.Answers.{Reading}
 
 abbrev pub slipNumbers : Located → List ℕ
@@ -18,7 +18,7 @@ slipNumbers r = r .number ∷ (r .detail ∷ (r .start ∷ (r .end ∷ [])))
 abbrev pub pairNumbers : Pair → List ℕ
 pairNumbers r = r .number ∷ (r .detail ∷ (r .letters ∷ []))
 
-abbrev pub readNumbers : Read → List ℕ
+abbrev pub readNumbers : Written → List ℕ
 readNumbers r = r .number ∷ (r .detail ∷ (r .letters ∷ (r .slips ∷ [])))
 
 pub record SlipExported (s es : List ℕ) (i : ℕ) (a′ : List ℕ) : Type 0 where
@@ -32,6 +32,6 @@ pub record PairExported (m : ℕ) (s es : List ℕ) (i j : ℕ) (a′ : List ℕ
   pub numbers-are : a′ ≡ pairNumbers answer
 
 pub record ReadExported (file ls ls′ es es′ a′ : List ℕ) : Type 0 where
-  pub answer : Read
+  pub answer : Written
   pub says : Reading file ls ls′ es es′ answer
   pub numbers-are : a′ ≡ readNumbers answer

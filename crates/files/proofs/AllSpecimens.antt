@@ -8,44 +8,49 @@ use Prim.Native.String.{String}
 use lib.ListN.{replicate}
 use Rattle.words.specs.Quoted.{word}
 use Rattle.trays.specs.declared.Refusal.{Refusal}
+use Rattle.trays.specs.declared.Written.{Written}
 use Rattle.trays.specs.Faults.{refusal}
+use Rattle.trays.specs.Written.{lettersOf, endsOf, writtenBy}
 use Rattle.folding.specs.Folding.{fold}
-use Rattle.files.specs.Lines.{linesOf}
 use Rattle.files.specs.Faults.{readFault}
-use Rattle.files.specs.Answers.{lettersOf, endsFrom, readOf}
+use Rattle.files.specs.Answers.{slipsIn}
 
 abbrev pub composeFile : List ℕ
 composeFile = word "   1   7 IMPCAES\n   2   3 AES\n   3   7 CAESAVG\n   4   6 VGPIVS\n   5   4 SIMP\n"
 
-pub compose-answer : readOf composeFile 16384 1700 ≡ record { number = 0; detail = 0; letters = 27; slips = 5 }
+-- read_tray's answer, where just enough letters and ends are lent
+abbrev answered : List ℕ → Written
+answered s = writtenBy (readFault s 16384 1700) (slipsIn s)
+
+pub compose-answer : answered composeFile ≡ record { number = 0; detail = 0; letters = 27; slips = 5 }
 unfolding readFault
 compose-answer = refl
 
-pub compose-letters : lettersOf (linesOf composeFile) ≡ word "IMPCAESAESCAESAVGVGPIVSSIMP"
+pub compose-letters : lettersOf (slipsIn composeFile) ≡ word "IMPCAESAESCAESAVGVGPIVSSIMP"
 unfolding fold
 compose-letters = refl
 
-pub compose-ends : endsFrom 0 (linesOf composeFile) ≡ 7 ∷ 10 ∷ 17 ∷ 23 ∷ 27 ∷ []
+pub compose-ends : endsOf (slipsIn composeFile) ≡ 7 ∷ 10 ∷ 17 ∷ 23 ∷ 27 ∷ []
 compose-ends = refl
 
 -- as readers type it, with a digit and a CR in slip 3: letters are filed folded, those two as 0, and each length counts the bytes of the line
 abbrev typedFile : List ℕ
 typedFile = word "   1   5 Avg.u\n   2   3 UVA\n   3   4 uj1\r\n"
 
-typed-letters : lettersOf (linesOf typedFile) ≡ word "AVG.VVVAVI" ++ (0 ∷ 0 ∷ [])
+typed-letters : lettersOf (slipsIn typedFile) ≡ word "AVG.VVVAVI" ++ (0 ∷ 0 ∷ [])
 unfolding fold
 typed-letters = refl
 
-typed-answer : readOf typedFile 16384 1700 ≡ record { number = 0; detail = 0; letters = 12; slips = 3 }
+typed-answer : answered typedFile ≡ record { number = 0; detail = 0; letters = 12; slips = 3 }
 unfolding readFault
 typed-answer = refl
 
 -- the empty tray, and a slip without letters
-empty-answer : readOf [] 16384 1700 ≡ record { number = 0; detail = 0; letters = 0; slips = 0 }
+empty-answer : answered [] ≡ record { number = 0; detail = 0; letters = 0; slips = 0 }
 unfolding readFault
 empty-answer = refl
 
-bare-slip : endsFrom 0 (linesOf (word "   1   3 AVG\n   2   0 \n")) ≡ 3 ∷ 3 ∷ []
+bare-slip : endsOf (slipsIn (word "   1   3 AVG\n   2   0 \n")) ≡ 3 ∷ 3 ∷ []
 bare-slip = refl
 
 -- what turns a file back, all that it meets being lent

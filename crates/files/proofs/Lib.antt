@@ -2,4 +2,3 @@
 pub mod AllSpecimens
 pub mod FirstLines
 pub mod LineFaults
-pub mod SlipsRead

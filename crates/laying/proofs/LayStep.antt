@@ -1,23 +1,19 @@
 -- One piece laid, then the rest.
 use mathlib.Core.Path.{_≡_, refl, sym, _∙_}
-use mathlib.Core.List.{List, [], _++_, append-nil}
+use mathlib.Core.List.{List, _++_}
 use Prim.Native.Nat.{ℕ, zero, suc, _+_, _-_, _*_, _≤_}
 use native.Mathlib.Numerals.{add-one, sub-one}
 use native.Mathlib.Omega.{arith}
-use lib.ListN.{length, getD, take, drop, length-append, length-drop, drop-of-length-le}
-use lib.Seq.{take-all, take-length}
+use lib.ListN.{length, getD, take, drop, length-append, length-drop}
+use lib.Seq.{take-length}
 use borrow.Rule.Slice.PartMut.{putMid}
 use Rattle.words.specs.Lists.{over}
-use Rattle.words.proofs.Buffers.{length-over, over-part}
+use Rattle.words.proofs.Buffers.{length-over, rest-is, over-mid}
 use Rattle.trays.specs.Slips.{slipsOf, slip}
 use Rattle.greedy.specs.Legends.{added, spelled}
 use Rattle.chains.specs.Pieces.{pieceIn, piecesIn}
 use Rattle.laying.specs.Laying.{CanLay}
 use Rattle.laying.specs.steps.OnePiece.{CanLayOne, LaidOne}
-
--- the part of a list from r on
-rest-is : (l : List ℕ) (r : ℕ) → take (length l - r) (drop r l) ≡ drop r l
-rest-is l r = take-all (length l - r) (drop r l) (rw length-drop (omega arith))
 
 -- the part `&part[shared..]` is what the piece adds
 module _ (s es xs : List ℕ) (k room i o : ℕ) (part : List ℕ) (c : CanLayOne s es xs k room)
@@ -80,9 +76,5 @@ module _ (s es xs : List ℕ) where
       → putMid r (length l′ - r) l′ m′ ≡ over (spelled ss (piecesIn xs k n)) l
   lay-both k zero r l l′ m m′ z c d h e = absurd (z refl)
   lay-both k (suc n) r l l′ m m′ z c d h e =
-      let u : r ≤ length l′ = lay-fits k (suc n) r l l′ z c d in
-      let f : m′ ≡ over (spelled ss (piecesIn xs (suc k) n)) (drop r (over (added ss (pieceIn xs k)) l)) =
-      e ∙ rw (add-one k, sub-one (suc n), h, rest-is l′ r, d .letters-are) in
-      let p : drop (length l′ - r) (drop r l′) ≡ [] = drop-of-length-le (drop r l′) {i = length l′ - r} (rw length-drop (omega arith)) in
-      rw (p, append-nil, f, d .letters-are)
-      (over-part (added ss (pieceIn xs k)) (spelled ss (piecesIn xs (suc k) n)) l r (sym (d .count-is)))
+      let f : m′ ≡ over (spelled ss (piecesIn xs (suc k) n)) (take (length l′ - r) (drop r l′)) = e ∙ rw (add-one k, sub-one (suc n), h) in
+      over-mid (added ss (pieceIn xs k)) (spelled ss (piecesIn xs (suc k) n)) l l′ m′ r (sym (d .count-is)) (d .letters-are) f

@@ -4,33 +4,25 @@
 -- Each turn takes one line more into the part that is copied. A good line has 10 bytes beside its letters, so a file of 16,384 bytes has
 -- at most 1,638 lines, and every end fits 16 bits.
 use mathlib.Core.Path.{_≡_, refl, sym, _∙_, ap}
-use mathlib.Core.List.{List, [], _∷_, _++_, append-nil, append-assoc, map}
+use mathlib.Core.List.{List, [], _∷_, _++_, map, map-append}
 use Prim.Native.Nat.{ℕ, zero, suc, _+_, _-_, _*_, _≤_, _<_}
 use borrow.Rule.Slice.PartMut.{putMid}
-use native.Mathlib.Nat.{add-zero, add-assoc}
 use native.Mathlib.Numerals.{add-one}
 use native.Mathlib.Omega.{arith}
-use lib.ListN.{length, take, drop, set, length-append, length-drop, take-append-drop, drop-of-length-le}
+use lib.ListN.{length, take, drop, set, length-append, length-drop, length-map, take-append-drop, drop-of-length-le}
 use lib.Seq.{take-all, length-take-le, drop-drop, take-append-le, drop-append-le}
 use Rattle.words.specs.Lists.{over}
-use Rattle.words.proofs.Buffers.{length-over, over-set, over-part}
+use Rattle.words.proofs.Buffers.{length-over, over-set, over-mid}
 use Rattle.trays.specs.Limits.{maxFile, endsNeed}
 use Rattle.trays.specs.Faults.{accepted}
+use Rattle.trays.specs.Written.{lettersOf, endsOf}
+use Rattle.trays.proofs.WrittenSlips.{length-ends, letters-snoc, ends-snoc}
 use Rattle.folding.specs.Folding.{fold}
 use Rattle.files.specs.Lines.{linesOf, firstLine, letters}
 use Rattle.files.specs.Faults.{lineFault, linesFault}
-use Rattle.files.specs.Answers.{lettersOf, endsFrom}
 use Rattle.reading.specs.steps.Copying.{Lent, Copied}
 use Rattle.files.proofs.FirstLines.{lines-at, first-take, first-length}
 use Rattle.files.proofs.LineFaults.{letters-length, or-accepted, long-enough}
-use Rattle.files.proofs.SlipsRead.{length-ends}
-
--- the part of a buffer from n on is lent, and p comes back in its place
-over-mid : (xs ys old z p : List ℕ) (n : ℕ) → length xs ≡ n → z ≡ over xs old
-    → p ≡ over ys (take (length z - n) (drop n z)) → putMid n (length z - n) z p ≡ over (xs ++ ys) old
-over-mid xs ys old z p n e w f =
-    let d : length (drop n z) ≤ length z - n = rw length-drop (omega arith) in
-    rw (f, take-all (length z - n) (drop n z) d, drop-of-length-le (drop n z) d, append-nil, w) (over-part xs ys old n e)
 
 -- one member more
 next-drop : {A : Type 0} (n : ℕ) (xs : List A) {x : A} {rest : List A} → drop n xs ≡ x ∷ rest → drop (suc n) xs ≡ rest
@@ -41,15 +33,9 @@ next-take zero xs e = rw e
 next-take (suc n) [] e = cc
 next-take (suc n) (y ∷ xs) e = ap (λ l. y ∷ l) (next-take n xs e)
 
-letters-snoc : (ls : List (List ℕ)) (l : List ℕ) → lettersOf (ls ++ (l ∷ [])) ≡ lettersOf ls ++ letters l
-letters-snoc [] l = append-nil (letters l)
-letters-snoc (x ∷ ls) l = rw (letters-snoc ls l) (sym (append-assoc (letters x) (lettersOf ls) (letters l)))
-
-ends-snoc : (here : ℕ) (ls : List (List ℕ)) (l : List ℕ)
-    → endsFrom here (ls ++ (l ∷ [])) ≡ endsFrom here ls ++ ((here + length (lettersOf ls) + length (letters l)) ∷ [])
-ends-snoc here [] l = rw add-zero
-ends-snoc here (x ∷ ls) l =
-    rw (length-append, ← add-assoc) (ap (λ r. (here + length (letters x)) ∷ r) (ends-snoc (here + length (letters x)) ls l))
+-- the slips of the first n lines
+abbrev passed : ℕ → List ℕ → List (List ℕ)
+passed n s = map letters (take n (linesOf s))
 
 -- the letters of a line, out of the file that it begins
 line-letters : (xs l rest : List ℕ) → xs ≡ l ++ rest → 10 ≤ length l → take (length l - 10) (drop 9 xs) ≡ take (length l - 10) (drop 9 l)
@@ -62,9 +48,9 @@ pub record Passed (s a b a′ b′ : List ℕ) (at count slips : ℕ) : Type 0 w
   pub good : linesFault (suc slips) (drop slips (linesOf s)) ≡ accepted
   pub sum : at ≡ 10 * slips + count
   pub within : at ≤ length s
-  pub counted : count ≡ length (lettersOf (take slips (linesOf s)))
-  pub letters-are : a′ ≡ over (lettersOf (take slips (linesOf s))) a
-  pub ends-are : b′ ≡ over (endsFrom 0 (take slips (linesOf s))) b
+  pub counted : count ≡ length (lettersOf (passed slips s))
+  pub letters-are : a′ ≡ over (lettersOf (passed slips s)) a
+  pub ends-are : b′ ≡ over (endsOf (passed slips s)) b
 
 pub record Turn (s a′ b′ : List ℕ) (at count slips next : ℕ) : Type 0 where
   pub next-is : next ≡ at + length (firstLine (drop at s))
@@ -89,13 +75,13 @@ passed-none s a b t = record {
 
 module _ (s a b a′ b′ : List ℕ) (at count slips : ℕ) (t : Lent s a b) (i : Passed s a b a′ b′ at count slips) where
   pub letters-long : length a′ ≡ length a
-  letters-long = rw (i .letters-are) (length-over (lettersOf (take slips (linesOf s))) a (omega (arith, t, i)))
+  letters-long = rw (i .letters-are) (length-over (lettersOf (passed slips s)) a (omega (arith, t, i)))
 
-  ends-count : length (endsFrom 0 (take slips (linesOf s))) ≡ slips
-  ends-count = length-ends 0 (take slips (linesOf s)) ∙ length-take-le slips (linesOf s) (i .few)
+  ends-count : length (endsOf (passed slips s)) ≡ slips
+  ends-count = length-ends 0 (passed slips s) ∙ rw length-map (length-take-le slips (linesOf s) (i .few))
 
   pub ends-long : length b′ ≡ length b
-  ends-long = rw (i .ends-are) (length-over (endsFrom 0 (take slips (linesOf s))) b (omega (arith, t, i, ends-count)))
+  ends-long = rw (i .ends-are) (length-over (endsOf (passed slips s)) b (omega (arith, t, i, ends-count)))
 
   module _ (next : ℕ) (h : at < length s) (e : next ≡ at + length (firstLine (drop at s))) where
     abbrev l : List ℕ
@@ -103,6 +89,9 @@ module _ (s a b a′ b′ : List ℕ) (at count slips : ℕ) (t : Lent s a b) (i
 
     next-lines : drop slips (linesOf s) ≡ l ∷ linesOf (drop (at + length l) s)
     next-lines = sym (i .left) ∙ lines-at s at h
+
+    passed-next : passed (suc slips) s ≡ passed slips s ++ (letters l ∷ [])
+    passed-next = ap (map letters) (next-take slips (linesOf s) next-lines) ∙ map-append letters (take slips (linesOf s)) (l ∷ [])
 
     faultless : (lineFault (suc slips) l .number ≡ 0) × (linesFault (suc (suc slips)) (linesOf (drop (at + length l) s)) ≡ accepted)
     faultless = or-accepted (lineFault (suc slips) l) _ (rw next-lines at (i .good))
@@ -137,16 +126,16 @@ module _ (s a b a′ b′ : List ℕ) (at count slips : ℕ) (t : Lent s a b) (i
       sum = omega (arith, turn, i);
       within = omega (arith, turn);
       counted =
-          rw (add-one, next-take slips (linesOf s) next-lines, letters-snoc, length-append, letters-length l, ← i .counted)
+          rw (add-one, passed-next, letters-snoc, length-append, letters-length l, ← i .counted)
           (omega (arith, turn));
       letters-are =
-          rw (add-one, next-take slips (linesOf s) next-lines, letters-snoc)
-          (over-mid (lettersOf (take slips (linesOf s))) (letters l) a a′ p count (sym (i .counted)) (i .letters-are) (rw filed-letters at f));
+          rw (add-one, passed-next, letters-snoc)
+          (over-mid (lettersOf (passed slips s)) (letters l) a a′ p count (sym (i .counted)) (i .letters-are) (rw filed-letters at f));
       ends-are =
-          let v : count + many ≡ 0 + length (lettersOf (take slips (linesOf s))) + length (letters l) =
+          let v : count + many ≡ 0 + length (lettersOf (passed slips s)) + length (letters l) =
           omega (arith, turn, i .counted, letters-length l) in
-          rw (add-one, next-take slips (linesOf s) next-lines, ends-snoc, v, i .ends-are)
-          (over-set 0 (endsFrom 0 (take slips (linesOf s))) b slips _ ends-count (omega (arith, t, i)));
+          rw (add-one, passed-next, ends-snoc, v, i .ends-are)
+          (over-set 0 (endsOf (passed slips s)) b slips _ ends-count (omega (arith, t, i)));
     }
 
 pub passed-all : (s a b a′ b′ : List ℕ) (at count slips : ℕ) → Passed s a b a′ b′ at count slips → length s ≤ at →
@@ -156,7 +145,7 @@ passed-all s a b a′ b′ at count slips i h =
     let n : slips ≡ length (linesOf s) = omega (arith, ap length d, length-drop slips (linesOf s), i .few) in
     let w : take slips (linesOf s) ≡ linesOf s = take-all slips (linesOf s) (omega arith) in
     record {
-      answer-is = rw (i .counted, w, n);
+      answer-is = rw (i .counted, w, n, length-map);
       letters-are = rw w at (i .letters-are);
       ends-are = rw w at (i .ends-are);
     }

@@ -3,18 +3,19 @@
 --   read-..    == the ways through read_tray
 use mathlib.Core.Path.{_≡_, refl, sym, _∙_, ap}
 use mathlib.Core.List.{List}
-use Prim.Native.Nat.{ℕ, zero, suc, _≤_, _<_}
+use Prim.Native.Nat.{ℕ, suc, _≤_, _<_}
 use borrow.Author.Tests.{lt-ltb, le-ltb}
 use native.Mathlib.Decide.{decLt}
 use native.Mathlib.Omega.{arith}
 use lib.ListN.{length}
 use Rattle.trays.specs.declared.Refusal.{Refusal}
 use Rattle.trays.specs.Limits.{maxFile, endsNeed}
-use Rattle.trays.specs.Faults.{refusal, written}
-use Rattle.files.specs.declared.Read.{Read}
+use Rattle.trays.specs.declared.Written.{Written}
+use Rattle.trays.specs.Faults.{refusal}
+use Rattle.trays.proofs.WrittenSlips.{tray-refused, tray-wrote}
 use Rattle.files.specs.Lines.{linesOf}
 use Rattle.files.specs.Faults.{linesFault, readFault}
-use Rattle.files.specs.Answers.{readOf, Reading}
+use Rattle.files.specs.Answers.{slipsIn, Reading}
 use Rattle.reading.specs.steps.Copying.{Lent, Copied}
 use Rattle.files.proofs.LineFaults.{or-last, lines-accepted}
 
@@ -41,13 +42,7 @@ module _ (s : List ℕ) (a b : ℕ) where
 
 module _ (s a b : List ℕ) (f : Refusal) (e : f ≡ readFault s (length a) (length b)) where
   pub read-refused : (f .number ≡ 0 → ⊥) → Reading s a a b b (record { number = f .number; detail = f .detail; letters = 0; slips = 0 })
-  read-refused z = go (f .number) refl z
-    where
-      go : (n : ℕ) → f .number ≡ n → (n ≡ 0 → ⊥) → Reading s a a b b (record { number = n; detail = f .detail; letters = 0; slips = 0 })
-      go zero p z = absurd (z refl)
-      go (suc n) p z =
-          let q : readFault s (length a) (length b) .number ≡ suc n = rw e at p in
-          record { answer-is = rw (q, readOf, e); letters-are = rw (q, written); ends-are = rw (q, written) }
+  read-refused z = rw (← e) (tray-refused f (slipsIn s) z a b)
 
   module _ (z : f .number ≡ 0) where
     silent : (n : ℕ) → refusal (suc n) 0 ≡ readFault s (length a) (length b) → ⊥
@@ -74,7 +69,5 @@ module _ (s a b : List ℕ) (f : Refusal) (e : f ≡ readFault s (length a) (len
           ]
         ]
 
-    pub read-copied : (a′ b′ : List ℕ) (r : Read) → Copied s a a′ b b′ r → Reading s a a′ b b′ r
-    read-copied a′ b′ r c =
-        let q : readFault s (length a) (length b) .number ≡ 0 = rw e at z in
-        record { answer-is = rw (q, readOf) (c .answer-is); letters-are = rw (q, written) (c .letters-are); ends-are = rw (q, written) (c .ends-are) }
+    pub read-copied : (a′ b′ : List ℕ) (r : Written) → Copied s a a′ b b′ r → Reading s a a′ b b′ r
+    read-copied a′ b′ r c = rw (← e) (tray-wrote f (slipsIn s) a a′ b b′ r z c)

@@ -5,8 +5,8 @@ ghost use Rattle.files.specs.Answers.{Reading};
 ghost use Rattle.reading.specs.steps.Copying.{Lent, Copied};
 use files::ENDS_NEED;
 use files::MAX_FILE;
-use files::Read;
 use trays::Refusal;
+use trays::Written;
 use trays::refuse;
 
 // Place A: refusals 15 to 19 of a file, where so many letters and ends are lent.
@@ -26,7 +26,7 @@ fn check_file(file: &[u8], letters: usize, ends: usize) -> Refusal
 }
 
 // The letters and ends of a file without a fault.
-fn copy_file(file: &[u8], letters: &mut [u8], ends: &mut [u16]) -> Read
+fn copy_file(file: &[u8], letters: &mut [u8], ends: &mut [u16]) -> Written
     requires { ⌜ Lent (now file) (now letters) (now ends) ⌝ }
     ensures { λ r. ⌜ Copied (now (file .entry)) (now (letters .entry)) (now (letters .exit)) (now (ends .entry)) (now (ends .exit)) r ⌝ }
 {
@@ -44,7 +44,7 @@ fn copy_file(file: &[u8], letters: &mut [u8], ends: &mut [u16]) -> Read
         slips += 1;
         at = next;
     }
-    Read {
+    Written {
         number: 0,
         detail: 0,
         letters: count as u32,
@@ -53,12 +53,12 @@ fn copy_file(file: &[u8], letters: &mut [u8], ends: &mut [u16]) -> Read
 }
 
 // Reads a tray file into lent letters and ends. Nothing is written before every line is checked.
-pub fn read_tray(file: &[u8], letters: &mut [u8], ends: &mut [u16]) -> Read
+pub fn read_tray(file: &[u8], letters: &mut [u8], ends: &mut [u16]) -> Written
     ensures { λ r. ⌜ Reading (now (file .entry)) (now (letters .entry)) (now (letters .exit)) (now (ends .entry)) (now (ends .exit)) r ⌝ }
 {
     let found = check_file(file, letters.len(), ends.len());
     if found.number != 0 {
-        return Read {
+        return Written {
             number: found.number,
             detail: found.detail,
             letters: 0,

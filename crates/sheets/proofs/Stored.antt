@@ -7,6 +7,7 @@ use Prim.Native.Nat.{ℕ}
 use Rattle.words.specs.Lists.{each}
 use Rattle.trays.specs.Limits.{maxSlip, maxFile, endsNeed}
 use Rattle.trays.specs.Faults.{firstRow, trayRowsFor, trayFault}
+use Rattle.trays.specs.Written.{lettersOf}
 use Rattle.trays.proofs.Rows.{or-zero, both-silent}
 use Rattle.trays.proofs.Accepted.{Accepted, rows-tell}
 use Rattle.trays.proofs.Stored.{rows-stored}
@@ -17,7 +18,7 @@ use Rattle.files.specs.Faults.{readFault}
 use Rattle.sheets.specs.Programs.{lettersIn, endsIn, composeSheetFault}
 use Rattle.sheets.specs.Stored.{typedIn, Stored, Stored-files}
 
-letters-typed : (ls : List (List ℕ)) → each letters ls ≡ map fold (each typed ls)
+letters-typed : (ls : List (List ℕ)) → lettersOf (map letters ls) ≡ map fold (each typed ls)
 letters-typed [] = refl
 letters-typed (l ∷ ls) = ap (λ r. map fold (typed l) ++ r) (letters-typed ls) ∙ sym (map-append fold (typed l) (each typed ls))
 

@@ -19,18 +19,19 @@ use Rattle.trays.specs.declared.Refusal.{Refusal}
 use Rattle.trays.specs.Limits.{maxFile, endsNeed}
 use Rattle.trays.specs.Slips.{slipsOf}
 use Rattle.trays.specs.Faults.{orElse, firstRow, trayRows, trayFault}
+use Rattle.trays.specs.Written.{lettersOf, endsOf}
 use Rattle.folding.specs.Folding.{fold}
-use Rattle.files.specs.Lines.{lf, linesOf}
+use Rattle.files.specs.Lines.{lf}
 use Rattle.files.specs.Faults.{readFault}
-use Rattle.files.specs.Answers.{lettersOf, endsFrom}
+use Rattle.files.specs.Answers.{slipsIn}
 use Rattle.answers.specs.Finding.{textRows, listRow}
 use Rattle.sheets.specs.Sheets.{composeSheetOf, findSheetOf, refusedLine, maxFound}
 
 abbrev pub lettersIn : List ℕ → List ℕ
-lettersIn file = lettersOf (linesOf file)
+lettersIn file = lettersOf (slipsIn file)
 
 abbrev pub endsIn : List ℕ → List ℕ
-endsIn file = endsFrom 0 (linesOf file)
+endsIn file = endsOf (slipsIn file)
 
 abbrev pub traySheet : List ℕ → List ℕ → List ℕ
 traySheet s es = let f = trayFault s es in elim (f .number) [ zero ↦ composeSheetOf (slipsOf s es) | suc n ↦ refusedLine f ]

@@ -20,6 +20,7 @@ use Rattle.trays.specs.Limits.{maxSlips, maxSlip}
 use Rattle.trays.specs.Slips.{numbers}
 use Rattle.trays.specs.Aside.{kept, counted}
 use Rattle.trays.specs.Faults.{firstRow, trayRowsFor, trayFault, setFault, slipFault, pairFault, refusal}
+use Rattle.trays.specs.Written.{lettersOf, endsOf, writtenBy}
 use Rattle.trays.specs.Answers.{stretchOf, pairOf}
 
 pub record Specimen (A B : Type 0) : Type 0 where
@@ -173,3 +174,11 @@ pub set-first :
     map (λ m. setFault m (rows 201 1 .letters) (rows 201 1 .ends)) (0 ∷ 1 ∷ 33 ∷ []) ≡ (refusal 21 0 ∷ refusal 1 0 ∷ refusal 21 0 ∷ [])
 unfolding setFault
 set-first = refl
+
+-- slips written: letters one after another, each end behind its last letter; of a call that is turned back nothing is counted
+pub written-slips :
+    (lettersOf (map word ("AVG" ∷ "AE" ∷ [])) ≡ word "AVGAE")
+    × (endsOf (map word ("AVG" ∷ "AE" ∷ [])) ≡ 3 ∷ 5 ∷ [])
+    × (writtenBy (refusal 0 0) (map word ("AVG" ∷ "AE" ∷ [])) ≡ record { number = 0; detail = 0; letters = 5; slips = 2 })
+    × (writtenBy (refusal 6 2) (map word ("AVG" ∷ "AE" ∷ [])) ≡ record { number = 6; detail = 2; letters = 0; slips = 0 })
+written-slips = (refl, refl, refl, refl)

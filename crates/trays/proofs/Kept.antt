@@ -1,6 +1,9 @@
 -- The kept slips among the members M of a tray, for any M.
+--   aside-longer, aside-equal == the two ways in which a slip is set aside; aside-cases == there is no other
+--   kept-asc, in-kept, kept-in == the kept slips ascend if M does, and are those of M that are not set aside
+--   kept-apart, kept-proper   == no kept slip stands in another one, and none is the whole of its overlap with another one
 -- A slip that stands in another one is shorter, and then it is set aside, or as long, and then the two are equal and the higher one is
--- set aside. So no kept slip stands in another one, and none is the whole of its overlap with another one.
+-- set aside.
 use mathlib.Core.Path.{_≡_, sym, _∙_}
 use mathlib.Core.Bool.{true, false, _&&_, not}
 use mathlib.Core.List.{List}
@@ -11,11 +14,11 @@ use native.Mathlib.Omega.{arith}
 use lib.Dec.{ltb}
 use lib.ListN.{length}
 use lib.Seq.{take-all}
-use borrow.Author.Tests.{lt-ltb, not-true}
+use borrow.Author.Tests.{ltb-true, lt-ltb, not-true}
 use Rattle.words.specs.Words.{same, standsIn, overlap}
-use Rattle.words.proofs.Tests.{tell, and-intro, or-right, not-both}
+use Rattle.words.proofs.Tests.{tell, both, either, and-intro, or-right, not-both}
 use Rattle.words.proofs.Members.{In, Asc, in-those, those-in, asc-those, none-any}
-use Rattle.words.proofs.Orders.{same-at}
+use Rattle.words.proofs.Orders.{same-is, same-at}
 use Rattle.words.proofs.Strings.{begins-take, begins-stands, stands-at}
 use Rattle.words.proofs.Overlaps.{overlap-full}
 use Rattle.trays.specs.Slips.{slip}
@@ -34,20 +37,35 @@ stands-not-overlap x y e =
       | no h ↦ absurd (not-both (standsIn x y) (begins-stands x y (overlap-full x y (omega arith))) e)
     ]
 
+module _ (ss : List (List ℕ)) (i k : ℕ) where
+  pub aside-longer : length (slip ss i) < length (slip ss k) → standsIn (slip ss i) (slip ss k) ≡ true → asideFor ss i k ≡ true
+  aside-longer h e = rw (lt-ltb (length (slip ss i)) (length (slip ss k)) h, e)
+
+  pub aside-equal : k < i → slip ss i ≡ slip ss k → asideFor ss i k ≡ true
+  aside-equal h s =
+      or-right (ltb (length (slip ss i)) (length (slip ss k)) && standsIn (slip ss i) (slip ss k)) (ltb k i && same (slip ss i) (slip ss k))
+      (and-intro (ltb k i) (same (slip ss i) (slip ss k)) (lt-ltb k i h) (rw s (same-at (slip ss k))))
+
+  pub aside-cases :
+      asideFor ss i k ≡ true
+      → ((length (slip ss i) < length (slip ss k)) × (standsIn (slip ss i) (slip ss k) ≡ true)) ⊎ ((k < i) × (slip ss i ≡ slip ss k))
+  aside-cases e =
+      let x = slip ss i in
+      let y = slip ss k in
+      elim (either (ltb (length x) (length y) && standsIn x y) (ltb k i && same x y) e) [
+        | inl a ↦ let (l, t) = both (ltb (length x) (length y)) (standsIn x y) a in inl (ltb-true (length x) (length y) l, t)
+        | inr a ↦ let (l, t) = both (ltb k i) (same x y) a in inr (ltb-true k i l, same-is x y t)
+      ]
+
 -- of two different slips, if one stands in the other, one sets the other aside
 aside-stands : (ss : List (List ℕ)) (i k : ℕ) → (i ≡ k → ⊥) → standsIn (slip ss i) (slip ss k) ≡ true → (asideFor ss i k ≡ true) ⊎ (asideFor ss k i ≡ true)
 aside-stands ss i k ne e =
     elim (decLt (length (slip ss i)) (length (slip ss k))) [
-      | yes h ↦ inl (rw (lt-ltb (length (slip ss i)) (length (slip ss k)) h, e))
+      | yes h ↦ inl (aside-longer ss i k h e)
       | no h ↦
           let s : slip ss i ≡ slip ss k = stands-same (slip ss i) (slip ss k) e (omega arith) in
-          elim (decLt k i) [ yes l ↦ inl (aside i k l s) | no l ↦ inr (aside k i (omega arith) (sym s)) ]
+          elim (decLt k i) [ yes l ↦ inl (aside-equal ss i k l s) | no l ↦ inr (aside-equal ss k i (omega arith) (sym s)) ]
     ]
-  where
-    aside : (i k : ℕ) → k < i → slip ss i ≡ slip ss k → asideFor ss i k ≡ true
-    aside i k h s =
-        or-right (ltb (length (slip ss i)) (length (slip ss k)) && standsIn (slip ss i) (slip ss k)) (ltb k i && same (slip ss i) (slip ss k))
-        (and-intro (ltb k i) (same (slip ss i) (slip ss k)) (lt-ltb k i h) (rw s (same-at (slip ss k))))
 
 module _ (ss : List (List ℕ)) (M : List ℕ) where
   pub kept-asc : Asc _<_ M → Asc _<_ (kept ss M)

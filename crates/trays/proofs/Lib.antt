@@ -1,6 +1,7 @@
 -- Laws of trays.
 pub mod AllSpecimens
 pub mod Kept
+pub mod LeftOut
 pub mod Rising
 pub mod Rows
 pub mod Accepted
@@ -9,4 +10,6 @@ pub mod Spans
 pub mod Stored
 pub mod Stops
 pub mod CountsLoop
+pub mod WrittenSlips
+pub mod WrittenTrays
 pub mod Specimens

@@ -2,6 +2,7 @@
 --   or-zero, or-some   == the two cases of orElse; both-silent, if neither speaks
 --   speaking           == a row that is not silent has a number above 0, and its detail
 --   rows-append        == rows are taken top to bottom, one part after another
+--   rows-when          == rows may be exchanged for others that say the same where those above them are silent
 --   written-all, written-none == a lent buffer is written over, or is as it was
 use mathlib.Core.Path.{_≡_, refl, sym, ap}
 use mathlib.Core.List.{List, [], _∷_, _++_}
@@ -51,6 +52,11 @@ or-assoc f g h = by-number f (λ e. rw (or-zero f g e, or-zero f (orElse g h) e)
 pub rows-append : (xs ys : List Refusal) → firstRow (xs ++ ys) ≡ orElse (firstRow xs) (firstRow ys)
 rows-append [] ys = refl
 rows-append (x ∷ xs) ys = rw (rows-append xs ys) (sym (or-assoc x (firstRow xs) (firstRow ys)))
+
+pub rows-when : (xs ys zs : List Refusal) → (firstRow xs .number ≡ 0 → firstRow ys ≡ firstRow zs) → firstRow (xs ++ ys) ≡ firstRow (xs ++ zs)
+rows-when xs ys zs h =
+    rw (rows-append xs ys, rows-append xs zs)
+    (by-number (firstRow xs) (λ e. rw (h e)) (λ p. rw (or-some (firstRow xs) (firstRow ys) p, or-some (firstRow xs) (firstRow zs) p)))
 
 pub written-all : {A : Type 0} (f : Refusal) (xs old : List A) → f .number ≡ 0 → written f xs old ≡ over xs old
 written-all {A} f xs old z = ap {B = List A} (λ (m : ℕ). elim m [ zero ↦ over xs old | suc n ↦ old ]) z

@@ -3,5 +3,6 @@ pub mod Limits
 pub mod Slips
 pub mod Aside
 pub mod Faults
+pub mod Written
 pub mod Answers
 pub mod Stored

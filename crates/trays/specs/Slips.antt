@@ -2,6 +2,7 @@
 --   slipsOf s es   == the slips of a tray, as strings
 --   slip ss i      == the letters of slip i; no letters where there is no such slip
 --   numbers ss     == 1, 2, .. up to the count of slips
+--   only ss M      == the slips numbered in M, as slips of their own
 --   stop           == the full stop
 --   isLetter b     == b is one of the 27 signs
 --   startOf es i   == where slip i starts, the end before it
@@ -9,7 +10,7 @@
 --   spanOf es i    == the two together
 --   total ss K     == the letters of the slips numbered in K, counted together
 use mathlib.Core.Bool.{Bool, _&&_, _||_}
-use mathlib.Core.List.{List, [], _∷_}
+use mathlib.Core.List.{List, [], _∷_, map}
 use Prim.Native.Nat.{ℕ, zero, suc, _+_, _-_}
 use lib.Dec.{eqb, leb}
 use lib.ListN.{length, getD, take, drop}
@@ -30,6 +31,9 @@ slip ss (suc i) = getD ss i []
 
 abbrev pub numbers : List (List ℕ) → List ℕ
 numbers ss = upFrom 1 (length ss)
+
+abbrev pub only : List (List ℕ) → List ℕ → List (List ℕ)
+only ss M = map (slip ss) M
 
 abbrev pub stop : ℕ
 stop = 46

@@ -40,6 +40,13 @@ pub struct Located {
     pub start: u32,
     pub end: u32,
 }
+// What a call that writes a tray answers: the refusal, or 0 and 0 with the counts of letters and slips.
+pub struct Written {
+    pub number: u8,
+    pub detail: u32,
+    pub letters: u32,
+    pub slips: u32,
+}
 // Where a slip starts and ends in the letters of its tray.
 pub struct Span {
     pub start: usize,

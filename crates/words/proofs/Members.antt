@@ -2,7 +2,7 @@
 --   Sorts R xs ys  == ys is ascending by R and has the members of xs
 -- Each law is one induction over the list; a test is decided by `tell`, and the two clauses `those-yes`, `those-no` open `those` at its head.
 use mathlib.Core.Path.{_≡_, refl, sym, ap₂, _∙_}
-use mathlib.Core.Bool.{Bool, true, false}
+use mathlib.Core.Bool.{Bool, true, false, _||_}
 use mathlib.Core.Logic.{inl, inr}
 use mathlib.Core.List.{List, [], _∷_, _++_, append-assoc, List·Memᴰ, List·Memᴰ·head, List·Memᴰ·tail}
 use mathlib.Core.List.{List·Memᴰ·not-nil, Memᴰ·append-left, Memᴰ·append-right, List·Memᴰ·append-cases}
@@ -10,7 +10,7 @@ use Prim.Native.Nat.{ℕ, zero, suc, _+_, _≤_, _<_}
 use native.Mathlib.Decide.{ℕ-discrete}
 use native.Mathlib.Omega.{arith}
 use Rattle.words.specs.Lists.{each, those, any, upFrom, insert, inOrder}
-use Rattle.words.proofs.Tests.{tell, either, or-left, or-right, not-both}
+use Rattle.words.proofs.Tests.{by-test, tell, either, or-left, or-right, not-both}
 pub use Rattle.words.specs.Members.{In, Asc, Less}
 
 pub record Sorts {A : Type 0} (R : A → A → Type 0) (xs ys : List A) : Type 0 where
@@ -83,6 +83,10 @@ module _ {A : Type 0} (t : A → Bool) where
         | inl y ↦ (x, List·Memᴰ·head refl, y)
         | inr h ↦ let r = any-in xs h in (r .0, List·Memᴰ·tail (r .1), r .2)
       ]
+
+  pub any-append : (xs ys : List A) → any t (xs ++ ys) ≡ any t xs || any t ys
+  any-append [] ys = refl
+  any-append (x ∷ xs) ys = by-test (t x) (λ e. rw e) (λ e. rw e (any-append xs ys))
 
   pub any-none : (xs : List A) → ((a : A) → In a xs → t a ≡ false) → any t xs ≡ false
   any-none [] h = refl

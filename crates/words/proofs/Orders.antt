@@ -78,6 +78,9 @@ same-is [] (y ∷ ys) e = absurd (false≢true e)
 same-is (x ∷ xs) [] e = absurd (false≢true e)
 same-is (x ∷ xs) (y ∷ ys) e = let r = both (eqb x y) (same xs ys) e in ap₂ _∷_ (eqb-true x y (r .0)) (same-is xs ys (r .1))
 
+pub same-trans : (x y z : List ℕ) → same x y ≡ true → same y z ≡ true → same x z ≡ true
+same-trans x y z e f = rw (same-is x y e) f
+
 pub same-at : (x : List ℕ) → same x x ≡ true
 same-at [] = refl
 same-at (x ∷ xs) = and-intro (eqb x x) (same xs xs) (up .at x) (same-at xs)

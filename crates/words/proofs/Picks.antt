@@ -4,7 +4,8 @@
 -- irreflexive relation at one place only.
 use mathlib.Core.Path.{_≡_, refl, sym, ap, _∙_}
 use mathlib.Core.Bool.{Bool, true, false, _&&_}
-use mathlib.Core.List.{List, [], _∷_, _++_, List·Memᴰ·head, List·Memᴰ·tail, List·Memᴰ·append-cases, Memᴰ·append-left, Memᴰ·append-right}
+use mathlib.Core.List.{List, [], _∷_, _++_, List·Memᴰ·head, List·Memᴰ·tail, List·Memᴰ·not-nil, List·Memᴰ·append-cases}
+use mathlib.Core.List.{Memᴰ·append-left, Memᴰ·append-right}
 use mathlib.Core.Logic.{inl, inr}
 use Prim.Native.Nat.{ℕ, zero, suc, _<_}
 use native.Mathlib.Decide.{decLt}
@@ -88,6 +89,25 @@ asc-insert R (x ∷ fs) a bs p f g = (
   ]),
   asc-insert R fs a bs (p .1) (λ b i. f b (List·Memᴰ·tail i)) g,
 )
+
+-- one member fewer
+pub in-without : {A : Type 0} {a : A} (xs : List A) (y : A) (ys : List A) → In a (xs ++ ys) → In a (xs ++ (y ∷ ys))
+in-without xs y ys m = elim (List·Memᴰ·append-cases xs m) [ inl i ↦ Memᴰ·append-left (y ∷ ys) i | inr i ↦ Memᴰ·append-right xs (List·Memᴰ·tail i) ]
+
+pub asc-without : {A : Type 0} (R : A → A → Type 0) (xs : List A) (y : A) (ys : List A) → Asc R (xs ++ (y ∷ ys)) → Asc R (xs ++ ys)
+asc-without R [] y ys p = p .1
+asc-without R (x ∷ xs) y ys p = (λ z m. p .0 z (in-without xs y ys m), asc-without R xs y ys (p .1))
+
+-- of two lists that ascend one behind the other, the members of the first stand in R to those of the second
+pub asc-before : {A : Type 0} (R : A → A → Type 0) (xs ys : List A) → Asc R (xs ++ ys) → (a b : A) → In a xs → In b ys → R a b
+asc-before R [] ys p a b i j = absurd (List·Memᴰ·not-nil i)
+asc-before R (x ∷ xs) ys p a b i j = by-in i (λ e. rw e (p .0 b (Memᴰ·append-right xs j))) (λ k. asc-before R xs ys (p .1) a b k j)
+
+-- at a place within the list the default does not matter
+pub getD-default : {A : Type 0} (xs : List A) (i : ℕ) (d e : A) → i < length xs → getD xs i d ≡ getD xs i e
+getD-default [] i d e h = absurd (omega arith)
+getD-default (x ∷ xs) zero d e h = refl
+getD-default (x ∷ xs) (suc i) d e h = getD-default xs i d e (omega arith)
 
 module _ {A : Type 0} (d : A) where
   pub getD-in : (xs : List A) (i : ℕ) → i < length xs → In (getD xs i d) xs

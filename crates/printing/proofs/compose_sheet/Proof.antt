@@ -1,4 +1,5 @@
-use Rattle.printing.proofs.FileSteps.{compose-can, compose-refused, letters-count, ends-count, letters-within, ends-within, compose-printed}
+use Rattle.trays.proofs.WrittenSlips.{letters-count, ends-count, letters-within, ends-within}
+use Rattle.printing.proofs.FileSteps.{compose-can, compose-refused, compose-printed}
 use borrow.Author.Needs.{needs}
 use Rattle.printing.proofs.compose_sheet.Statement.{statement}
 use Rattle.printing.proofs.compose_sheet.Tie as tie
@@ -24,25 +25,25 @@ slice-reshare-prefix-tray-sheet : tie.Need-slice-reshare-prefix-tray-sheet
 slice-reshare-prefix-tray-sheet c =
     let accepted = c .before .before in
     let read = accepted .before .before .before .before .before .before in
-    letters-within _ _ _ (start read .pre .file) _ _ _ (read .read-tray .ensures) (accepted .if1 .left)
+    letters-within _ _ _ _ _ _ _ (read .read-tray .ensures) (accepted .if1 .left)
 
 slice-aggregate-tray-sheet : tie.Need-slice-aggregate-tray-sheet
 slice-aggregate-tray-sheet c =
     let accepted = c .before .before .before in
     let read = accepted .before .before .before .before .before .before in
-    letters-count _ _ _ (start read .pre .file) _ _ _ (read .read-tray .ensures) (accepted .if1 .left)
+    letters-count _ _ _ _ _ _ _ (read .read-tray .ensures) (accepted .if1 .left)
 
 slice-reshare-prefix-tray-sheet-2 : tie.Need-slice-reshare-prefix-tray-sheet-2
 slice-reshare-prefix-tray-sheet-2 c =
     let accepted = c .before .before .before in
     let read = accepted .before .before .before .before .before .before in
-    ends-within _ _ _ (start read .pre .file) _ _ _ (read .read-tray .ensures) (accepted .if1 .left)
+    ends-within _ _ _ _ _ _ _ (read .read-tray .ensures) (accepted .if1 .left)
 
 slice-aggregate-tray-sheet-2 : tie.Need-slice-aggregate-tray-sheet-2
 slice-aggregate-tray-sheet-2 c =
     let accepted = c .before .before .before .before in
     let read = accepted .before .before .before .before .before .before in
-    ends-count _ _ _ (start read .pre .file) _ _ _ (read .read-tray .ensures) (accepted .if1 .left)
+    ends-count _ _ _ _ _ _ _ (read .read-tray .ensures) (accepted .if1 .left)
 
 returns-2 : tie.Need-returns-2
 returns-2 c =

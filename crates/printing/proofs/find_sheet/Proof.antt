@@ -1,14 +1,5 @@
-use Rattle.printing.proofs.FileSteps.{
-  found-lent,
-  text-room,
-  find-can,
-  find-refused,
-  letters-count,
-  ends-count,
-  letters-within,
-  ends-within,
-  find-printed,
-}
+use Rattle.trays.proofs.WrittenSlips.{letters-count, ends-count, letters-within, ends-within}
+use Rattle.printing.proofs.FileSteps.{found-lent, text-room, find-can, find-refused, find-printed}
 use Rattle.text_sheets.proofs.Trims.{take-count}
 use borrow.Author.Needs.{needs}
 use Rattle.printing.proofs.find_sheet.Statement.{statement}
@@ -40,22 +31,22 @@ returns c =
 
 slice-reshare-prefix-text-sheet : tie.Need-slice-reshare-prefix-text-sheet
 slice-reshare-prefix-text-sheet c =
-    letters-within _ _ _ (start (reading c) .pre .file) _ _ _ (reading c .read-tray .ensures) (accepted c .if1 .left)
+    letters-within _ _ _ _ _ _ _ (reading c .read-tray .ensures) (accepted c .if1 .left)
 
 slice-aggregate-text-sheet : tie.Need-slice-aggregate-text-sheet
 slice-aggregate-text-sheet c =
     let filed = c .before in
-    letters-count _ _ _ (start (reading filed) .pre .file) _ _ _ (reading filed .read-tray .ensures) (accepted filed .if1 .left)
+    letters-count _ _ _ _ _ _ _ (reading filed .read-tray .ensures) (accepted filed .if1 .left)
 
 slice-reshare-prefix-text-sheet-2 : tie.Need-slice-reshare-prefix-text-sheet-2
 slice-reshare-prefix-text-sheet-2 c =
     let filed = c .before in
-    ends-within _ _ _ (start (reading filed) .pre .file) _ _ _ (reading filed .read-tray .ensures) (accepted filed .if1 .left)
+    ends-within _ _ _ _ _ _ _ (reading filed .read-tray .ensures) (accepted filed .if1 .left)
 
 slice-aggregate-text-sheet-2 : tie.Need-slice-aggregate-text-sheet-2
 slice-aggregate-text-sheet-2 c =
     let filed = c .before .before in
-    ends-count _ _ _ (start (reading filed) .pre .file) _ _ _ (reading filed .read-tray .ensures) (accepted filed .if1 .left)
+    ends-count _ _ _ _ _ _ _ (reading filed .read-tray .ensures) (accepted filed .if1 .left)
 
 slice-aggregate-text-sheet-3 : tie.Need-slice-aggregate-text-sheet-3
 slice-aggregate-text-sheet-3 c = search take-count

@@ -5,13 +5,13 @@ use mathlib.Core.Path.{_≡_}
 use mathlib.Core.List.{List}
 use Prim.Native.Nat.{ℕ, _≤_}
 use lib.ListN.{length}
-use Rattle.words.specs.Lists.{over}
 use Rattle.trays.specs.Limits.{maxFile, endsNeed}
+use Rattle.trays.specs.declared.Written.{Written}
 use Rattle.trays.specs.Faults.{accepted}
-use Rattle.files.specs.declared.Read.{Read}
+use Rattle.trays.specs.Written.{TrayWritten}
 use Rattle.files.specs.Lines.{linesOf}
 use Rattle.files.specs.Faults.{linesFault}
-use Rattle.files.specs.Answers.{lettersOf, endsFrom, goodOf}
+use Rattle.files.specs.Answers.{slipsIn}
 
 pub record Lent (s a b : List ℕ) : Type 0 where
   pub good : linesFault 1 (linesOf s) ≡ accepted
@@ -19,7 +19,5 @@ pub record Lent (s a b : List ℕ) : Type 0 where
   pub room : maxFile ≤ length a
   pub slots : endsNeed ≤ length b
 
-pub record Copied (s a a′ b b′ : List ℕ) (r : Read) : Type 0 where
-  pub answer-is : r ≡ goodOf s
-  pub letters-are : a′ ≡ over (lettersOf (linesOf s)) a
-  pub ends-are : b′ ≡ over (endsFrom 0 (linesOf s)) b
+abbrev pub Copied : List ℕ → List ℕ → List ℕ → List ℕ → List ℕ → Written → Type 0
+Copied s a a′ b b′ r = TrayWritten accepted (slipsIn s) a a′ b b′ r
