@@ -7,19 +7,16 @@
 -- A slip set aside stands in a longer one, or equals a lower one; going on from there the slips grow longer or their numbers fall, so a
 -- kept slip is reached. The legend holds the kept slips, and what stands in a text fits at its lowest place.
 use mathlib.Core.Path.{_≡_, ap, subst}
-use mathlib.Core.Bool.{Bool, true, _&&_}
+use mathlib.Core.Bool.{Bool, true}
 use mathlib.Core.Logic.{inl, inr}
 use mathlib.Core.List.{List, [], _∷_}
 use Prim.Native.Nat.{ℕ, zero, suc, _+_, _-_, _*_, _≤_, _<_}
-use borrow.Author.Tests.{ltb-true}
 use native.Mathlib.Omega.{arith}
-use lib.Dec.{ltb}
 use lib.ListN.{length, drop, length-drop}
-use Rattle.words.specs.Words.{begins, same, standsIn}
-use Rattle.words.proofs.Tests.{by-test, tell, both, either}
+use Rattle.words.specs.Words.{begins, standsIn}
+use Rattle.words.proofs.Tests.{by-test, tell}
 use Rattle.words.proofs.Members.{In, any-in, in-upFrom, upFrom-in}
 use Rattle.words.proofs.Sums.{in-held}
-use Rattle.words.proofs.Orders.{same-is}
 use Rattle.words.proofs.Strings.{begins-refl, begins-length, begins-stands, stands-drop, stands-trans}
 use Rattle.trays.specs.Limits.{maxSlips, maxSlip, maxLetters}
 use Rattle.trays.specs.declared.Settings.{Settings}
@@ -27,7 +24,7 @@ use Rattle.trays.specs.Slips.{slip, numbers}
 use Rattle.trays.specs.Aside.{asideFor, isAside, counted}
 use Rattle.trays.specs.Faults.{trayFault}
 use Rattle.trays.proofs.Accepted.{accepted-tells, slips-count}
-use Rattle.trays.proofs.Kept.{kept-in}
+use Rattle.trays.proofs.Kept.{aside-cases, kept-in}
 use Rattle.trays.proofs.Spans.{accepted-spanned}
 use Rattle.greedy.specs.Legends.{piecesFor, lowest, placeIn, placeFor}
 use Rattle.greedy.specs.Composing.{whole, legendOf, placeOf, comparedOf}
@@ -63,19 +60,13 @@ module _ (s es : List ℕ) (acc : trayFault s es .number ≡ 0) where
       let r : (1 ≤ k) × (k ≤ length es) = (in-upFrom 1 (length ss) m .0, omega (arith, in-upFrom 1 (length ss) m .1, slips-count s es)) in
       let few : k ≤ maxSlips = omega (arith, r .1, accepted-tells s es acc .few) in (
         k,
-        elim (either (ltb (length x) (length y) && standsIn x y) (ltb k i && same x y) a) [
-          | inl b ↦
-              let (c, h) = both (ltb (length x) (length y)) (standsIn x y) b in
-              let l : length x < length y = ltb-true (length x) (length y) c in
-              record { real = r; holds = h; falls = omega (arith, accepted-spanned s es acc .short k (r .0) (r .1)) }
-          | inr b ↦
-              let (c, h) = both (ltb k i) (same x y) b in
-              let q : x ≡ y = same-is x y h in
-              record {
-                real = r;
-                holds = begins-stands x y (subst (λ z. begins x z ≡ true) q (begins-refl x));
-                falls = omega (arith, ltb-true k i c, ap length q);
-              }
+        elim (aside-cases ss i k a) [
+          | inl (l, h) ↦ record { real = r; holds = h; falls = omega (arith, accepted-spanned s es acc .short k (r .0) (r .1)) }
+          | inr (l, q) ↦ record {
+            real = r;
+            holds = begins-stands x y (subst (λ z. begins x z ≡ true) q (begins-refl x));
+            falls = omega (arith, ap length q);
+          }
         ],
       )
 

@@ -4,22 +4,19 @@
 -- A string that stands in a longer slip ends a prefix of that slip. If it is the prefix, the prefix goes on by a letter; if not, then on
 -- the way along the failures from that prefix the last node longer than the string fails to it.
 use mathlib.Core.Path.{_≡_, sym, ap, subst, _∙_}
-use mathlib.Core.Bool.{true, _&&_}
+use mathlib.Core.Bool.{true}
 use mathlib.Core.Logic.{_⊎_, inl, inr}
 use mathlib.Core.List.{List, [], _∷_, _++_, map, append-assoc}
 use Prim.Native.Nat.{ℕ, zero, suc, _<_}
 use native.Mathlib.Omega.{arith}
-use lib.Dec.{ltb}
 use lib.ListN.{length, getD, length-append}
 use lib.Seq.{take-suc}
-use borrow.Author.Tests.{lt-ltb, ltb-true}
-use Rattle.words.specs.Words.{same, begins, standsIn}
-use Rattle.words.proofs.Tests.{both, either, and-intro, or-right}
+use Rattle.words.specs.Words.{begins, standsIn}
 use Rattle.words.proofs.Members.{In, in-any, any-in}
-use Rattle.words.proofs.Orders.{same-is, same-at}
 use Rattle.words.proofs.Strings.{begins-here, begins-take, begins-prefix, begins-length, begins-stands, ends-stands, stands-split, stands-trans, begins-refl}
 use Rattle.trays.specs.Slips.{slip}
 use Rattle.trays.specs.Aside.{asideFor, isAside}
+use Rattle.trays.proofs.Kept.{aside-longer, aside-equal, aside-cases}
 use Rattle.matching.specs.Moves.{beginsSome}
 use Rattle.matching.proofs.Endings.{End, below, end-cases, end-length, end-behind, end-ends, begins-some, slip-some, some-slip}
 use Rattle.matching.proofs.States.{Node, fail, longest-end, longest-length, longest-node, longest-most}
@@ -62,14 +59,6 @@ module _ (ps : List (List ℕ)) where
       (λ a v w r. inr (end-fail (suc (length v)) a v x (omega arith) (rw w at k) o r))
 
 module _ (ss : List (List ℕ)) (i : ℕ) where
-  asideFor-longer : (k : ℕ) → length (slip ss i) < length (slip ss k) → standsIn (slip ss i) (slip ss k) ≡ true → asideFor ss i k ≡ true
-  asideFor-longer k h s = rw (lt-ltb (length (slip ss i)) (length (slip ss k)) h, s)
-
-  asideFor-earlier : (k : ℕ) → k < i → slip ss i ≡ slip ss k → asideFor ss i k ≡ true
-  asideFor-earlier k h e =
-      or-right (ltb (length (slip ss i)) (length (slip ss k)) && standsIn (slip ss i) (slip ss k)) (ltb k i && same (slip ss i) (slip ss k))
-      (and-intro (ltb k i) (same (slip ss i) (slip ss k)) (lt-ltb k i h) (rw e (same-at (slip ss k))))
-
   module _ (M : List ℕ) where
     abbrev ps : List (List ℕ)
     ps = map (slip ss) M
@@ -80,11 +69,9 @@ module _ (ss : List (List ℕ)) (i : ℕ) where
     pub aside-inner : In i M → isAside ss M i ≡ true → Inner ps (slip ss i) ⊎ Earlier ss M i
     aside-inner m h =
         let (k, p, e) = any-in (asideFor ss i) M h in
-        elim (either (ltb (length (slip ss i)) (length (slip ss k)) && standsIn (slip ss i) (slip ss k)) _ e) [
-          | inl l ↦
-              let b = both (ltb (length (slip ss i)) (length (slip ss k))) _ l in
-              inl (stands-inner ps (slip ss i) (slip ss k) (inr (member-some m)) (member-some p) (ltb-true _ _ (b .0)) (b .1))
-          | inr l ↦ let b = both (ltb k i) _ l in inr (k, p, ltb-true k i (b .0), same-is (slip ss i) (slip ss k) (b .1))
+        elim (aside-cases ss i k e) [
+          | inl (l, s) ↦ inl (stands-inner ps (slip ss i) (slip ss k) (inr (member-some m)) (member-some p) l s)
+          | inr (l, s) ↦ inr (k, p, l, s)
         ]
 
     -- a longer node in which the slip stands
@@ -92,7 +79,7 @@ module _ (ss : List (List ℕ)) (i : ℕ) where
     longer-aside y n h s =
         let (k, m, b) = some-slip ss M y n in
         in-any (asideFor ss i) m
-        (asideFor-longer k (omega (arith, begins-length y (slip ss k) b))
+        (aside-longer ss i k (omega (arith, begins-length y (slip ss k) b))
         (stands-trans (slip ss i) y (slip ss k) s (begins-stands y (slip ss k) b)))
 
     pub inner-aside : Inner ps (slip ss i) ⊎ Earlier ss M i → isAside ss M i ≡ true
@@ -105,4 +92,4 @@ module _ (ss : List (List ℕ)) (i : ℕ) where
         let e : End (slip ss i) (r .1) = rw (r .3) at (longest-end ps (r .1)) in
         longer-aside y (r .2) (omega (arith, end-length e)) (ends-stands (slip ss i) y (end-ends (slip ss i) y (below e)))
     inner-aside (inr r) =
-        in-any (asideFor ss i) (r .1) (asideFor-earlier (r .0) (r .2) (r .3))
+        in-any (asideFor ss i) (r .1) (aside-equal ss i (r .0) (r .2) (r .3))

@@ -23,6 +23,7 @@ use Rattle.words.proofs.Runs.{length-upFrom, upFrom-more}
 use Rattle.words.specs.Lists.{upFrom}
 use Rattle.words.proofs.Tests.{tell}
 use Rattle.words.proofs.Members.{In, those-yes, those-no}
+use Rattle.words.proofs.Picks.{getD-default}
 use Rattle.trays.specs.Limits.{maxSlips}
 use Rattle.greedy.specs.Joins.{Join, join, rightOf, leftOf, lastOf}
 use Rattle.greedy.specs.Legends.{overlapAfter}
@@ -86,12 +87,7 @@ module _ (xs : List ℕ) (f : ℕ → ℕ) (tells : (i : ℕ) → i < maxSlips �
 -- chain ends
 pub ends-mark : (xs : List ℕ) (i : ℕ) → 1 ≤ i → i ≤ length xs → chainEnds xs i ≡ mark xs i
 ends-mark xs zero h l = absurd (omega arith)
-ends-mark xs (suc i) h l = rw (mark-at xs i) (at xs i (suc i) l)
-  where
-    at : (xs : List ℕ) (i d : ℕ) → i < length xs → getD xs i d ≡ getD xs i 0
-    at [] i d h = absurd (omega arith)
-    at (x ∷ xs) zero d h = refl
-    at (x ∷ xs) (suc i) d h = at xs i d (omega arith)
+ends-mark xs (suc i) h l = rw (mark-at xs i) (getD-default xs i (suc i) 0 l)
 
 pub ends-beyond : (xs : List ℕ) (i : ℕ) → length xs < i → chainEnds xs i ≡ i
 ends-beyond xs zero h = absurd (omega arith)

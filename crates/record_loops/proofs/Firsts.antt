@@ -1,5 +1,5 @@
 -- Laws on the first elements of a lent list, stored one after another (specs/Firsts.antt).
---   firsts-suc, firsts-getD == one more of the first elements; the element at i
+--   firsts-suc              == one more of the first elements
 --   firsts-are              == the first elements are a list ys, where they agree with it place by place
 --   stored-set              == storing f i at place i goes from i elements stored to i + 1
 use mathlib.Core.Path.{_≡_, sym, ap, _∙_}
@@ -9,10 +9,9 @@ use native.Mathlib.Nat.{zero-add}
 use native.Mathlib.Numerals.{add-one}
 use native.Mathlib.Omega.{arith}
 use lib.ListN.{length, getD, set, length-map}
-use lib.Seq.{ext-getD}
 use Rattle.words.specs.Lists.{over, upFrom}
 use Rattle.words.proofs.Buffers.{length-over, over-set}
-use Rattle.words.proofs.Runs.{length-upFrom, upFrom-more}
+use Rattle.words.proofs.Runs.{length-upFrom, upFrom-more, map-places}
 use Rattle.record_loops.specs.Firsts.{firsts}
 
 module _ {A : Type 0} (f : ℕ → A) where
@@ -24,15 +23,11 @@ module _ {A : Type 0} (f : ℕ → A) where
   pub length-firsts : (n : ℕ) → length (firsts f n) ≡ n
   length-firsts n = length-map (upFrom 0 n) f ∙ length-upFrom 0 n
 
-  pub firsts-getD : (d : A) (n i : ℕ) → i < n → getD (firsts f n) i d ≡ f i
-  firsts-getD d n i h = getD-map-upFrom d 0 n i h ∙ ap f (zero-add i)
-
   pub firsts-suc : (n : ℕ) → firsts f (suc n) ≡ firsts f n ++ (f n ∷ [])
   firsts-suc n = ap (map f) (upFrom-more 0 n) ∙ map-append f (upFrom 0 n) ((0 + n) ∷ []) ∙ ap (λ (k : ℕ). firsts f n ++ (f k ∷ [])) (zero-add n)
 
   pub firsts-are : (d : A) (ys : List A) → ((i : ℕ) → i < length ys → f i ≡ getD ys i d) → firsts f (length ys) ≡ ys
-  firsts-are d ys h = ext-getD d (firsts f (length ys)) ys (length-firsts (length ys)) (λ i l. let m : i < length ys = (rw length-firsts at l) in
-      firsts-getD d (length ys) i m ∙ h i m)
+  firsts-are d ys h = map-places d f 0 ys (λ i l. ap f (zero-add i) ∙ h i l)
 
   module _ (xs : List A) where
     pub length-stored : (n : ℕ) → n ≤ length xs → length (over (firsts f n) xs) ≡ length xs

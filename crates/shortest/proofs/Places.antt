@@ -10,6 +10,7 @@ use mathlib.Core.Path.{_≡_, refl, sym, ap, ap₂, _∙_}
 use mathlib.Core.Bool.{Bool}
 use mathlib.Core.List.{List, [], _∷_, map}
 use Prim.Native.Nat.{ℕ, zero, suc, _+_, _<_}
+use native.Mathlib.Nat.{zero-add}
 use native.Mathlib.Omega.{arith}
 use lib.Dec.{eqb}
 use lib.ListN.{length, getD}
@@ -19,7 +20,7 @@ use Rattle.words.proofs.Tests.{by-test}
 use Rattle.words.proofs.Members.{In, Asc, in-upFrom}
 use Rattle.words.proofs.Sums.{All, all-in, all-at}
 use Rattle.words.proofs.Picks.{asc-differ}
-use Rattle.words.proofs.Runs.{length-upFrom}
+use Rattle.words.proofs.Runs.{length-upFrom, map-places}
 use Rattle.greedy.specs.Orders.{weight, along}
 use Rattle.greedy.proofs.Letters.{weight-none}
 use Rattle.shortest.specs.Orders.{without, shortestFor}
@@ -88,13 +89,8 @@ module _
       ap (λ k. k ∷ choose w n k (without k (map f X))) first
       ∙ ap (λ l. f j ∷ l) (ap (choose w n (f j)) (without-map j X (holds j m) a) ∙ behind j m)
 
-map-shift : {A : Type 0} (h : ℕ → A) (i n : ℕ) → map h (upFrom (suc i) n) ≡ map (λ a. h (suc a)) (upFrom i n)
-map-shift h i zero = refl
-map-shift h i (suc n) = ap (λ l. h (suc i) ∷ l) (map-shift h (suc i) n)
-
 pub places-list : (K : List ℕ) → map (λ a. getD K a 0) (upFrom 0 (length K)) ≡ K
-places-list [] = refl
-places-list (k ∷ K) = ap (λ l. k ∷ l) (map-shift (λ a. getD (k ∷ K) a 0) 0 (length K) ∙ places-list K)
+places-list K = map-places 0 (λ a. getD K a 0) 0 K (λ i h. rw zero-add)
 
 places-in : (n : ℕ) → All (λ a. a < n) (upFrom 0 n)
 places-in n = all-in (λ a. a < n) (upFrom 0 n) (λ a m. omega (arith, in-upFrom 0 n m))
