@@ -2,6 +2,7 @@
 use Rattle.greedy.specs.Claims.{Demand-3, Fewer-joins, Stop-free, All-tried}
 use Rattle.matching.specs.Moves.{Few-moves}
 use Rattle.shortest.specs.Claims.{Shortest-legends}
+use Rattle.merges.specs.Claims.{Same-legend, One-or-four}
 
 pub record Demands : Type 0 where
   -- one list by both rules; kept letters = saved + legend length; the legend holds every kept slip; at most twice, with a least overlap of 1
@@ -16,5 +17,9 @@ pub record Demands : Type 0 where
   -- the shortest legend: no order has a shorter one, it holds every kept slip, it is at most as long as the composed one and, with a least
   -- overlap of 1 and where no kept slip begins with a stop, as any text that holds them
   pub shortest : Shortest-legends
+  -- two trays merged: where the tray of both, written one after the other, is accepted, so is the outcome, and it has the same legend
+  pub same-legend : Same-legend
+  -- of two accepted trays the outcome can fail by 1 or 4 alone
+  pub one-or-four : One-or-four
   -- moves are at most 2 × the letters
   pub few-moves : Few-moves

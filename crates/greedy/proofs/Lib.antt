@@ -2,6 +2,7 @@
 pub mod AllSpecimens
 pub mod Chains
 pub mod Relabel
+pub mod Chosen
 pub mod Letters
 pub mod Takes
 pub mod Visits

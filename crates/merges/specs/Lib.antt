@@ -1,0 +1,3 @@
+-- Two trays merged: the slips written, refusals, and what is claimed.
+pub mod Merging
+pub mod Claims

@@ -1,0 +1,1 @@
+// Two trays merged: definitions and theorems. There is no code here.
