@@ -1,8 +1,8 @@
--- Answers as numbers, for calls on one slip, on a pair and on a tray file. Those of composing and finding stand in answers.
+-- Answers as numbers, for calls on one slip, on a pair, on a tray file and on two trays. Those of composing and finding stand in answers.
 --   slipNumbers r  == number, detail, start, end
 --   pairNumbers r  == number, detail, letters shared
---   readNumbers r  == number, detail, letters, slips
---   SlipExported, PairExported, ReadExported == what the calls leave; m is the least overlap
+--   writtenNumbers r == number, detail, letters, slips
+--   SlipExported, PairExported, ReadExported, MergeExported == what the calls leave; m is the least overlap
 use mathlib.Core.Path.{_≡_}
 use mathlib.Core.List.{List, [], _∷_}
 use Prim.Native.Nat.{ℕ}
@@ -11,6 +11,7 @@ use Rattle.trays.specs.declared.Pair.{Pair}
 use Rattle.trays.specs.Answers.{locatedOf, pairOf}
 use Rattle.trays.specs.declared.Written.{Written}
 use Rattle.files.specs.Answers.{Reading}
+use Rattle.merges.specs.Merging.{MergeSays}
 
 abbrev pub slipNumbers : Located → List ℕ
 slipNumbers r = r .number ∷ (r .detail ∷ (r .start ∷ (r .end ∷ [])))
@@ -18,8 +19,8 @@ slipNumbers r = r .number ∷ (r .detail ∷ (r .start ∷ (r .end ∷ [])))
 abbrev pub pairNumbers : Pair → List ℕ
 pairNumbers r = r .number ∷ (r .detail ∷ (r .letters ∷ []))
 
-abbrev pub readNumbers : Written → List ℕ
-readNumbers r = r .number ∷ (r .detail ∷ (r .letters ∷ (r .slips ∷ [])))
+abbrev pub writtenNumbers : Written → List ℕ
+writtenNumbers r = r .number ∷ (r .detail ∷ (r .letters ∷ (r .slips ∷ [])))
 
 pub record SlipExported (s es : List ℕ) (i : ℕ) (a′ : List ℕ) : Type 0 where
   pub answer : Located
@@ -34,4 +35,9 @@ pub record PairExported (m : ℕ) (s es : List ℕ) (i j : ℕ) (a′ : List ℕ
 pub record ReadExported (file ls ls′ es es′ a′ : List ℕ) : Type 0 where
   pub answer : Written
   pub says : Reading file ls ls′ es es′ answer
-  pub numbers-are : a′ ≡ readNumbers answer
+  pub numbers-are : a′ ≡ writtenNumbers answer
+
+pub record MergeExported (s es t fs ls ls′ cs cs′ a′ : List ℕ) : Type 0 where
+  pub answer : Written
+  pub says : MergeSays s es t fs ls ls′ cs cs′ answer
+  pub numbers-are : a′ ≡ writtenNumbers answer

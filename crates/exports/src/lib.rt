@@ -1,5 +1,5 @@
 // The calls for other languages: a slice is a pointer and a length, and the answer is a list of numbers behind a pointer.
-ghost use Rattle.exports.specs.Numbers.{SlipExported, PairExported, ReadExported};
+ghost use Rattle.exports.specs.Numbers.{SlipExported, PairExported, ReadExported, MergeExported};
 ghost use Rattle.answers.specs.Exported.{ComposeExported, FindExported, ShortestExported};
 use tables::number;
 use trays::Settings;
@@ -125,4 +125,27 @@ pub extern "C" fn kotsghane_read_tray(
 {
     let r = reading::read_tray(file, letters, ends);
     *answer = [r.number as u32, r.detail, r.letters, r.slips];
+}
+
+// Merging two trays into lent letters and ends: the same four numbers.
+#[no_mangle]
+pub extern "C" fn kotsghane_merge(
+    letters1: &[u8],
+    ends1: &[u16],
+    letters2: &[u8],
+    ends2: &[u16],
+    letters: &mut [u8],
+    ends: &mut [u16],
+    answer: &mut [u32; 4],
+)
+    ensures { λ _. ⌜ MergeExported (now (letters1 .entry)) (now (ends1 .entry)) (now (letters2 .entry)) (now (ends2 .entry)) (now (letters .entry))
+        (now (letters .exit)) (now (ends .entry)) (now (ends .exit)) (now (answer .exit)) ⌝ }
+{
+    let merged = merging::merge_trays(letters1, ends1, letters2, ends2, letters, ends);
+    *answer = [
+        merged.number as u32,
+        merged.detail,
+        merged.letters,
+        merged.slips,
+    ];
 }

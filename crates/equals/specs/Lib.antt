@@ -1,0 +1,2 @@
+-- What the functions that compare slips ask and leave.
+pub mod Equals

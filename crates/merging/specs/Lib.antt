@@ -1,0 +1,2 @@
+-- The steps of merging two trays.
+pub mod steps

@@ -1,0 +1,2 @@
+-- What only functions below the call, and their proofs, need.
+pub mod Merging
