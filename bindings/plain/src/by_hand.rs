@@ -2,6 +2,7 @@
 //! program and the library are both held to it.
 
 pub mod least;
+pub mod merging;
 pub mod pairs;
 pub mod shortest;
 

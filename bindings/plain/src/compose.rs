@@ -63,7 +63,7 @@ pub struct Rooms {
 }
 
 /// Whether `x` stands in `text`.
-fn stands_in(x: &[u8], text: &[u8]) -> bool {
+pub(crate) fn stands_in(x: &[u8], text: &[u8]) -> bool {
     text.windows(x.len()).any(|part| part[0] == x[0] && part == x)
 }
 

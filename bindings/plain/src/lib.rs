@@ -2,7 +2,7 @@
 //! slips, written only from the sentences of the rules. It shares no table, no loop and no order of work with the library.
 //! The numbers of the limits are those of the Rust crate.
 //!
-//! - [`tray`], [`fold`], [`mod@file`], [`compose`], [`shortest`], [`find`], [`sheet`]: the plain program.
+//! - [`tray`], [`fold`], [`mod@file`], [`compose`], [`shortest`], [`find`], [`merge`], [`sheet`]: the plain program.
 //! - [`by_hand`]: what was worked out by hand.
 //! - [`made`]: made-up trays, texts and files, whole and damaged.
 //! - [`cases`]: the cases of the program `trials`, and what it must answer to each.
@@ -17,6 +17,7 @@ pub mod fold;
 #[path = "../../rust/src/limits.rs"]
 mod limits;
 pub mod made;
+pub mod merge;
 pub mod sheet;
 pub mod shortest;
 pub mod tray;

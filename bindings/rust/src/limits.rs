@@ -3,13 +3,13 @@
 /// So many cells of the work area are asked for (refusal 7).
 pub const WORK_CELLS: usize = 32_000;
 
-/// The most slips that a tray has (refusal 1).
+/// The most slips that a tray has (refusal 1), and so many ends are lent for two trays merged (refusal 15).
 pub const MAX_SLIPS: usize = 200;
 
 /// The most letters that a slip has (refusal 3).
 pub const MAX_SLIP: usize = 32;
 
-/// The most letters that a tray has (refusal 4).
+/// The most letters that a tray has (refusal 4), and so many are lent for two trays merged (refusal 15).
 pub const MAX_LETTERS: usize = 2_000;
 
 /// The most letters that a text has (refusal 12).

@@ -3,6 +3,7 @@ use super::{Lending, MARK_BYTE, MARK_CELL, MARK_NUMBER};
 use crate::compose::{self, compose_tray, Composition, Rooms};
 use crate::file::read_tray;
 use crate::find::{self, find_slips, Finding};
+use crate::merge::merge_trays;
 use crate::shortest::shortest_legend;
 use crate::tray::Tray;
 use crate::{Refusal, MAX_SHORTEST, PLACE_CELLS};
@@ -180,18 +181,29 @@ pub fn find(tray: &Tray, text: &[u8], work: usize, list: usize) -> String {
     format!("F{flat} R{}", told(records, 2 * records, &[MARK_NUMBER, MARK_CELL]))
 }
 
-/// Reading a tray file.
-pub fn read(file: &[u8], letters: usize, ends: usize) -> String {
-    let outcome = read_tray(file, letters, ends);
+/// A tray written into so many letters and ends: the answer, and the sums of both.
+fn written(outcome: Result<Tray, Refusal>, letters: usize, ends: usize) -> String {
     let answer = match &outcome {
         Ok(tray) => [0, 0, tray.letters.len(), tray.ends.len()],
         Err(refusal) => [refusal.number, refusal.detail, 0, 0],
     };
     let tray = outcome.unwrap_or_default();
-    let read_ends: Vec<usize> = tray.ends.iter().map(|&x| usize::from(x)).collect();
+    let tray_ends: Vec<usize> = tray.ends.iter().map(|&x| usize::from(x)).collect();
     let letters = Sum::over(&bytes(&tray.letters), &[MARK_BYTE], letters);
-    let ends = Sum::over(&read_ends, &[MARK_CELL], ends);
-    format!("T{} {letters} {ends}", line(&answer))
+    let ends = Sum::over(&tray_ends, &[MARK_CELL], ends);
+    format!("{} {letters} {ends}", line(&answer))
+}
+
+/// Reading a tray file.
+pub fn read(file: &[u8], letters: usize, ends: usize) -> String {
+    let told = written(read_tray(file, letters, ends), letters, ends);
+    format!("T{told}")
+}
+
+/// Two trays merged.
+pub fn merge(first: &Tray, second: &Tray, letters: usize, ends: usize) -> String {
+    let told = written(merge_trays(first, second, letters, ends), letters, ends);
+    format!("M{told}")
 }
 
 /// The bytes that are accepted as the one letter of a tray.

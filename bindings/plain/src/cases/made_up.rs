@@ -1,16 +1,14 @@
 //! Made-up cases. Each kind has a seed of its own: later kinds are added at the end, and old ones stay as they are.
-use super::{least, lending, shortest, Case, Lending, WHOLE, WHOLE_LIST};
-use crate::compose::compose;
-use crate::find::occurrences;
+use super::makers::{full_tray, many_aside, small_list, small_rooms, typed_file, whole, with_stops};
+use super::{least, lending, merging, shortest, Case, WHOLE_LIST};
 use crate::made::damage::{damaged, stored, DAMAGES};
 use crate::made::files::{damaged_file, tray_file, BLOTS};
 use crate::made::leasts::{any_least, LEASTS};
 use crate::made::stops::many_stops;
 use crate::made::texts::{damaged_text, text};
-use crate::made::typed::{many_forms, spoil, typed_slips};
-use crate::made::{near, slips, valid, Chance, Shape, SHAPES};
+use crate::made::{valid, Chance};
 use crate::tray::Tray;
-use crate::{FILE_ENDS, MAX_FILE, MAX_SLIP, ONE_LETTER, PLACE_CELLS, WORK_CELLS};
+use crate::{FILE_ENDS, MAX_FILE, MAX_SLIP, ONE_LETTER, WORK_CELLS};
 
 /// A kind of case: what it is, its seed, how many there are, and how the n-th is made.
 struct Kind {
@@ -268,88 +266,55 @@ const KINDS: &[Kind] = &[
         count: 600,
         make: least::pair,
     },
+    Kind {
+        name: "Two trays",
+        seed: 136,
+        count: 1_200,
+        make: merging::small,
+    },
+    Kind {
+        name: "Two trays with slips that nearly equal others",
+        seed: 137,
+        count: 600,
+        make: merging::nearly_equal,
+    },
+    Kind {
+        name: "Two trays with many stops",
+        seed: 138,
+        count: 300,
+        make: merging::with_stops,
+    },
+    Kind {
+        name: "Two trays of any size",
+        seed: 139,
+        count: 60,
+        make: merging::any_size,
+    },
+    Kind {
+        name: "Two trays of about 200 slips or 2,000 letters together",
+        seed: 140,
+        count: 200,
+        make: merging::about_full,
+    },
+    Kind {
+        name: "Two trays, one or both damaged",
+        seed: 141,
+        count: 450,
+        make: merging::damaged_trays,
+    },
+    Kind {
+        name: "Two trays and too little lent, or more than needed",
+        seed: 142,
+        count: 300,
+        make: merging::any_room,
+    },
+    Kind {
+        name: "One hoard in two campaigns",
+        seed: 143,
+        count: 300,
+        make: merging::one_hoard,
+    },
 ];
-
-/// A tray with room for every outcome.
-fn whole(tray: Tray) -> Case {
-    Case::Compose(tray, ONE_LETTER, WHOLE)
-}
-
-/// 200 slips of 10 letters.
-fn full_tray(chance: &mut Chance, n: usize) -> Case {
-    let few = [2, 3, 5, 26, 27][n / SHAPES.len() % 5];
-    let signs = chance.signs(few);
-    whole(Tray::of(&slips(SHAPES[n % SHAPES.len()], chance, 200, 10, 10, &signs)))
-}
-
-/// Long slips and parts of them, of few signs, so that many letters agree at places where the slip does not stand.
-fn many_aside(chance: &mut Chance, n: usize) -> Case {
-    let signs = chance.signs([1, 2, 2, 3][n % 4]);
-    let (count, long) = ([6, 12, 60][n % 3], chance.between(4, MAX_SLIP));
-    whole(Tray::of(&slips(Shape::Inside, chance, count, 1, long, &signs)))
-}
-
-/// Rooms of about what the outcome needs, some of them one short.
-fn small_rooms(chance: &mut Chance, least: usize) -> Case {
-    let all = valid(chance, 12, 15);
-    let tray = Tray::of(&all);
-    let made = compose(&tray.slips(), least);
-    let work = chance.one(&[WORK_CELLS, WORK_CELLS, WORK_CELLS + 7, 31_999]);
-    let mut room = |need: usize| near(chance, need);
-    let rooms: Lending = lending(
-        work,
-        room(made.legend.len()),
-        room(3 * made.joins.len()),
-        room(PLACE_CELLS * all.len()),
-    );
-    Case::Compose(tray, least, rooms)
-}
-
-/// A list of about as many numbers as the occurrences need.
-fn small_list(chance: &mut Chance, _: usize) -> Case {
-    let all = valid(chance, 8, 10);
-    let n = chance.below(60);
-    let text = text(chance, &all, n);
-    let tray = Tray::of(&all);
-    let need = 2 * occurrences(&tray.slips(), &text).len();
-    let work = chance.one(&[WORK_CELLS, WORK_CELLS, WORK_CELLS + 7, 31_999]);
-    Case::Find(tray, text, work, near(chance, need))
-}
-
-/// Mostly small trays. They are composed, but for every fifth: finding takes a stop as a letter like the rest.
-fn with_stops(chance: &mut Chance, n: usize) -> Case {
-    let most = match n % 10 {
-        0 => 60,
-        _ => 10,
-    };
-    let all = many_stops(chance, most, 12);
-    let tray = Tray::of(&all);
-    if n % 5 < 4 {
-        return whole(tray);
-    }
-    let letters = chance.below(60);
-    Case::Find(tray, text(chance, &all, letters), WORK_CELLS, WHOLE_LIST)
-}
-
-/// Half of them are whole; a fourth have bytes that are no signs, and a fourth are damaged anywhere.
-fn typed_file(chance: &mut Chance, n: usize) -> Case {
-    let die = match n % 3 {
-        0 => valid(chance, 15, 20),
-        _ => many_forms(chance, 15, 20),
-    };
-    let mut all = typed_slips(chance, &die);
-    let file = match n % 4 {
-        0 => {
-            let at = chance.below(all.len());
-            let times = chance.between(1, 2);
-            spoil(chance, &mut all[at], times);
-            tray_file(&all)
-        }
-        1 => damaged_file(chance, &all, BLOTS[n / 4 % BLOTS.len()]),
-        _ => tray_file(&all),
-    };
-    Case::Read(file, MAX_FILE, FILE_ENDS)
-}
 
 pub fn all() -> Vec<Case> {
     let mut cases = Vec::new();

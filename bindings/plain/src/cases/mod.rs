@@ -8,6 +8,7 @@
 //! | `F WORK LIST TEXT TRAY` | finding, with so many cells and numbers lent |
 //! | `A LEAST LEFT RIGHT TRAY` | the tray check, the letters of slip LEFT, the overlap of LEFT and RIGHT |
 //! | `T LETTERS ENDS FILE` | reading a tray file, with so many letters and ends lent |
+//! | `M LETTERS ENDS TRAY;TRAY` | two trays merged, with so many letters and ends lent |
 //! | `S` | which bytes are signs |
 //!
 //! LEAST is the least overlap. Every lent buffer is filled with a mark before the call, and behind it a sum over all its
@@ -20,6 +21,8 @@ mod code;
 pub mod edges;
 mod least;
 mod made_up;
+mod makers;
+mod merging;
 mod shortest;
 mod specimens;
 
@@ -75,6 +78,8 @@ pub enum Case {
     Ask(Tray, usize, usize, usize),
     /// A tray file, and how many letters and ends are lent.
     Read(Vec<u8>, usize, usize),
+    /// Two trays, and how many letters and ends are lent.
+    Merge(Tray, Tray, usize, usize),
     /// All bytes.
     Signs,
 }
@@ -93,6 +98,9 @@ impl Case {
             }
             Case::Ask(tray, least, left, right) => format!("A {least} {left} {right} {}", code::tray(tray)),
             Case::Read(file, letters, ends) => format!("T {letters} {ends} {}", code::bytes(file)),
+            Case::Merge(first, second, letters, ends) => {
+                format!("M {letters} {ends} {};{}", code::tray(first), code::tray(second))
+            }
             Case::Signs => "S".to_string(),
         }
     }
@@ -106,6 +114,7 @@ impl Case {
             Case::Find(tray, text, work, list) => answers::find(tray, text, *work, *list),
             Case::Ask(tray, least, left, right) => answers::ask(tray, *least, *left, *right),
             Case::Read(file, letters, ends) => answers::read(file, *letters, *ends),
+            Case::Merge(first, second, letters, ends) => answers::merge(first, second, *letters, *ends),
             Case::Signs => answers::signs(),
         }
     }
@@ -113,7 +122,12 @@ impl Case {
 
 /// All cases: the edge trays, the specimens, and the made-up ones.
 pub fn all() -> Vec<Case> {
-    let specimens = [specimens::all(), shortest::specimens(), least::specimens()];
+    let specimens = [
+        specimens::all(),
+        shortest::specimens(),
+        least::specimens(),
+        merging::specimens(),
+    ];
     [edge_trays(), specimens.concat(), made_up::all()].concat()
 }
 

@@ -11,6 +11,16 @@ pub fn different(chance: &mut Chance, shape: Shape, signs: &[u8]) -> Slips {
     all
 }
 
+/// So many slips of 10 letters, no two equal, which have the first eight in common.
+pub fn common_beginning(chance: &mut Chance, count: usize) -> Slips {
+    let shared = chance.word(SIGNS, 8);
+    let ends = SIGNS.iter().flat_map(|&a| SIGNS.iter().map(move |&b| [a, b]));
+    let mut all: Slips = ends.map(|end| [&shared[..], &end].concat()).collect();
+    chance.shuffle(&mut all);
+    all.truncate(count);
+    all
+}
+
 /// 200 slips of 4 to 16 letters, two by two of 20 together.
 pub fn mixed_lengths(chance: &mut Chance, signs: &[u8]) -> Slips {
     let mut all = Slips::new();
