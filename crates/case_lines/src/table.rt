@@ -61,7 +61,7 @@ pub fn byte_at(s: &[u8], at: usize) -> u8 {
 }
 
 // The place behind a byte, if there is one.
-fn behind(s: &[u8], at: usize) -> usize
+pub fn behind(s: &[u8], at: usize) -> usize
     requires { ⌜ at ≤ length (now s) ⌝ }
     ensures { λ r. ⌜ (at ≤ r) × (r ≤ length (now (s .entry))) ⌝ }
 {

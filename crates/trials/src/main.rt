@@ -5,6 +5,7 @@
 //     F WORK LIST TEXT LETTERS END END ..                  finding, with so much lent
 //     A LEAST LEFT RIGHT LETTERS END END ..                the check of a tray, one slip, one pair with a least overlap
 //     T LETTERS ENDS FILE                                  reading a tray file, with so much lent
+//     M LETTERS ENDS LETTERS END ..;LETTERS END ..         two trays merged, with so much lent
 //     S                                                    the bytes that are letters
 // Letters, texts and files are coded: 12A is twelve times A, %0A the byte 10, and a comma an end. 12x3 among the ends is the twelve ends 3, 6, .. 36.
 // What was lent is filled with marks before a call, and its sum behind it is written.
@@ -16,7 +17,6 @@ mod ask;
 mod compose;
 mod find;
 mod pairs;
-mod read;
 mod shortest;
 
 fn row(line: &[u8]) {
@@ -25,7 +25,8 @@ fn row(line: &[u8]) {
         b'L' => shortest::row(line),
         b'F' => find::row(line),
         b'A' => ask::row(line),
-        b'T' => read::row(line),
+        b'T' => tray_cases::read::row(line),
+        b'M' => tray_cases::merge::row(line),
         b'S' => ask::signs(),
         b'-' => {
             io::write_all(1, line);
@@ -47,10 +48,10 @@ fn rows(s: &[u8]) {
 }
 
 // Room for the input.
-fn space() -> [u8; 2097152]
-    ensures { λ r. ⌜ 2097152 ≡ length r ⌝ }
+fn space() -> [u8; 3145728]
+    ensures { λ r. ⌜ 3145728 ≡ length r ⌝ }
 {
-    [0; 2097152]
+    [0; 3145728]
 }
 
 fn main() {

@@ -1,17 +1,11 @@
 // Reading a tray file into lent letters and ends.
-use case_lines::sums;
+use crate::written;
 use case_lines::table;
-use case_lines::writing;
-use case_lines::writing::put;
 
 fn lent(file: &[u8], letters: &mut [u8], ends: &mut [u16]) {
-    let read = reading::read_tray(file, letters, ends);
+    let a = reading::read_tray(file, letters, ends);
     io::write_all(1, b"T");
-    writing::refusal(read.number, read.detail);
-    put(read.letters);
-    put(read.slips);
-    put(sums::bytes(0, letters));
-    put(sums::cells(ends));
+    written::show(a, letters, ends);
 }
 
 fn try_file(file: &[u8], letters_room: u32, ends_room: u32) {
