@@ -1,6 +1,7 @@
-//! `steps CALL FAMILY SLIPS TIMES`: makes the exported call `compose`, `find`, `read` or `shortest` so many times on one tray of a
-//! family, of so many slips of ten letters. `run` beside it counts the instructions of one call more.
-use kotsghane::{compose, find, read_tray, shortest, Found, Join, Place, Settings, FILE_ENDS, MAX_FILE, WORK_CELLS};
+//! `steps CALL FAMILY SLIPS TIMES`: makes the exported call `compose`, `find`, `merge`, `read` or `shortest` so many times on one
+//! tray of a family, of so many slips of ten letters. `run` beside it counts the instructions of one call more.
+use kotsghane::{compose, find, merge_trays, read_tray, shortest, Found, Join, Place, Settings};
+use kotsghane::{FILE_ENDS, MAX_FILE, WORK_CELLS};
 use plain::made::files::tray_file;
 use plain::made::{slips, Chance, Shape, Slips};
 use plain::tray::Tray;
@@ -38,22 +39,23 @@ fn family(name: &str, count: usize) -> Slips {
     slips(shape, &mut chance, count, low, 10, signs)
 }
 
-/// The slips, shuffled: a text of as many letters as the tray has.
-fn text_of(all: &Slips) -> Vec<u8> {
+/// The slips in another order: a tray to merge with the first, and a text of as many letters as it has.
+fn shuffled(all: &Slips) -> Slips {
     let mut shuffled = all.clone();
     Chance::new(2).shuffle(&mut shuffled);
-    shuffled.concat()
+    shuffled
 }
 
 fn main() {
     let words: Vec<String> = std::env::args().collect();
     let number = |i: usize| words[i].parse::<usize>().expect("a number");
     let all = family(&words[2], number(3));
-    let (tray, text, file) = (Tray::of(&all), text_of(&all), tray_file(&all));
+    let (tray, text, file) = (Tray::of(&all), shuffled(&all).concat(), tray_file(&all));
+    let two = [all.clone(), shuffled(&all)].map(|all| kotsghane::Tray::of(&all));
     let (mut work, mut legend) = (vec![0; WORK_CELLS], vec![0; 2_000]);
     let (mut joins, mut places) = (vec![Join::default(); 200], vec![Place::default(); 200]);
     let mut found = vec![Found::default(); 8_000];
-    let (mut read_letters, mut read_ends) = (vec![0; MAX_FILE], vec![0; FILE_ENDS]);
+    let (mut letters_lent, mut ends_lent) = (vec![0; MAX_FILE], vec![0; FILE_ENDS]);
     let settings = Settings::default();
     for _ in 0..number(4) {
         let (letters, ends) = (black_box(&tray.letters), black_box(&tray.ends));
@@ -61,10 +63,14 @@ fn main() {
             "compose" => compose(letters, ends, settings, &mut work, &mut legend, &mut joins, &mut places).number,
             "find" => find(letters, ends, black_box(&text), &mut work, &mut found).number,
             "shortest" => shortest(letters, ends, settings, &mut work, &mut legend).number,
-            "read" => read_tray(black_box(&file), &mut read_letters, &mut read_ends).number,
+            "read" => read_tray(black_box(&file), &mut letters_lent, &mut ends_lent).number,
+            "merge" => {
+                let [first, second] = black_box(&two);
+                merge_trays(first, second, &mut letters_lent, &mut ends_lent).number
+            }
             call => panic!("no call {call}"),
         };
         assert_eq!(refused, 0);
     }
-    black_box((legend, joins, places, found, read_letters, read_ends));
+    black_box((legend, joins, places, found, letters_lent, ends_lent));
 }

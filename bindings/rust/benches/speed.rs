@@ -1,5 +1,8 @@
 //! Times the library and the plain program on the same trays and the same state of buffers: `cargo bench`.
-//! First the outcomes are compared, places included. Then the shortest legend of small die groups is timed beside composing.
+//! First the outcomes are compared, places included. Then the shortest legend of small die groups is timed beside composing,
+//! and the merge of two trays.
+mod merging;
+
 use kotsghane::{compose, shortest, Composed, Join, Place, Settings, Shortest, WORK_CELLS};
 use plain::compose::{compose_tray, kept_slips, try_places, Rooms};
 use plain::made::full::{different, many_inside, mixed_lengths};
@@ -289,4 +292,6 @@ fn main() {
     full_trays(&mut buffers);
     println!();
     small_groups(&mut buffers);
+    println!();
+    merging::two_trays(&mut buffers);
 }

@@ -1,5 +1,5 @@
 //! One slip, a pair of slips, and reading a tray file.
-use crate::{Refusal, Settings, Tray, FILE_ENDS, MAX_FILE};
+use crate::{Refusal, Settings, Tray, Written, FILE_ENDS, MAX_FILE};
 use std::ops::Range;
 
 extern "C" {
@@ -33,26 +33,6 @@ extern "C" {
     );
 }
 
-/// The answer of [`read_tray`]: a refusal (`number` is not 0, the counts are), or how many letters and ends were read.
-#[derive(Clone, Copy, Debug, Default, PartialEq, Eq)]
-pub struct Read {
-    /// The refusal's number, 0 for none.
-    pub number: u32,
-    /// The refusal's detail, 0 where none is named.
-    pub detail: u32,
-    /// The letters read.
-    pub letters: u32,
-    /// The ends read: one a slip.
-    pub slips: u32,
-}
-
-impl Read {
-    /// The refusal, if the file or a buffer was turned back.
-    pub fn refusal(&self) -> Option<Refusal> {
-        Refusal::of(self.number, self.detail)
-    }
-}
-
 /// Reads a tray file into lent letters and ends, or refuses it. On success the first part of each is the outcome, and the
 /// rest is unchanged; on a refusal both hold what they held. The tray that was read may still be refused by other calls.
 ///
@@ -73,7 +53,7 @@ impl Read {
 /// assert_eq!(&letters[..7], b"AVGVI.\0");
 /// ```
 #[allow(unsafe_code)]
-pub fn read_tray(file: &[u8], letters: &mut [u8], ends: &mut [u16]) -> Read {
+pub fn read_tray(file: &[u8], letters: &mut [u8], ends: &mut [u16]) -> Written {
     let mut answer = [0; 4];
     // SAFETY: every pointer comes with the length of the slice that it was taken from, and the slices outlive the call and do
     // not overlap, as Rust has it for `&mut`. The function is proved for every content and every length, keeps no pointer,
@@ -89,13 +69,7 @@ pub fn read_tray(file: &[u8], letters: &mut [u8], ends: &mut [u16]) -> Read {
             &mut answer,
         );
     }
-    let [number, detail, letters, slips] = answer;
-    Read {
-        number,
-        detail,
-        letters,
-        slips,
-    }
+    Written::of(answer)
 }
 
 impl Tray {
@@ -118,13 +92,8 @@ impl Tray {
     /// ```
     pub fn read(file: impl AsRef<[u8]>) -> Result<Tray, Refusal> {
         let (mut letters, mut ends) = (vec![0; MAX_FILE], vec![0; FILE_ENDS]);
-        let read = read_tray(file.as_ref(), &mut letters, &mut ends);
-        if let Some(refusal) = read.refusal() {
-            return Err(refusal);
-        }
-        letters.truncate(read.letters as usize);
-        ends.truncate(read.slips as usize);
-        Ok(Tray::from_parts(letters, ends))
+        let written = read_tray(file.as_ref(), &mut letters, &mut ends);
+        written.tray(letters, ends)
     }
 
     /// Where the letters of slip `slip`, from 1, stand in [`Tray::letters`], or why there is no answer.

@@ -4,6 +4,7 @@
 //! are no overlap. [`compose_tray`] and [`find_slips`] take care of all buffers; [`compose`] and [`find`] are for callers who
 //! lend their own. [`Tray::read`] reads a tray file, [`Tray::slip`] and [`Tray::overlap`] answer for one slip and for a pair.
 //! For few kept slips [`shortest_legend`], or [`shortest`] in lent buffers, seeks the shortest legend, not a good one.
+//! [`Tray::merge`], or [`merge_trays`] in lent buffers, merges two trays.
 //!
 //! One common letter joins strangers: [`compose_tray_with`] and [`shortest_legend_with`] take [`Settings`], by which a shorter
 //! overlap than the least one counts as empty, and so does [`Tray::overlap_from`].
@@ -30,20 +31,24 @@
 mod asking;
 mod finding;
 mod limits;
+mod merging;
 mod refusal;
 mod settings;
 mod shortest;
 mod tray;
+mod written;
 
-pub use asking::{read_tray, Read};
+pub use asking::read_tray;
 pub use finding::{find, find_slips, Finding, Found, Search};
 pub use limits::{
     FILE_ENDS, MAX_FILE, MAX_LEAST, MAX_LETTERS, MAX_SHORTEST, MAX_SLIP, MAX_SLIPS, MAX_TEXT, PLACE_CELLS, WORK_CELLS,
 };
+pub use merging::merge_trays;
 pub use refusal::Refusal;
 pub use settings::Settings;
 pub use shortest::{shortest, shortest_legend, shortest_legend_with, Shortest, ShortestLegend};
 pub use tray::{compose_tray, compose_tray_with, Legend, Tray};
+pub use written::{Read, Written};
 
 /// Two slips joined: the right one is laid behind the left one and shares `overlap` letters with it.
 #[repr(C)]

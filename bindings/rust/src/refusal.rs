@@ -17,6 +17,24 @@ impl Refusal {
     pub(crate) fn of(number: u32, detail: u32) -> Option<Refusal> {
         (number != 0).then_some(Refusal { number, detail })
     }
+
+    /// Refusals 15 to 19: of a tray file, and of letters and ends lent for a tray.
+    fn of_a_tray_written(&self, f: &mut fmt::Formatter<'_>) -> fmt::Result {
+        let d = self.detail;
+        match self.number {
+            15 => write!(
+                f,
+                "under 16,384 letters or 1,700 ends are lent for a file, or 2,000 or 200 for two trays merged"
+            ),
+            16 => write!(f, "the tray file has over 16,384 bytes"),
+            17 => write!(f, "line {d} of the tray file is not of the layout"),
+            18 => write!(f, "line {d} of the tray file has another slip number"),
+            _ => write!(
+                f,
+                "line {d} of the tray file states another length than its letters have"
+            ),
+        }
+    }
 }
 
 impl fmt::Display for Refusal {
@@ -46,14 +64,7 @@ impl fmt::Display for Refusal {
                 "the byte at place {d} of the text is neither a capital A to Z nor the full stop"
             ),
             14 => write!(f, "there are {d} occurrences, more than their list takes"),
-            15 => write!(f, "the buffers take under 16,384 letters or under 1,700 ends"),
-            16 => write!(f, "the tray file has over 16,384 bytes"),
-            17 => write!(f, "line {d} of the tray file is not of the layout"),
-            18 => write!(f, "line {d} of the tray file has another slip number"),
-            19 => write!(
-                f,
-                "line {d} of the tray file states another length than its letters have"
-            ),
+            15..=19 => self.of_a_tray_written(f),
             20 => write!(f, "the tray has over {MAX_SHORTEST} kept slips"),
             21 => write!(f, "the least overlap is 0 or more than {MAX_LEAST}"),
             n => write!(f, "refused by {n}, detail {d}"),

@@ -1,7 +1,9 @@
 //! One slip, pairs and tray files through the exported calls, against the plain program.
+mod lent;
 mod tally;
 
 use kotsghane::{compose_tray, read_tray, Read, Refusal, Tray, FILE_ENDS, MAX_FILE, MAX_SLIP};
+use lent::Lent;
 use plain::by_hand::{COMPOSE, FILED, TYPED_FILE};
 use plain::made::damage::{damaged, DAMAGES};
 use plain::made::files::{damaged_file, tray_file, BLOTS};
@@ -88,30 +90,11 @@ fn numbers_up_to_32_bits() {
 
 /// A file in buffers that hold anything and have these lengths.
 fn try_file(chance: &mut Chance, made: &[u8], letters: usize, ends: usize, tally: &mut Tally) {
-    let before: (Vec<u8>, Vec<u16>) = (
-        (0..letters).map(|_| chance.below(256) as u8).collect(),
-        (0..ends).map(|_| chance.below(65_536) as u16).collect(),
-    );
+    let before = Lent::of(chance, letters, ends);
     let mut after = before.clone();
-    let answer = read_tray(made, &mut after.0, &mut after.1);
+    let answer: Read = read_tray(made, &mut after.letters, &mut after.ends);
     tally.count(answer.number);
-    let mut wanted = before;
-    let expected = match file::read_tray(made, letters, ends) {
-        Ok(tray) => {
-            wanted.0[..tray.letters.len()].copy_from_slice(&tray.letters);
-            wanted.1[..tray.ends.len()].copy_from_slice(&tray.ends);
-            Read {
-                letters: tray.letters.len() as u32,
-                slips: tray.ends.len() as u32,
-                ..Read::default()
-            }
-        }
-        Err(plain) => Read {
-            number: plain.number as u32,
-            detail: plain.detail as u32,
-            ..Read::default()
-        },
-    };
+    let (expected, wanted) = before.expected(&file::read_tray(made, letters, ends));
     assert_eq!(answer, expected);
     assert!(after == wanted, "the buffers differ");
 }
