@@ -24,9 +24,9 @@ extern "C" {
 
 /* Limits, and what must be lent. */
 enum {
-    KOTSGHANE_MAX_SLIPS = 200,     /* slips of a tray (1) */
+    KOTSGHANE_MAX_SLIPS = 200,     /* slips of a tray (1), and ends to lend for two merged (15) */
     KOTSGHANE_MAX_SLIP = 32,       /* letters of a slip (3) */
-    KOTSGHANE_MAX_LETTERS = 2000,  /* letters of a tray (4), and so of a legend */
+    KOTSGHANE_MAX_LETTERS = 2000,  /* letters of a tray (4), and so of a legend; letters to lend for two trays merged (15) */
     KOTSGHANE_MAX_TEXT = 2000,     /* letters of a text (12) */
     KOTSGHANE_WORK = 32000,        /* cells of the work area (7) */
     KOTSGHANE_MAX_FILE = 16384,    /* bytes of a tray file (16), and letters to lend for one (15) */
@@ -77,6 +77,9 @@ enum { KOTSGHANE_PAIR_OVERLAP = 2, KOTSGHANE_PAIR_NUMBERS };
 /* The answer of kotsghane_read_tray. */
 enum { KOTSGHANE_READ_LETTERS = 2, KOTSGHANE_READ_SLIPS, KOTSGHANE_READ_NUMBERS };
 
+/* The answer of kotsghane_merge. */
+enum { KOTSGHANE_MERGED_LETTERS = 2, KOTSGHANE_MERGED_SLIPS, KOTSGHANE_MERGED_NUMBERS };
+
 /* Composes a tray: slips are joined by overlaps of at least so many letters. Lend KOTSGHANE_WORK cells, and lists that suffice for any tray: MAX_LETTERS
  * letters, MAX_SLIPS joins and MAX_SLIPS places. Lengths of lists are counted in numbers. Refusals 1 to 9, and 21, which is said first. */
 void kotsghane_compose(const uint8_t *letters, size_t letters_len, const uint16_t *ends, size_t ends_len, uint32_t least, uint16_t *work,
@@ -108,6 +111,14 @@ void kotsghane_pair(const uint8_t *letters, size_t letters_len, const uint16_t *
  * file as it stands; the tray itself is judged by the other calls, which refuse a 0 by 6. */
 void kotsghane_read_tray(const uint8_t *file, size_t file_len, uint8_t *letters, size_t letters_len, uint16_t *ends, size_t ends_len,
                          uint32_t answer[KOTSGHANE_READ_NUMBERS]);
+
+/* Merges two trays into letters and ends: the first tray's slips, and then those of the second whose letters equal no slip written before, numbered anew
+ * from 1. Equals within the first tray all stay; a slip that only stands in another is no equal. Lend at least KOTSGHANE_MAX_LETTERS letters and
+ * KOTSGHANE_MAX_SLIPS ends. Refusal 15, which is said first; 1 to 6 of the first tray, then of the second, whose detail counts its own slips; then 1 and 4
+ * of the outcome. Where the two trays, simply written one after the other, are accepted as one, that tray composes to the same legend. */
+void kotsghane_merge(const uint8_t *letters1, size_t letters1_len, const uint16_t *ends1, size_t ends1_len, const uint8_t *letters2,
+                     size_t letters2_len, const uint16_t *ends2, size_t ends2_len, uint8_t *letters, size_t letters_len, uint16_t *ends,
+                     size_t ends_len, uint32_t answer[KOTSGHANE_MERGED_NUMBERS]);
 
 #ifdef __cplusplus
 }

@@ -1,5 +1,5 @@
-/* Reads a tray file on standard input, composes it, finds its slips in the legend, and seeks the shortest legend: every call of kotsghane.h. No overlap of
- * the tray is too short; what a least overlap does is shown of a tray of two slips. */
+/* Reads a tray file on standard input, composes it, finds its slips in the legend, seeks the shortest legend, and merges it with another tray: every call of
+ * kotsghane.h. No overlap of the tray is too short; what a least overlap does is shown of a tray of two slips. */
 #include "kotsghane.h"
 #include <stdio.h>
 
@@ -43,6 +43,28 @@ static void say_least(uint32_t least) {
     }
     printf("least overlap %u: legend %.*s, overlap %u\n", (unsigned)least, (int)composed[KOTSGHANE_COMPOSED_LEGEND], (const char *)legend,
            (unsigned)pair[KOTSGHANE_PAIR_OVERLAP]);
+}
+
+/* Merges the tray of k slips with n letters with AES, VGP, VGP and PIVSPP, where so many ends are lent, and says the slips and their legend. */
+static void say_merged(size_t n, size_t k, size_t room) {
+    static const uint8_t more[] = {'A', 'E', 'S', 'V', 'G', 'P', 'V', 'G', 'P', 'P', 'I', 'V', 'S', 'P', 'P'};
+    static const uint16_t more_ends[] = {3, 6, 9, 15};
+    static uint8_t all[KOTSGHANE_MAX_LETTERS];
+    static uint16_t all_ends[KOTSGHANE_MAX_SLIPS];
+    uint32_t merged[KOTSGHANE_MERGED_NUMBERS], composed[KOTSGHANE_COMPOSED_NUMBERS];
+    kotsghane_merge(letters, n, ends, k, more, sizeof more, more_ends, 4, all, sizeof all, all_ends, room, merged);
+    if (refused("merge", merged)) {
+        return;
+    }
+    uint32_t size = merged[KOTSGHANE_MERGED_LETTERS], slips = merged[KOTSGHANE_MERGED_SLIPS], start = 0;
+    printf("merged, %u letters:", (unsigned)size);
+    for (uint32_t i = 0; i < slips; i++) {
+        printf(" %.*s", (int)(all_ends[i] - start), (const char *)all + start);
+        start = all_ends[i];
+    }
+    kotsghane_compose(all, size, all_ends, slips, 1, work, KOTSGHANE_WORK, legend, sizeof legend, joins, sizeof joins / sizeof *joins, places,
+                      sizeof places / sizeof *places, composed);
+    printf(", legend %.*s\n", (int)composed[KOTSGHANE_COMPOSED_LEGEND], (const char *)legend);
 }
 
 /* Says every slip that is found in a text. */
@@ -93,6 +115,8 @@ int main(void) {
     say_least(1);
     say_least(2);
     say_least(KOTSGHANE_MAX_LEAST + 1);
+    say_merged(n, k, KOTSGHANE_MAX_SLIPS);
+    say_merged(n, k, KOTSGHANE_MAX_SLIPS - 1);
     kotsghane_pair(letters, n, ends, k, 1, 1, 1, pair);
     refused("pair", pair);
     kotsghane_slip(letters, n, ends, k, 0, slip);
