@@ -23,7 +23,7 @@ pub record AsLong (g : Settings) (s es t fs : List ℕ) : Type 0 where
       let m = mergedOf s es t fs in
       legendOf (whole g (slipsOf (lettersOf m) (endsOf m))) ≡ legendOf (whole g (slipsOf (s ++ t) (longEnds s es fs)))
 
--- Rules: where the long tray is itself accepted. Of the two trays only the first needs to be, since the long tray goes on where its ends do.
+-- Rules, two trays: where the long tray is itself accepted. Of the two trays only the first needs to be, since the long tray goes on where its ends do.
 abbrev pub Same-legend : Type 0
 Same-legend =
     (g : Settings) (s es t fs : List ℕ) → trayFault s es .number ≡ 0 → trayFault (s ++ t) (longEnds s es fs) .number ≡ 0 → AsLong g s es t fs

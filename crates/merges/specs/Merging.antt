@@ -18,8 +18,7 @@ use Rattle.trays.specs.Slips.{slipsOf}
 use Rattle.trays.specs.Faults.{row, firstRow, trayRows}
 use Rattle.trays.specs.Written.{lettersOf, endsOf, TrayWritten}
 
--- Rules, two trays tipped together: the first tray's slips, and then those of the second that equal no slip written before. What equal means is a
--- parameter.
+-- Rules, two trays: the first tray's slips, and then those of the second that equal no slip written before. What equal means is a parameter.
 abbrev pub merged : {A : Type 0} → (A → A → Bool) → List A → List A → List A
 merged eq ws [] = ws
 merged eq ws (x ∷ xs) = merged eq (elim (any (eq x) ws) [ true ↦ ws | false ↦ ws ++ (x ∷ []) ]) xs

@@ -1,2 +1,2 @@
--- What only functions below the call, and their proofs, need.
+-- What only loops and their proofs need.
 pub mod Merging
