@@ -3,7 +3,8 @@ use Prim.Native.Nat.{_+_, _-_, _≤_}
 use native.Mathlib.Omega.{arith}
 use lib.ListN.{length}
 use Rattle.trays.specs.Limits.{maxLetters}
-use Rattle.merging.proofs.WriteLoop.{Writing, writing-none, letters-long, ends-long, turn-at, turn-bound, turn-real, turn-room, turn-small, writing-more, writing-all}
+use Rattle.merging.proofs.WriteLoop.{Writing, writing-none, writing-more, writing-all}
+use Rattle.merging.proofs.WriteLoop.{letters-long, ends-long, turn-at, turn-bound, turn-real, turn-room, turn-small}
 use borrow.Author.Needs.{needs}
 use Rattle.merging.proofs.write_slips.Statement.{statement}
 use Rattle.merging.proofs.write_slips.Tie as tie
