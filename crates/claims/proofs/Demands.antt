@@ -5,7 +5,7 @@ use Rattle.greedy.proofs.StopFree.{stop-free}
 use Rattle.greedy.proofs.Placed.{all-tried}
 use Rattle.matching.proofs.States.{few-moves}
 use Rattle.shortest.proofs.Shortest.{shortest-legends}
-use Rattle.merges.proofs.MergedTrays.{same-legend-of, one-or-four}
+use Rattle.merge_rule.proofs.MergedTrays.{same-legend-of, one-or-four}
 use Rattle.claims.specs.Claims.{Demands}
 
 pub demands : Demands

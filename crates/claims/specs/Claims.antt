@@ -2,7 +2,7 @@
 use Rattle.greedy.specs.Claims.{Demand-3, Fewer-joins, Stop-free, All-tried}
 use Rattle.matching.specs.Moves.{Few-moves}
 use Rattle.shortest.specs.Claims.{Shortest-legends}
-use Rattle.merges.specs.Claims.{Same-legend, One-or-four}
+use Rattle.merge_rule.specs.Claims.{Same-legend, One-or-four}
 
 pub record Demands : Type 0 where
   -- one list by both rules; kept letters = saved + legend length; the legend holds every kept slip; at most twice, with a least overlap of 1

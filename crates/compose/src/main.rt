@@ -7,7 +7,7 @@ fn print_sheet(file: &[u8]) {
     let mut work = [0u16; 32000];
     let mut legend = [0u8; 2000];
     let mut out = [0u8; 7816];
-    let n = printing::compose_sheet(
+    let n = sheet_of_files::compose_sheet(
         file,
         &mut letters,
         &mut ends,

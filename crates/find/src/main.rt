@@ -7,7 +7,7 @@ fn print_sheet(tray: &[u8], text: &mut [u8]) {
     let mut work = [0u16; 32000];
     let mut found = [0u32; 16000];
     let mut out = [0u8; 72019];
-    let n = printing::find_sheet(
+    let n = sheet_of_files::find_sheet(
         tray,
         text,
         &mut letters,

@@ -4,7 +4,7 @@ use mathlib.Core.Bool.{Bool, true, false}
 use Prim.Native.Nat.{ℕ, _-_, _≤_, _<_}
 use borrow.Author.Tests.{eq-eqb, ne-eqb, le-leb, lt-leb}
 use Rattle.trays.specs.Slips.{isLetter}
-use Rattle.folding.specs.Folding.{upper, dieSign, fold}
+use Rattle.fold_rule.specs.Folding.{upper, dieSign, fold}
 
 module _ (b : ℕ) where
   pub upper-below : b < 97 → b ≡ upper b

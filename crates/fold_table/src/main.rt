@@ -1,6 +1,6 @@
 // Works the table of folding out from the rule and prints it, as it stands in the source of filing.
 ghost use mathlib.Core.Path.{_≡_};
-ghost use Rattle.folding.specs.Folding as F;
+ghost use Rattle.fold_rule.specs.Folding as F;
 
 // The capital of a small letter; any other byte as it is.
 fn upper(b: u8) -> u8
@@ -33,7 +33,7 @@ fn rule(b: u8) -> u8
     ensures { λ r. ⌜ r ≡ F.fold b ⌝ }
 {
     let c = die_sign(upper(b));
-    let good = checking::is_letter(c);
+    let good = tray_check::is_letter(c);
     if good {
         return c;
     }

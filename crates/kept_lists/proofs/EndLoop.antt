@@ -33,8 +33,8 @@ use Rattle.layout.specs.Numbered.{patternsIn, Numbered}
 use Rattle.layout.proofs.Heads.{num-most}
 use Rattle.layout.proofs.AreaSlips.{AreaSlips, areaSlips}
 use Rattle.kept_lists.specs.steps.KeptLists.{endings, Listing, ListedTo}
-use Rattle.heads.specs.steps.Heads.{CanPush, Pushed}
-use Rattle.heads.proofs.MemberNodes.{Member, member-node, node-num, node-most}
+use Rattle.trie_heads.specs.steps.Heads.{CanPush, Pushed}
+use Rattle.trie_heads.proofs.MemberNodes.{Member, member-node, node-num, node-most}
 use Rattle.kept_lists.proofs.SideLoop.{OneMore, Adding, added}
 use Rattle.kept_lists.proofs.SideLoop.{adding-none, adding-skip, adding-can, adding-more, adding-all}
 

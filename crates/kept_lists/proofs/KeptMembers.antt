@@ -20,9 +20,9 @@ use Rattle.layout.specs.Numbered.{SameBelow}
 use Rattle.layout.specs.Staging.{keptIn}
 use Rattle.layout.proofs.Frames.{kept-lower, members-kept, automaton-kept}
 use Rattle.kept_slips.specs.steps.Kept.{KeptFound}
-use Rattle.heads.proofs.Threading.{in-drop, drop-here, drop-later}
+use Rattle.trie_heads.proofs.Threading.{in-drop, drop-here, drop-later}
 use Rattle.trays.proofs.Spans.{accepted-spanned}
-use Rattle.heads.proofs.MemberNodes.{Member, in-member}
+use Rattle.trie_heads.proofs.MemberNodes.{Member, in-member}
 
 module _ {s es : List ℕ} {n k count : ℕ} {w : List ℕ} (S : KeptFound s es n k count w) where
   pub kept-length : length (keptIn w k) ≡ k

@@ -32,10 +32,10 @@ use Rattle.layout.proofs.Heads.{num-most}
 use Rattle.layout.proofs.AreaSlips.{AreaSlips, areaSlips}
 use Rattle.kept_slips.specs.steps.Kept.{KeptFound}
 use Rattle.kept_lists.specs.steps.KeptLists.{Side, beginnings, endings, has, place, heads, nexts, atSide, Listing, ListedTo, SideFilled}
-use Rattle.heads.specs.steps.Heads.{CanPush, Pushed, Lists}
-use Rattle.heads.proofs.Threading.{front, those-front, in-front, push-lists}
-use Rattle.heads.proofs.Keeping.{kept-refl, kept-trans, kept-filled, kept-pushed, cleared}
-use Rattle.heads.proofs.MemberNodes.{Member}
+use Rattle.trie_heads.specs.steps.Heads.{CanPush, Pushed, Lists}
+use Rattle.trie_heads.proofs.Threading.{front, those-front, in-front, push-lists}
+use Rattle.trie_heads.proofs.Keeping.{kept-refl, kept-trans, kept-filled, kept-pushed, cleared}
+use Rattle.trie_heads.proofs.MemberNodes.{Member}
 use Rattle.kept_lists.proofs.KeptMembers.{kept-length, got-kept, drop-got, kept-apart, kept-same, staged-kept}
 
 tables-fit : (a : Side) → (STARTS ≤ heads a) × (heads a + maxLetters < nexts a) × (nexts a + maxLetters ≤ workNeed)

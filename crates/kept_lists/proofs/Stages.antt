@@ -17,7 +17,7 @@ use Rattle.layout.proofs.Frames.{kept-lower, members-kept}
 use Rattle.kept_slips.specs.steps.Kept.{KeptFound, KeptTold}
 use Rattle.kept_lists.specs.steps.KeptLists.{beginnings, endings, atSide, SideIs, SideFilled, ListsFilled}
 use Rattle.layout.proofs.Heads.{threaded-kept, num-most}
-use Rattle.heads.proofs.Keeping.{kept-trans}
+use Rattle.trie_heads.proofs.Keeping.{kept-trans}
 use Rattle.kept_lists.proofs.KeptMembers.{kept-member, kept-same}
 
 -- what is written behind STARTS-NEXT leaves its lists as they are

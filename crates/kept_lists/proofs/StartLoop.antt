@@ -23,8 +23,8 @@ use Rattle.layout.specs.Layout.{AT, KEPT, STARTS, STARTS-NEXT}
 use Rattle.layout.specs.Tables.{cell}
 use Rattle.layout.specs.Numbered.{patternsIn, Numbered}
 use Rattle.kept_lists.specs.steps.KeptLists.{beginnings, Listing, ListedTo}
-use Rattle.heads.specs.steps.Heads.{CanPush, Pushed}
-use Rattle.heads.proofs.MemberNodes.{Member, node-num}
+use Rattle.trie_heads.specs.steps.Heads.{CanPush, Pushed}
+use Rattle.trie_heads.proofs.MemberNodes.{Member, node-num}
 use Rattle.kept_lists.proofs.SideLoop.{OneMore, Adding, added, adding-none, adding-can, adding-more, adding-all}
 
 one-longer : (c : ℕ) → OneMore (suc c) (λ m. leb m c) (λ m. leb m (suc c))

@@ -19,12 +19,12 @@ fn add_starts(
     ensures { λ _. ⌜ O.ListedTo O.beginnings (now (letters .entry)) (now (ends .entry)) n k count (now (work .entry)) j (now (work .exit)) ⌝ }
 {
     let i = tables::at(work, layout::KEPT, j);
-    let span = spans::slip_span(ends, i);
+    let span = slip_span::slip_span(ends, i);
     let end = span.end;
     let mut p = span.start;
     while p < end {
         let u = tables::at(work, layout::AT, p);
-        heads::push(work, layout::STARTS, u, layout::STARTS_NEXT, p, i);
+        trie_heads::push(work, layout::STARTS, u, layout::STARTS_NEXT, p, i);
         p += 1;
     }
 }
@@ -57,7 +57,7 @@ fn add_ends(
     ensures { λ _. ⌜ O.ListedTo O.endings (now (letters .entry)) (now (ends .entry)) n k count (now (work .entry)) j (now (work .exit)) ⌝ }
 {
     let i = tables::at(work, layout::KEPT, j);
-    let span = spans::slip_span(ends, i);
+    let span = slip_span::slip_span(ends, i);
     let start = span.start;
     let end = span.end;
     let last = end - 1;
@@ -69,7 +69,7 @@ fn add_ends(
         if u < first {
             d -= 1;
         } else {
-            heads::push(work, layout::ENDS, u, layout::ENDS_NEXT, end - d, i);
+            trie_heads::push(work, layout::ENDS, u, layout::ENDS_NEXT, end - d, i);
             u = tables::at(work, layout::FAIL, u);
             d -= 1;
         }

@@ -29,7 +29,7 @@ use Rattle.layout.specs.Numbered.{Numbered}
 use Rattle.kept_slips.specs.steps.Kept.{Judged}
 use Rattle.layout.proofs.Heads.{threaded-head}
 use Rattle.layout.proofs.AreaSlips.{AreaSlips, areaSlips}
-use Rattle.heads.proofs.MemberNodes.{in-member, node-num}
+use Rattle.trie_heads.proofs.MemberNodes.{in-member, node-num}
 
 -- the first of an ascending list
 head-least : (xs : List ℕ) (k : ℕ) → Asc _<_ xs → In k xs → headOr 0 xs ≤ k

@@ -22,9 +22,9 @@ use Rattle.layout.specs.Tables.{cell, members}
 use Rattle.layout.specs.Numbered.{patternsIn, SameBelow}
 use Rattle.layout.proofs.Frames.{kept-lower, members-kept, patterns-kept}
 use Rattle.kept_slips.specs.steps.Kept.{Marked, Judged, KeptFilled}
-use Rattle.heads.proofs.Keeping.{kept-put}
+use Rattle.trie_heads.proofs.Keeping.{kept-put}
 use Rattle.layout.proofs.Heads.{members-length, num-most}
-use Rattle.heads.proofs.MemberNodes.{got-member, node-most}
+use Rattle.trie_heads.proofs.MemberNodes.{got-member, node-most}
 use Rattle.layout.proofs.Heads.{headed-kept}
 
 pub marked-kept : {s es : List ℕ} {n count : ℕ} {w w′ : List ℕ} → SameBelow KEPT w w′ → Marked s es n count w → Marked s es n count w′

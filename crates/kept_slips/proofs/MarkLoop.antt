@@ -15,9 +15,9 @@ use Rattle.layout.specs.Tables.{cell}
 use Rattle.layout.specs.Numbered.{patternsIn, Numbered, SameBelow, Headed}
 use Rattle.layout.proofs.Frames.{patterns-kept}
 use Rattle.kept_slips.specs.steps.Kept.{MarksFilled}
-use Rattle.heads.proofs.Keeping.{kept-trans, kept-filled, kept-put, cleared}
+use Rattle.trie_heads.proofs.Keeping.{kept-trans, kept-filled, kept-put, cleared}
 use Rattle.layout.proofs.Heads.{num-most}
-use Rattle.heads.proofs.MemberNodes.{node-most}
+use Rattle.trie_heads.proofs.MemberNodes.{node-most}
 use Rattle.layout.proofs.Heads.{headed-kept}
 
 pub record Marking (s es : List ℕ) (n count : ℕ) (w : List ℕ) (v : ℕ) : Type 0 where

@@ -8,8 +8,8 @@ use Rattle.trays.specs.Slips.{slipsOf}
 use Rattle.trays.specs.Aside.{kept}
 use Rattle.layout.specs.Layout.{HEAD}
 use Rattle.layout.proofs.Frames.{kept-lower, members-kept}
-use Rattle.heads.specs.steps.Heads.{HeadsFilled}
-use Rattle.heads.proofs.Keeping.{kept-trans}
+use Rattle.trie_heads.specs.steps.Heads.{HeadsFilled}
+use Rattle.trie_heads.proofs.Keeping.{kept-trans}
 use Rattle.kept_slips.specs.steps.Kept.{MarksFilled, KeptFilled, KeptTold}
 
 pub told :

@@ -25,7 +25,7 @@ fn is_aside(letters: &[u8], ends: &[u16], work: &[u16], n: usize, count: usize, 
     requires { ⌜ K.Judged (now letters) (now ends) n count (now work) i ⌝ }
     ensures { λ r. ⌜ r ≡ isAside (slipsOf (now (letters .entry)) (now (ends .entry))) (members (now (work .entry)) n) i ⌝ }
 {
-    let f = heads::node_of(letters, ends, work, n, count, i);
+    let f = trie_heads::node_of(letters, ends, work, n, count, i);
     let kid = tables::at(work, layout::KID, f);
     let end = tables::at(work, layout::KID, f + 1);
     if kid < end {
@@ -68,7 +68,7 @@ pub fn tell_kept(letters: &[u8], ends: &[u16], work: &mut [u16], n: usize, count
     requires { ⌜ Automaton (now letters) (now ends) n count (now work) ⌝ }
     ensures { λ k. ⌜ K.KeptTold (now (letters .entry)) (now (ends .entry)) n count (now (work .entry)) k (now (work .exit)) ⌝ }
 {
-    heads::fill_heads(letters, ends, work, n, count);
+    trie_heads::fill_heads(letters, ends, work, n, count);
     fill_marks(letters, ends, work, n, count);
     fill_kept(letters, ends, work, n, count)
 }

@@ -13,11 +13,11 @@ use Rattle.words.specs.Lists.{each, upFrom}
 use Rattle.words.proofs.Members.{each-append}
 use Rattle.trays.specs.Slips.{endOf}
 use Rattle.answers.specs.Composing.{placeCells}
-use Rattle.sheets.specs.Sheets.{threeLine, slipLine, signOf, foundLine, lines}
-use Rattle.sheets.specs.Sheets.{slipLineAt, joinLineAt, foundLineAt, placeWidth, slipSize, joinSize, foundSize}
-use Rattle.columns.specs.steps.Wrote.{Wrote}
+use Rattle.sheet_rule.specs.Sheets.{threeLine, slipLine, signOf, foundLine, lines}
+use Rattle.sheet_rule.specs.Sheets.{slipLineAt, joinLineAt, foundLineAt, placeWidth, slipSize, joinSize, foundSize}
+use Rattle.sheet_columns.specs.steps.Wrote.{Wrote}
 use Rattle.sheet_lines.specs.steps.Lines.{SlipsFit, JoinsFit, FoundFit}
-use Rattle.columns.proofs.Puts.{put-more}
+use Rattle.sheet_columns.proofs.Puts.{put-more}
 
 -- lines
 upFrom-more : (i n : ℕ) → upFrom i (suc n) ≡ upFrom i n ++ ((i + n) ∷ [])

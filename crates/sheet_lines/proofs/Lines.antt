@@ -8,13 +8,13 @@ use lib.ListN.{length}
 use Rattle.words.specs.Quoted.{word}
 use Rattle.trays.specs.Faults.{refusal}
 use Rattle.answers.specs.declared.Composed.{Composed}
-use Rattle.files.specs.Lines.{blank, lf}
-use Rattle.sheets.specs.Sheets.{column, threeLine, trayLine, slipLine, signOf, findLine, foundLine, refusedLine, lines}
-use Rattle.sheets.specs.Sheets.{slipLineAt, joinLineAt, foundLineAt, composeLines, findLines, placeWidth, countWidth}
-use Rattle.sheets.specs.Sheets.{detailWidth, traySize, slipSize, joinSize, findSize, foundSize, refusedSize}
-use Rattle.columns.specs.steps.Wrote.{Wrote}
+use Rattle.file_rule.specs.Lines.{blank, lf}
+use Rattle.sheet_rule.specs.Sheets.{column, threeLine, trayLine, slipLine, signOf, findLine, foundLine, refusedLine, lines}
+use Rattle.sheet_rule.specs.Sheets.{slipLineAt, joinLineAt, foundLineAt, composeLines, findLines, placeWidth, countWidth}
+use Rattle.sheet_rule.specs.Sheets.{detailWidth, traySize, slipSize, joinSize, findSize, foundSize, refusedSize}
+use Rattle.sheet_columns.specs.steps.Wrote.{Wrote}
 use Rattle.sheet_lines.specs.steps.Lines.{Printed, JoinsFit, ComposeAsks}
-use Rattle.columns.proofs.Puts.{put-more}
+use Rattle.sheet_columns.proofs.Puts.{put-more}
 
 pub printed : (n r : ℕ) (ys old new : List ℕ) → Wrote 0 n ys old new r → Printed ys old new r
 printed n r ys old new p = record { is = p .is; count = omega arith }

@@ -4,13 +4,13 @@ ghost use mathlib.Core.Path.{_≡_};
 ghost use Prim.Native.Nat.{_+_, _*_, _^_, _≤_, _<_};
 ghost use lib.ListN.{length, getD};
 ghost use Rattle.trays.specs.Faults.{refusal};
-ghost use Rattle.sheets.specs.Sheets as S;
-ghost use Rattle.columns.specs.steps.Wrote as W;
+ghost use Rattle.sheet_rule.specs.Sheets as S;
+ghost use Rattle.sheet_columns.specs.steps.Wrote as W;
 ghost use Rattle.sheet_lines.specs.steps.Lines as P;
 use answers::Composed;
 use answers::PLACE_CELLS;
-use files::BLANK;
-use files::LF;
+use file_rule::BLANK;
+use file_rule::LF;
 use tables::whole;
 use tables::wide;
 
@@ -42,10 +42,10 @@ fn three_line(out: &mut [u8], at: usize, width: usize, a: usize, b: usize, c: us
     requires { ⌜ (1 ≤ width) × (a < 10 ^ width) × (b < 10 ^ width) × (c < 10 ^ width) × (at + (width + (width + (width + 1))) ≤ length (now out)) ⌝ }
     ensures { λ r. ⌜ W.Wrote at (width + (width + (width + 1))) (S.threeLine width a b c) (now (out .entry)) (now (out .exit)) r ⌝ }
 {
-    let second = columns::put_number(out, at, width, a);
-    let third = columns::put_number(out, second, width, b);
-    let last = columns::put_number(out, third, width, c);
-    columns::put_byte(out, last, LF)
+    let second = sheet_columns::put_number(out, at, width, a);
+    let third = sheet_columns::put_number(out, second, width, b);
+    let last = sheet_columns::put_number(out, third, width, c);
+    sheet_columns::put_byte(out, last, LF)
 }
 
 // The header of a `compose` sheet.
@@ -53,9 +53,9 @@ fn tray_line(out: &mut [u8], at: usize, c: Composed) -> usize
     requires { ⌜ P.HeaderFits c × (at + S.traySize ≤ length (now out)) ⌝ }
     ensures { λ r. ⌜ W.Wrote at S.traySize (S.trayLine (c .slips) (c .kept) (c .letters) (c .saved) (c .legend)) (now (out .entry)) (now (out .exit)) r ⌝ }
 {
-    let slips = columns::put_text(out, at, b"TRAY");
-    let kept = columns::put_number(out, slips, 4, whole(c.slips));
-    let sums = columns::put_number(out, kept, 4, whole(c.kept));
+    let slips = sheet_columns::put_text(out, at, b"TRAY");
+    let kept = sheet_columns::put_number(out, slips, 4, whole(c.slips));
+    let sums = sheet_columns::put_number(out, kept, 4, whole(c.kept));
     let letters = whole(c.letters);
     let saved = whole(c.saved);
     let legend = whole(c.legend);
@@ -73,12 +73,12 @@ fn slip_line(
     requires { ⌜ (slip < 10 ^ 4) × (letters < 10 ^ 4) × (place < 10 ^ 5) × (at + S.slipSize ≤ length (now out)) ⌝ }
     ensures { λ r. ⌜ W.Wrote at S.slipSize (S.slipLine slip letters place (S.signOf mark)) (now (out .entry)) (now (out .exit)) r ⌝ }
 {
-    let a = columns::put_number(out, at, 4, slip);
-    let b = columns::put_number(out, a, 4, letters);
-    let c = columns::put_number(out, b, 5, place);
-    let d = columns::put_byte(out, c, BLANK);
-    let e = columns::put_byte(out, d, columns::sign(mark));
-    columns::put_byte(out, e, LF)
+    let a = sheet_columns::put_number(out, at, 4, slip);
+    let b = sheet_columns::put_number(out, a, 4, letters);
+    let c = sheet_columns::put_number(out, b, 5, place);
+    let d = sheet_columns::put_byte(out, c, BLANK);
+    let e = sheet_columns::put_byte(out, d, sheet_columns::sign(mark));
+    sheet_columns::put_byte(out, e, LF)
 }
 
 // A line for each slip, from the ends and the places as numbers.
@@ -137,8 +137,8 @@ pub fn compose_lines(
     let slips = tray_line(out, 0, c);
     let pairs = slip_lines(out, slips, ends, places);
     let text = join_lines(out, pairs, joins, whole(c.joins));
-    let last = columns::put_text(out, text, legend);
-    columns::put_byte(out, last, LF)
+    let last = sheet_columns::put_text(out, text, legend);
+    sheet_columns::put_byte(out, last, LF)
 }
 
 // The header of a `find` sheet.
@@ -146,20 +146,20 @@ fn find_line(out: &mut [u8], at: usize, letters: usize, moves: usize, count: usi
     requires { ⌜ (letters < 10 ^ S.placeWidth) × (moves < 10 ^ S.placeWidth) × (count < 10 ^ S.countWidth) × (at + S.findSize ≤ length (now out)) ⌝ }
     ensures { λ r. ⌜ W.Wrote at S.findSize (S.findLine letters moves count) (now (out .entry)) (now (out .exit)) r ⌝ }
 {
-    let a = columns::put_text(out, at, b"FIND");
-    let b = columns::put_number(out, a, PLACE_WIDTH, letters);
-    let c = columns::put_number(out, b, PLACE_WIDTH, moves);
-    let d = columns::put_number(out, c, COUNT_WIDTH, count);
-    columns::put_byte(out, d, LF)
+    let a = sheet_columns::put_text(out, at, b"FIND");
+    let b = sheet_columns::put_number(out, a, PLACE_WIDTH, letters);
+    let c = sheet_columns::put_number(out, b, PLACE_WIDTH, moves);
+    let d = sheet_columns::put_number(out, c, COUNT_WIDTH, count);
+    sheet_columns::put_byte(out, d, LF)
 }
 
 fn found_line(out: &mut [u8], at: usize, end: usize, slip: usize) -> usize
     requires { ⌜ (end < 10 ^ S.placeWidth) × (slip < 10 ^ 4) × (at + S.foundSize ≤ length (now out)) ⌝ }
     ensures { λ r. ⌜ W.Wrote at S.foundSize (S.foundLine end slip) (now (out .entry)) (now (out .exit)) r ⌝ }
 {
-    let a = columns::put_number(out, at, PLACE_WIDTH, end);
-    let b = columns::put_number(out, a, 4, slip);
-    columns::put_byte(out, b, LF)
+    let a = sheet_columns::put_number(out, at, PLACE_WIDTH, end);
+    let b = sheet_columns::put_number(out, a, 4, slip);
+    sheet_columns::put_byte(out, b, LF)
 }
 
 // A line for each of `count` occurrences, from two numbers an occurrence: end place, slip.
@@ -199,8 +199,8 @@ pub fn refused_line(number: u8, detail: u32, out: &mut [u8]) -> usize
     requires { ⌜ (detail < 10 ^ S.detailWidth) × (S.refusedSize ≤ length (now out)) ⌝ }
     ensures { λ r. ⌜ P.Printed (S.refusedLine (refusal number detail)) (now (out .entry)) (now (out .exit)) r ⌝ }
 {
-    let a = columns::put_text(out, 0, b"REFUSED");
-    let b = columns::put_number(out, a, 4, number as usize);
-    let c = columns::put_number(out, b, DETAIL_WIDTH, whole(detail));
-    columns::put_byte(out, c, LF)
+    let a = sheet_columns::put_text(out, 0, b"REFUSED");
+    let b = sheet_columns::put_number(out, a, 4, number as usize);
+    let c = sheet_columns::put_number(out, b, DETAIL_WIDTH, whole(detail));
+    sheet_columns::put_byte(out, c, LF)
 }

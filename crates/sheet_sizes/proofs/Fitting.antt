@@ -30,7 +30,7 @@ use Rattle.greedy.proofs.Demand3.{composed}
 use Rattle.matching.specs.Occurrences.{Occurrence, occurrence, endingAt, occurrences}
 use Rattle.matching.proofs.States.{few-moves}
 use Rattle.matching.proofs.Finds.{in-ending}
-use Rattle.outputs.proofs.Outs.{ending-most}
+use Rattle.trie_outputs.proofs.Outs.{ending-most}
 use Rattle.greedy.proofs.KeptSizes.{TraySlips, traySlips, joins-rep, kept-real, kept-few, kept-small, legend-small}
 use Rattle.sheet_sizes.specs.Fits.{JoinFits, ComposeFits, OccurrenceFits, FindFits}
 use Rattle.greedy.proofs.Placed.{place-most}

@@ -23,8 +23,8 @@ use Rattle.matching.specs.Occurrences.{Occurrence, occurrence, occurrences}
 use Rattle.answers.specs.Composing.{outcomeOf, flatJoins, placeCells, flatPlaces}
 use Rattle.answers.specs.Finding.{flatFound}
 use Rattle.answers.proofs.FlatLists.{joins-at, found-at, places-at}
-use Rattle.sheets.specs.Sheets.{asideSign, keptSign, signOf, joinLine, slipLineOf, slipLineAt, joinLineAt}
-use Rattle.sheets.specs.Sheets.{foundLine, foundLineAt, lines, composeLines, composeSheetOf, findLines, findSheetOf}
+use Rattle.sheet_rule.specs.Sheets.{asideSign, keptSign, signOf, joinLine, slipLineOf, slipLineAt, joinLineAt}
+use Rattle.sheet_rule.specs.Sheets.{foundLine, foundLineAt, lines, composeLines, composeSheetOf, findLines, findSheetOf}
 
 -- lines by index
 each-from : {A : Type 0} (d : A) (f : ℕ → List ℕ) (g : A → List ℕ) (k : ℕ) (xs : List A) → ((i : ℕ) → i < length xs → f (k + i) ≡ g (getD xs i d)) →

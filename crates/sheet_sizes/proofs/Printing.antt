@@ -15,7 +15,7 @@ use Rattle.matching.specs.Occurrences.{occurrences}
 use Rattle.answers.specs.declared.Composed.{Composed}
 use Rattle.answers.specs.Composing.{outcomeOf, flatJoins, flatPlaces}
 use Rattle.answers.specs.Finding.{flatFound}
-use Rattle.sheets.specs.Sheets.{composeLines, composeSheetOf, findLines, findSheetOf, composeRoom, maxFound, findRoom}
+use Rattle.sheet_rule.specs.Sheets.{composeLines, composeSheetOf, findLines, findSheetOf, composeRoom, maxFound, findRoom}
 use Rattle.sheet_lines.specs.steps.Lines.{ComposeAsks, FindAsks, Printed}
 use Rattle.sheet_sizes.proofs.Flat.{compose-lines-are, find-lines-are}
 use Rattle.sheet_sizes.proofs.Sizes.{compose-asks, find-asks}

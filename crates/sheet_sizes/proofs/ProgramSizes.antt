@@ -13,11 +13,11 @@ use Rattle.trays.specs.Limits.{maxFile, endsNeed}
 use Rattle.trays.specs.Slips.{slipsOf}
 use Rattle.trays.specs.Faults.{trayFault}
 use Rattle.trays.proofs.Rows.{both-silent}
-use Rattle.files.specs.Faults.{readFault}
-use Rattle.sheets.specs.Sheets.{composeSheetOf, composeRoom, refusedLine}
+use Rattle.file_rule.specs.Faults.{readFault}
+use Rattle.sheet_rule.specs.Sheets.{composeSheetOf, composeRoom, refusedLine}
 use Rattle.sheet_sizes.specs.Fits.{RefusalFits}
 use Rattle.sheet_lines.specs.steps.Lines.{Printed}
-use Rattle.sheets.specs.Programs.{lettersIn, endsIn, composeSheetFault, composeSheet}
+use Rattle.sheet_rule.specs.Programs.{lettersIn, endsIn, composeSheetFault, composeSheet}
 use Rattle.sheet_sizes.proofs.RefusalsFit.{or-fits, tray-refusal-fits, read-refusal-fits}
 use Rattle.sheet_sizes.proofs.Sizes.{refused-size, compose-most}
 

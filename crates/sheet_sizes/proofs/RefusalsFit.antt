@@ -18,9 +18,9 @@ use Rattle.trays.specs.Slips.{slipsOf, isLetter}
 use Rattle.trays.specs.Faults.{row, orElse, firstRow, notAbove, tooLong, badSlip, badPlace, trayRows, trayFault}
 use Rattle.trays.proofs.Rows.{or-zero, or-some, by-number}
 use Rattle.trays.proofs.Accepted.{row-silent, slips-count}
-use Rattle.files.specs.Lines.{lf, onFirst, linesOf, isLaidOut, slipField, lengthField, letters}
-use Rattle.files.specs.Faults.{lineFault, linesFault, readFault}
-use Rattle.sheets.specs.Sheets.{detailWidth}
+use Rattle.file_rule.specs.Lines.{lf, onFirst, linesOf, isLaidOut, slipField, lengthField, letters}
+use Rattle.file_rule.specs.Faults.{lineFault, linesFault, readFault}
+use Rattle.sheet_rule.specs.Sheets.{detailWidth}
 use Rattle.sheet_sizes.specs.Fits.{RefusalFits}
 
 pub row-fits : (n : ℕ) (b : Bool) (d : ℕ) → n < 10 ^ 2 → d < 10 ^ detailWidth → RefusalFits (row n b d)

@@ -25,12 +25,12 @@ use Rattle.answers.specs.declared.Composed.{Composed}
 use Rattle.answers.specs.Composing.{outcomeOf, joinNumbers, flatJoins, placeCells, flatPlaces}
 use Rattle.answers.specs.Finding.{flatFound}
 use Rattle.answers.proofs.FlatLists.{joins-length, found-length, places-length, places-at}
-use Rattle.sheets.specs.Sheets.{threeLine, trayLine, slipLine, findLine, foundLine, refusedLine, lines, slipLineAt, joinLineAt}
-use Rattle.sheets.specs.Sheets.{foundLineAt, composeLines, composeSheetOf, findLines, findSheetOf, composeRoom, maxFound, findRoom}
-use Rattle.sheets.specs.Sheets.{placeWidth, countWidth, detailWidth, traySize, slipSize, joinSize, findSize, foundSize, refusedSize}
+use Rattle.sheet_rule.specs.Sheets.{threeLine, trayLine, slipLine, findLine, foundLine, refusedLine, lines, slipLineAt, joinLineAt}
+use Rattle.sheet_rule.specs.Sheets.{foundLineAt, composeLines, composeSheetOf, findLines, findSheetOf, composeRoom, maxFound, findRoom}
+use Rattle.sheet_rule.specs.Sheets.{placeWidth, countWidth, detailWidth, traySize, slipSize, joinSize, findSize, foundSize, refusedSize}
 use Rattle.sheet_sizes.specs.Fits.{JoinFits, OccurrenceFits, RefusalFits}
 use Rattle.sheet_lines.specs.steps.Lines.{HeaderFits, SlipsFit, JoinsFit, ComposeAsks, FoundFit, FindAsks}
-use Rattle.sheets.proofs.Columns.{column-length}
+use Rattle.sheet_rule.proofs.Columns.{column-length}
 use Rattle.sheet_sizes.proofs.Flat.{compose-lines-are, find-lines-are}
 use Rattle.sheet_sizes.proofs.Fitting.{compose-fits, find-fits}
 

@@ -16,13 +16,13 @@ use Rattle.trays.specs.Slips.{slipsOf}
 use Rattle.trays.specs.Faults.{row, firstRow, badPlace, trayRows, trayFault}
 use Rattle.trays.proofs.Rows.{both-silent, rows-append}
 use Rattle.trays.proofs.Accepted.{rows-silent, row-silent}
-use Rattle.files.specs.Faults.{readFault}
+use Rattle.file_rule.specs.Faults.{readFault}
 use Rattle.matching.specs.Occurrences.{occurrences}
 use Rattle.answers.specs.Finding.{textRows, listRow}
-use Rattle.sheets.specs.Sheets.{findSheetOf, findRoom, maxFound, refusedLine}
+use Rattle.sheet_rule.specs.Sheets.{findSheetOf, findRoom, maxFound, refusedLine}
 use Rattle.sheet_sizes.specs.Fits.{RefusalFits}
 use Rattle.sheet_lines.specs.steps.Lines.{Printed}
-use Rattle.sheets.specs.Programs.{lettersIn, endsIn, textIn, textFault, findSheetFault, findSheet}
+use Rattle.sheet_rule.specs.Programs.{lettersIn, endsIn, textIn, textFault, findSheetFault, findSheet}
 use Rattle.sheet_sizes.proofs.Fitting.{find-fits}
 use Rattle.sheet_sizes.proofs.RefusalsFit.{row-fits, or-fits, rows-fit, badPlace-most, tray-refusal-fits, read-refusal-fits}
 use Rattle.sheet_sizes.proofs.Sizes.{refused-size, find-most}

@@ -14,7 +14,7 @@ use Rattle.greedy.specs.Joins.{Join, saved}
 use Rattle.greedy.specs.Composing.{usual, whole, joinsOf, legendOf, placeOf, keptLetters}
 use Rattle.matching.specs.Moves.{moves}
 use Rattle.matching.specs.Occurrences.{Occurrence, occurrences}
-use Rattle.sheets.specs.Sheets.{detailWidth}
+use Rattle.sheet_rule.specs.Sheets.{detailWidth}
 
 abbrev pub JoinFits : Join → Type 0
 JoinFits j = (j .left ≤ maxSlips) × (j .right ≤ maxSlips) × (j .overlap ≤ maxSlip)

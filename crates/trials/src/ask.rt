@@ -1,11 +1,11 @@
 // Asking of a tray: whether it is accepted, one slip, and one pair.
-use case_lines::table;
-use case_lines::writing::bracketed;
-use case_lines::writing::put;
-use case_lines::writing::refusal;
+use trials_lines::table;
+use trials_lines::writing::bracketed;
+use trials_lines::writing::put;
+use trials_lines::writing::refusal;
 
 fn check(letters: &[u8], ends: &[u16]) {
-    let fault = checking::check_tray(letters, ends);
+    let fault = tray_check::check_tray(letters, ends);
     refusal(fault.number, fault.detail);
 }
 
@@ -13,13 +13,13 @@ fn check(letters: &[u8], ends: &[u16]) {
 fn slip(letters: &[u8], ends: &[u16], i: u32) {
     let mut number: u8 = 255;
     let mut detail: u32 = 255;
-    let part = asking::slip_letters(letters, ends, i, &mut number, &mut detail);
+    let part = tray_ask::slip_letters(letters, ends, i, &mut number, &mut detail);
     refusal(number, detail);
     bracketed(part);
 }
 
 fn pair(letters: &[u8], ends: &[u16], i: u32, j: u32, least: u32) {
-    let found = asking::pair_overlap(letters, ends, i, j, least);
+    let found = tray_ask::pair_overlap(letters, ends, i, j, least);
     refusal(found.number, found.detail);
     put(found.letters);
 }
@@ -57,7 +57,7 @@ pub fn row(line: &[u8]) {
 // Writes a byte if a tray of that one letter is accepted.
 fn sign(byte: u8) {
     let one = [byte];
-    let fault = checking::check_tray(&one, &[1]);
+    let fault = tray_check::check_tray(&one, &[1]);
     if fault.number == 0 {
         io::write_all(1, &one);
     }

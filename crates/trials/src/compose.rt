@@ -7,11 +7,11 @@ use answers::Composed;
 use answers::Join;
 use answers::PLACE_CELLS;
 use answers::Place;
-use case_lines::sums;
-use case_lines::table;
-use case_lines::writing;
-use case_lines::writing::put;
 use trays::Settings;
+use trials_lines::sums;
+use trials_lines::table;
+use trials_lines::writing;
+use trials_lines::writing::put;
 
 // The most numbers of places that are lent, and those of 200 and of two slips.
 const PLACES_ROOM: usize = 210 * PLACE_CELLS;
@@ -75,7 +75,7 @@ fn flat(
     joins: &mut [u16],
     places: &mut [u16],
 ) {
-    let a = flat::compose_flat(letters, ends, settings, work, legend, joins, places);
+    let a = flat_calls::compose_flat(letters, ends, settings, work, legend, joins, places);
     io::write_all(1, b"C");
     answer(a);
     let n = table::least(a.legend, legend.len());
@@ -138,7 +138,15 @@ fn over_records(a: Composed, legend: &[u8], joins: u32, places: u32, work: &[u16
 fn records(letters: &[u8], ends: &[u16], settings: Settings, work: &mut [u16], legend: &mut [u8]) {
     let join_list = [join_mark(); 200];
     let place_list = [place_mark(); 200];
-    let made = record_arrays::compose(letters, ends, settings, work, legend, join_list, place_list);
+    let made = trials_records::compose(
+        letters,
+        ends,
+        settings,
+        work,
+        legend,
+        join_list,
+        place_list,
+    );
     let joins = made.joins;
     let places = made.places;
     over_records(
@@ -160,7 +168,7 @@ fn two_records(
 ) {
     let join_list = [join_mark(); 2];
     let place_list = [place_mark(); 2];
-    let made = record_arrays::compose_two(
+    let made = trials_records::compose_two(
         letters,
         ends,
         settings,

@@ -3,10 +3,10 @@ ghost use Prim.Native.Nat.{_≤_};
 ghost use lib.ListN.{length};
 use answers::Found;
 use answers::Search;
-use case_lines::sums;
-use case_lines::table;
-use case_lines::writing;
-use case_lines::writing::put;
+use trials_lines::sums;
+use trials_lines::table;
+use trials_lines::writing;
+use trials_lines::writing::put;
 
 // How many cells and numbers are lent, and where the text starts in the line.
 struct Rooms {
@@ -38,7 +38,7 @@ fn answer(a: Search, list: u32, work: &[u16]) {
 }
 
 fn flat(letters: &[u8], ends: &[u16], text: &[u8], work: &mut [u16], list: &mut [u32]) {
-    let a = flat::find_flat(letters, ends, text, work, list);
+    let a = flat_calls::find_flat(letters, ends, text, work, list);
     io::write_all(1, b"F");
     answer(a, sums::numbers(list), work);
 }
@@ -67,7 +67,7 @@ fn mark() -> Found {
 // Over a list of 2,000 records.
 fn records(letters: &[u8], ends: &[u16], text: &[u8], work: &mut [u16]) {
     let list = [mark(); 2000];
-    let made = record_arrays::find(letters, ends, text, work, list);
+    let made = trials_records::find(letters, ends, text, work, list);
     let found = made.found;
     answer(made.answer, sums::occurrences(found), work);
 }
@@ -75,7 +75,7 @@ fn records(letters: &[u8], ends: &[u16], text: &[u8], work: &mut [u16]) {
 // Over a list of two records.
 fn two_records(letters: &[u8], ends: &[u16], text: &[u8], work: &mut [u16]) {
     let list = [mark(); 2];
-    let made = record_arrays::find_two(letters, ends, text, work, list);
+    let made = trials_records::find_two(letters, ends, text, work, list);
     let found = made.found;
     answer(made.answer, sums::two_occurrences(found), work);
 }

@@ -11,7 +11,7 @@
 // What was lent is filled with marks before a call, and its sum behind it is written.
 ghost use mathlib.Core.Path.{_≡_};
 ghost use lib.ListN.{length};
-use case_lines::table;
+use trials_lines::table;
 
 mod ask;
 mod compose;
@@ -25,8 +25,8 @@ fn row(line: &[u8]) {
         b'L' => shortest::row(line),
         b'F' => find::row(line),
         b'A' => ask::row(line),
-        b'T' => tray_cases::read::row(line),
-        b'M' => tray_cases::merge::row(line),
+        b'T' => trials_trays::read::row(line),
+        b'M' => trials_trays::merge::row(line),
         b'S' => ask::signs(),
         b'-' => {
             io::write_all(1, line);

@@ -1,13 +1,13 @@
 // Every slip of a small tray, and every pair with a least overlap; with slip 0 and the one above the count.
 ghost use Prim.Native.Nat.{_≤_};
 ghost use lib.ListN.{length};
-use case_lines::sums;
-use case_lines::sums::mix;
-use case_lines::table;
-use case_lines::writing::put;
+use trials_lines::sums;
+use trials_lines::sums::mix;
+use trials_lines::table;
+use trials_lines::writing::put;
 
 fn pair(sum: u32, letters: &[u8], ends: &[u16], i: u32, j: u32, least: u32) -> u32 {
-    let found = asking::pair_overlap(letters, ends, i, j, least);
+    let found = tray_ask::pair_overlap(letters, ends, i, j, least);
     mix(
         mix(mix(sum, found.number as u32), found.detail),
         found.letters,
@@ -39,7 +39,7 @@ fn pairs(letters: &[u8], ends: &[u16], above: u32, least: u32) -> u32 {
 fn slip(sum: u32, letters: &[u8], ends: &[u16], i: u32) -> u32 {
     let mut number: u8 = 255;
     let mut detail: u32 = 255;
-    let part = asking::slip_letters(letters, ends, i, &mut number, &mut detail);
+    let part = tray_ask::slip_letters(letters, ends, i, &mut number, &mut detail);
     let answered = mix(mix(sum, number as u32), detail);
     sums::bytes(mix(answered, table::count(part.len())), part)
 }

@@ -2,11 +2,11 @@
 ghost use Prim.Native.Nat.{_≤_};
 ghost use lib.ListN.{length};
 use answers::Shortest;
-use case_lines::sums;
-use case_lines::table;
-use case_lines::writing;
-use case_lines::writing::put;
 use trays::Settings;
+use trials_lines::sums;
+use trials_lines::table;
+use trials_lines::writing;
+use trials_lines::writing::put;
 
 // The least overlap, how many cells and bytes are lent, and where the line goes on.
 pub struct Rooms {
@@ -46,7 +46,7 @@ fn answer(a: Shortest) {
 }
 
 fn seek(letters: &[u8], ends: &[u16], settings: Settings, work: &mut [u16], legend: &mut [u8]) {
-    let a = seeking::shortest_legend(letters, ends, settings, work, legend);
+    let a = shortest_legend::shortest_legend(letters, ends, settings, work, legend);
     answer(a);
     let n = table::least(a.legend, legend.len());
     writing::bracketed(&legend[0..n]);

@@ -22,7 +22,7 @@ use Rattle.layout.specs.Layout.{HEAD, STARTS, STARTS-NEXT, ENDS, ENDS-NEXT}
 use Rattle.layout.specs.Tables.{cell, members, StartsIs, EndsIs}
 use Rattle.layout.specs.Numbered.{patternsIn, SameBelow}
 use Rattle.layout.specs.Staging.{keptIn}
-use Rattle.heads.specs.steps.Heads.{Lists}
+use Rattle.trie_heads.specs.steps.Heads.{Lists}
 use Rattle.kept_slips.specs.steps.Kept.{KeptFound}
 
 -- the sides of a slip, and the tables of their lists

@@ -3,7 +3,7 @@ use mathlib.Core.Path.{refl}
 use Prim.Native.Nat.{_-_}
 use Rattle.layout.specs.Layout.{KEPT}
 use Rattle.layout.specs.Numbered.{SameBelow}
-use Rattle.heads.proofs.Keeping.{kept-refl, kept-trans, kept-put}
+use Rattle.trie_heads.proofs.Keeping.{kept-refl, kept-trans, kept-put}
 use Rattle.kept_slips.proofs.KeptLoop.{Sifting, sifting-start, sifting-judged, sifting-aside, sifting-can, sifting-kept, sifting-all}
 use borrow.Author.Needs.{needs}
 use Rattle.kept_slips.proofs.fill_kept.Statement.{statement}

@@ -2,7 +2,7 @@
 use Prim.Native.Nat.{_+_, _-_}
 use Rattle.layout.specs.Layout.{MARK}
 use Rattle.layout.specs.Numbered.{SameBelow}
-use Rattle.heads.proofs.Keeping.{kept-refl, kept-trans, kept-put}
+use Rattle.trie_heads.proofs.Keeping.{kept-refl, kept-trans, kept-put}
 use Rattle.kept_slips.proofs.MarkLoop.{Marking, marking-room, marking-start, marking-place, marking-can, marking-more, marking-all}
 use borrow.Author.Needs.{needs}
 use Rattle.kept_slips.proofs.fill_marks.Statement.{statement}

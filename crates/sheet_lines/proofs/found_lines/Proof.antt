@@ -1,8 +1,8 @@
 -- Invariant: the lines of the first i occurrences stand in `out` from `at` up to `next`, and the rest of `out` is as it was.
 use Prim.Native.Nat.{_-_, _*_, _≤_}
-use Rattle.sheets.specs.Sheets.{foundSize, lines, foundLineAt}
-use Rattle.columns.specs.steps.Wrote.{Wrote}
-use Rattle.columns.proofs.Puts.{put-none}
+use Rattle.sheet_rule.specs.Sheets.{foundSize, lines, foundLineAt}
+use Rattle.sheet_columns.specs.steps.Wrote.{Wrote}
+use Rattle.sheet_columns.proofs.Puts.{put-none}
 use Rattle.sheet_lines.proofs.LineLoops.{founds-end, found-place, found-slip, found-turn}
 use native.Mathlib.Omega.{arith}
 use borrow.Author.Needs.{needs}

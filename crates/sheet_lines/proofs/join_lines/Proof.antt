@@ -1,8 +1,8 @@
 -- Invariant: the lines of the first i joins stand in `out` from `at` up to `next`, and the rest of `out` is as it was.
 use Prim.Native.Nat.{_-_, _*_, _≤_}
-use Rattle.sheets.specs.Sheets.{joinSize, lines, joinLineAt}
-use Rattle.columns.specs.steps.Wrote.{Wrote}
-use Rattle.columns.proofs.Puts.{put-none}
+use Rattle.sheet_rule.specs.Sheets.{joinSize, lines, joinLineAt}
+use Rattle.sheet_columns.specs.steps.Wrote.{Wrote}
+use Rattle.sheet_columns.proofs.Puts.{put-none}
 use Rattle.sheet_lines.proofs.LineLoops.{joins-end, join-left, join-right, join-shared, join-turn}
 use native.Mathlib.Omega.{arith}
 use borrow.Author.Needs.{needs}

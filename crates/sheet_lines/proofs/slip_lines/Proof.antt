@@ -3,10 +3,10 @@
 use Prim.Native.Nat.{_-_, _*_, _≤_}
 use mathlib.Core.Path.{_≡_, refl}
 use lib.ListN.{length}
-use Rattle.sheets.specs.Sheets.{slipSize, lines, slipLineAt}
-use Rattle.columns.specs.steps.Wrote.{Wrote}
+use Rattle.sheet_rule.specs.Sheets.{slipSize, lines, slipLineAt}
+use Rattle.sheet_columns.specs.steps.Wrote.{Wrote}
 use Rattle.trays.specs.Slips.{endOf}
-use Rattle.columns.proofs.Puts.{put-none}
+use Rattle.sheet_columns.proofs.Puts.{put-none}
 use Rattle.sheet_lines.proofs.LineLoops.{slips-end, slip-rises, slip-small, slip-placed, slip-turn, here-turn}
 use native.Mathlib.Omega.{arith}
 use borrow.Author.Needs.{needs}

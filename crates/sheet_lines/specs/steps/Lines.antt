@@ -10,7 +10,7 @@ use Rattle.words.specs.Lists.{over}
 use Rattle.trays.specs.Slips.{endOf}
 use Rattle.answers.specs.Composing.{placeCells}
 use Rattle.answers.specs.declared.Composed.{Composed}
-use Rattle.sheets.specs.Sheets.{placeWidth, countWidth, traySize, slipSize, joinSize, findSize, foundSize}
+use Rattle.sheet_rule.specs.Sheets.{placeWidth, countWidth, traySize, slipSize, joinSize, findSize, foundSize}
 
 pub record Printed (ys old new : List ℕ) (r : ℕ) : Type 0 where
   pub is : new ≡ over ys old

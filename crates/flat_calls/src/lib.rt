@@ -1,0 +1,83 @@
+// Composing and finding over slices of numbers: three numbers a join, `PLACE_CELLS` a place, two an occurrence.
+ghost use Rattle.answers.specs.Flat.{ComposeFlat};
+ghost use Prim.Native.Nat.{_+_, _<_};
+ghost use Rattle.answers.specs.Finding as F;
+ghost use Rattle.flat_calls.specs.steps.Occurrences as N;
+use answers::Composed;
+use answers::PLACE_CELLS;
+use answers::Search;
+use layout::JOINS;
+use layout::PLACES;
+use tables::number;
+use tables::whole;
+use trays::Settings;
+
+// Composes any tray, or refuses it. A join is three numbers (left slip, right slip, overlap), a place three (the place, 1 if the slip is kept, and the letters
+// compared to find it).
+pub fn compose_flat(
+    letters: &[u8],
+    ends: &[u16],
+    settings: Settings,
+    work: &mut [u16],
+    legend: &mut [u8],
+    joins: &mut [u16],
+    places: &mut [u16],
+) -> Composed
+    ensures { λ r. ⌜ ComposeFlat settings (now (letters .entry)) (now (ends .entry)) (now (work .entry)) (now (work .exit))
+        (now (legend .entry)) (now (legend .exit)) (now (joins .entry)) (now (joins .exit)) (now (places .entry)) (now (places .exit)) r ⌝ }
+{
+    let joins_room = joins.len() / 3;
+    let places_room = places.len() / PLACE_CELLS;
+    let answer = compose_core::compose_staged(
+        letters,
+        ends,
+        settings,
+        work,
+        legend,
+        joins_room,
+        places_room,
+    );
+    cell_copy::copy_cells(work, JOINS, 3 * whole(answer.joins), joins);
+    cell_copy::copy_cells(work, PLACES, PLACE_CELLS * whole(answer.slips), places);
+    answer
+}
+
+// The first `count` occurrences, two numbers each, stored from the start of the list.
+fn scan_flat(
+    letters: &[u8],
+    ends: &[u16],
+    text: &[u8],
+    work: &mut [u16],
+    found: &mut [u32],
+    count: usize,
+)
+    requires { ⌜ N.CanFlat (now letters) (now ends) (now text) count (now work) (now found) ⌝ }
+    ensures { λ _. ⌜ N.NumbersStored (now (letters .entry)) (now (ends .entry)) (now (text .entry)) count (now (work .entry)) (now (work .exit))
+        (now (found .entry)) (now (found .exit)) ⌝ }
+{
+    let mut i: usize = 0;
+    while i < count {
+        let next = find_core::next_found(letters, ends, text, work, i);
+        let at = 2 * i;
+        found[at] = next.end;
+        found[at + 1] = number(next.slip);
+        i += 1;
+    }
+}
+
+// The same into a lent list of numbers, two for each occurrence: end place, slip.
+pub fn find_flat(
+    letters: &[u8],
+    ends: &[u16],
+    text: &[u8],
+    work: &mut [u16],
+    found: &mut [u32],
+) -> Search
+    ensures { λ r. ⌜ F.FindFlat (now (letters .entry)) (now (ends .entry)) (now (text .entry)) (now (work .entry)) (now (work .exit))
+        (now (found .entry)) (now (found .exit)) r ⌝ }
+{
+    let room = found.len() / 2;
+    let a = find_core::find_core(letters, ends, text, work, room);
+    scan_flat(letters, ends, text, work, found, a.count);
+    a.answer
+}

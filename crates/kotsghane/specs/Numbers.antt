@@ -1,0 +1,43 @@
+-- Answers as numbers, for calls on one slip, on a pair, on a tray file and on two trays. Those of composing and finding stand in answers.
+--   slipNumbers r  == number, detail, start, end
+--   pairNumbers r  == number, detail, letters shared
+--   writtenNumbers r == number, detail, letters, slips
+--   SlipExported, PairExported, ReadExported, MergeExported == what the calls leave; m is the least overlap
+use mathlib.Core.Path.{_≡_}
+use mathlib.Core.List.{List, [], _∷_}
+use Prim.Native.Nat.{ℕ}
+use Rattle.trays.specs.declared.Located.{Located}
+use Rattle.trays.specs.declared.Pair.{Pair}
+use Rattle.trays.specs.Answers.{locatedOf, pairOf}
+use Rattle.trays.specs.declared.Written.{Written}
+use Rattle.file_rule.specs.Answers.{Reading}
+use Rattle.merge_rule.specs.Merging.{MergeSays}
+
+abbrev pub slipNumbers : Located → List ℕ
+slipNumbers r = r .number ∷ (r .detail ∷ (r .start ∷ (r .end ∷ [])))
+
+abbrev pub pairNumbers : Pair → List ℕ
+pairNumbers r = r .number ∷ (r .detail ∷ (r .letters ∷ []))
+
+abbrev pub writtenNumbers : Written → List ℕ
+writtenNumbers r = r .number ∷ (r .detail ∷ (r .letters ∷ (r .slips ∷ [])))
+
+pub record SlipExported (s es : List ℕ) (i : ℕ) (a′ : List ℕ) : Type 0 where
+  pub answer : Located
+  pub says : answer ≡ locatedOf s es i
+  pub numbers-are : a′ ≡ slipNumbers answer
+
+pub record PairExported (m : ℕ) (s es : List ℕ) (i j : ℕ) (a′ : List ℕ) : Type 0 where
+  pub answer : Pair
+  pub says : answer ≡ pairOf m s es i j
+  pub numbers-are : a′ ≡ pairNumbers answer
+
+pub record ReadExported (file ls ls′ es es′ a′ : List ℕ) : Type 0 where
+  pub answer : Written
+  pub says : Reading file ls ls′ es es′ answer
+  pub numbers-are : a′ ≡ writtenNumbers answer
+
+pub record MergeExported (s es t fs ls ls′ cs cs′ a′ : List ℕ) : Type 0 where
+  pub answer : Written
+  pub says : MergeSays s es t fs ls ls′ cs cs′ answer
+  pub numbers-are : a′ ≡ writtenNumbers answer

@@ -1,0 +1,129 @@
+-- From reading the tray file to the two sheets.
+--   file-..                   == a file that is turned back, or read
+--   compose-.., find-..       == the two ways through compose_sheet and find_sheet
+-- Refusal 15 is silent: the lent letters and ends are enough.
+use mathlib.Core.Path.{_≡_, sym, _∙_, ap}
+use mathlib.Core.List.{List}
+use Prim.Native.Nat.{ℕ, zero, suc, _^_, _≤_, _<_, _*_}
+use borrow.Author.Tests.{le-ltb}
+use native.Mathlib.Omega.{arith}
+use lib.Seq.{length-take-le}
+use lib.ListN.{length, take}
+use Rattle.trays.specs.declared.Refusal.{Refusal}
+use Rattle.trays.specs.declared.Written.{Written}
+use Rattle.trays.specs.Limits.{maxFile, endsNeed}
+use Rattle.trays.specs.Slips.{slipsOf}
+use Rattle.trays.specs.Faults.{refusal, trayFault}
+use Rattle.trays.specs.Written.{TrayWritten}
+use Rattle.trays.proofs.Rows.{or-zero, or-some, speaking}
+use Rattle.trays.proofs.WrittenSlips.{refused-as, silent, letters-first, ends-first}
+use Rattle.file_rule.specs.Faults.{readFault}
+use Rattle.file_rule.specs.Answers.{slipsIn, Reading}
+use Rattle.sheet_rule.specs.Sheets.{detailWidth, refusedLine, refusedSize, composeSheetOf, findSheetOf, maxFound}
+use Rattle.sheet_lines.specs.steps.Lines.{Printed}
+use Rattle.sheet_rule.specs.Programs.{lettersIn, endsIn, traySheet, composeSheetFault, composeSheet, textIn, textFault, textSheet, findSheetFault, findSheet}
+use Rattle.sheet_sizes.proofs.RefusalsFit.{read-refusal-fits}
+use Rattle.sheet_sizes.proofs.Printing.{printed-is}
+use Rattle.sheet_of_text.specs.steps.Lent.{TextRoom, Filed}
+use Rattle.sheet_of_files.specs.steps.Lent.{FileRoom, ComposeRoom, FindRoom}
+
+-- what turns the file itself back, whatever is lent
+abbrev own : List ℕ → Refusal
+own s = readFault s maxFile endsNeed
+
+module _ (s a b : List ℕ) (room : FileRoom a b) where
+  fault-own : readFault s (length a) (length b) ≡ own s
+  unfolding readFault
+  fault-own = rw (le-ltb (length a) maxFile (room .letters), le-ltb (length b) endsNeed (room .ends))
+
+  module _ (a′ b′ : List ℕ) (r : Written) (t : Reading s a a′ b b′ r) where
+    -- the promise, for what turns the file itself back
+    read : TrayWritten (own s) (slipsIn s) a a′ b b′ r
+    read = rw fault-own at t
+
+    -- turned back
+    module _ (z : r .number ≡ 0 → ⊥) where
+      file-refused : refusal (r .number) (r .detail) ≡ own s
+      file-refused = refused-as (own s) (slipsIn s) a a′ b b′ r read z
+
+      file-speaks : own s .number ≡ 0 → ⊥
+      file-speaks e = z (ap (λ (f : Refusal). f .number) file-refused ∙ e)
+
+      refused-can : (o : List ℕ) → refusedSize ≤ length o → (r .detail < 10 ^ detailWidth) × (refusedSize ≤ length o)
+      refused-can o h = (rw (ap (λ (f : Refusal). f .detail) file-refused) (read-refusal-fits s maxFile endsNeed .detail-fits), h)
+
+    -- read
+    file-silent : r .number ≡ 0 → own s .number ≡ 0
+    file-silent z = silent (own s) (slipsIn s) a a′ b b′ r read z
+
+-- what `compose` prints, where f turns the file back
+abbrev composed : List ℕ → Refusal → List ℕ
+composed s f = elim (f .number) [ zero ↦ composeSheetOf (slipsOf (lettersIn s) (endsIn s)) | suc n ↦ refusedLine f ]
+
+module _ (s : List ℕ) where
+  compose-silent : own s .number ≡ 0 → composeSheet s ≡ traySheet (lettersIn s) (endsIn s)
+  unfolding composeSheet composeSheetFault
+  compose-silent h = ap (composed s) (or-zero (own s) (trayFault (lettersIn s) (endsIn s)) h)
+
+  compose-speaks : (n : ℕ) → own s .number ≡ suc n → composeSheet s ≡ refusedLine (own s)
+  unfolding composeSheet composeSheetFault
+  compose-speaks n h =
+      ap (composed s) (or-some (own s) (trayFault (lettersIn s) (endsIn s)) (omega arith))
+      ∙ ap {B = List ℕ} (λ (m : ℕ). elim m [ zero ↦ composeSheetOf (slipsOf (lettersIn s) (endsIn s)) | suc k ↦ refusedLine (own s) ]) h
+
+  module _ (a b w l o : List ℕ) (room : ComposeRoom a b w l o) (a′ b′ : List ℕ) (r : Written) (t : Reading s a a′ b b′ r) where
+    pub compose-can : (r .number ≡ 0 → ⊥) → (r .detail < 10 ^ detailWidth) × (refusedSize ≤ length o)
+    compose-can z = refused-can s a b (room .file) a′ b′ r t z o (omega (arith, room .tray .sheet))
+
+    pub compose-refused : (r .number ≡ 0 → ⊥) → (o′ : List ℕ) (k : ℕ) → Printed (refusedLine (refusal (r .number) (r .detail))) o o′ k →
+        Printed (composeSheet s) o o′ k
+    compose-refused z o′ k p =
+        let (n, h) = speaking (own s) (file-speaks s a b (room .file) a′ b′ r t z) in
+        printed-is (refusedLine (refusal (r .number) (r .detail))) (composeSheet s) o o′ k
+        (ap refusedLine (file-refused s a b (room .file) a′ b′ r t z) ∙ sym (compose-speaks n (ap (λ (f : Refusal). f .number) h))) p
+
+    pub compose-printed : r .number ≡ 0 → (o′ : List ℕ) (k : ℕ) → Printed (traySheet (take (r .letters) a′) (take (r .slips) b′)) o o′ k →
+        Printed (composeSheet s) o o′ k
+    compose-printed z o′ k p =
+        printed-is (traySheet (take (r .letters) a′) (take (r .slips) b′)) (composeSheet s) o o′ k
+        (rw (letters-first _ _ a a′ b b′ r t z, ends-first _ _ a a′ b b′ r t z) (sym (compose-silent (file-silent s a b (room .file) a′ b′ r t z)))) p
+
+-- what `find` prints, where f turns the files back
+abbrev found : List ℕ → List ℕ → Refusal → List ℕ
+found s x f = elim (f .number) [ zero ↦ findSheetOf (slipsOf (lettersIn s) (endsIn s)) (textIn x) | suc n ↦ refusedLine f ]
+
+-- of a list that takes at least as many occurrences as `find` lists, just so many are lent
+pub found-lent : (a b w f o : List ℕ) → FindRoom a b w f o → 2 * maxFound ≡ length (take (2 * maxFound) f)
+found-lent a b w f o room = sym (length-take-le (2 * maxFound) f (room .found))
+
+pub text-room : (a b w f o : List ℕ) → FindRoom a b w f o → TextRoom w (take (2 * maxFound) f) o
+text-room a b w f o room = record { work = room .work; found = sym (found-lent a b w f o room); sheet = room .sheet }
+
+pub find-can : (s a b w f o : List ℕ) → FindRoom a b w f o → (a′ b′ : List ℕ) (r : Written) → Reading s a a′ b b′ r → (r .number ≡ 0 → ⊥)
+    → (r .detail < 10 ^ detailWidth) × (refusedSize ≤ length o)
+find-can s a b w f o room a′ b′ r t z = refused-can s a b (room .file) a′ b′ r t z o (omega (arith, room .sheet))
+
+module _ (s x : List ℕ) where
+  find-silent : own s .number ≡ 0 → findSheet s x ≡ textSheet (lettersIn s) (endsIn s) (textIn x)
+  unfolding findSheet findSheetFault
+  find-silent h = ap (found s x) (or-zero (own s) (textFault (lettersIn s) (endsIn s) (textIn x)) h)
+
+  find-speaks : (n : ℕ) → own s .number ≡ suc n → findSheet s x ≡ refusedLine (own s)
+  unfolding findSheet findSheetFault
+  find-speaks n h =
+      ap (found s x) (or-some (own s) (textFault (lettersIn s) (endsIn s) (textIn x)) (omega arith))
+      ∙ ap {B = List ℕ} (λ (m : ℕ). elim m [ zero ↦ findSheetOf (slipsOf (lettersIn s) (endsIn s)) (textIn x) | suc k ↦ refusedLine (own s) ]) h
+
+  module _ (a b w f o : List ℕ) (room : FindRoom a b w f o) (a′ b′ : List ℕ) (r : Written) (t : Reading s a a′ b b′ r) where
+    pub find-refused : (r .number ≡ 0 → ⊥) → (o′ : List ℕ) (k : ℕ) → Printed (refusedLine (refusal (r .number) (r .detail))) o o′ k →
+        Printed (findSheet s x) o o′ k
+    find-refused z o′ k p =
+        let (n, h) = speaking (own s) (file-speaks s a b (room .file) a′ b′ r t z) in
+        printed-is (refusedLine (refusal (r .number) (r .detail))) (findSheet s x) o o′ k
+        (ap refusedLine (file-refused s a b (room .file) a′ b′ r t z) ∙ sym (find-speaks n (ap (λ (f : Refusal). f .number) h))) p
+
+    pub find-printed : r .number ≡ 0 → (x′ : List ℕ) (m : ℕ) → Filed x x′ m → (o′ : List ℕ) (k : ℕ) →
+        Printed (textSheet (take (r .letters) a′) (take (r .slips) b′) (take m x′)) o o′ k → Printed (findSheet s x) o o′ k
+    find-printed z x′ m q o′ k p =
+        printed-is (textSheet (take (r .letters) a′) (take (r .slips) b′) (take m x′)) (findSheet s x) o o′ k
+        (rw (letters-first _ _ a a′ b b′ r t z, ends-first _ _ a a′ b b′ r t z, q .is) (sym (find-silent (file-silent s a b (room .file) a′ b′ r t z)))) p

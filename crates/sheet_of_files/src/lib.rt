@@ -1,0 +1,59 @@
+// From the bytes of a program's files to the whole sheet that it prints.
+ghost use Rattle.sheet_lines.specs.steps.Lines.{Printed};
+ghost use Rattle.sheet_rule.specs.Programs.{composeSheet, findSheet};
+ghost use Rattle.sheet_of_files.specs.steps.Lent.{ComposeRoom, FindRoom};
+
+// Numbers of the occurrences that `find` lists, two each.
+const LISTED: usize = 16000;
+
+// The sheet that `compose` prints for a tray file. Letters, ends, work area and legend are lent for the work.
+pub fn compose_sheet(
+    file: &[u8],
+    letters: &mut [u8],
+    ends: &mut [u16],
+    work: &mut [u16],
+    legend: &mut [u8],
+    out: &mut [u8],
+) -> usize
+    requires { ⌜ ComposeRoom (now letters) (now ends) (now work) (now legend) (now out) ⌝ }
+    ensures { λ r. ⌜ Printed (composeSheet (now (file .entry))) (now (out .entry)) (now (out .exit)) r ⌝ }
+{
+    let read = file_read::read_tray(file, letters, ends);
+    if read.number != 0 {
+        return sheet_lines::refused_line(read.number, read.detail, out);
+    }
+    let n = read.letters as usize;
+    let k = read.slips as usize;
+    sheet_of_tray::tray_sheet(&letters[..n], &ends[..k], work, legend, out)
+}
+
+// The sheet that `find` prints for a tray file and a text file. Letters, ends, work area and occurrences are lent for the work; the text is folded
+// where it stands.
+pub fn find_sheet(
+    tray: &[u8],
+    text: &mut [u8],
+    letters: &mut [u8],
+    ends: &mut [u16],
+    work: &mut [u16],
+    found: &mut [u32],
+    out: &mut [u8],
+) -> usize
+    requires { ⌜ FindRoom (now letters) (now ends) (now work) (now found) (now out) ⌝ }
+    ensures { λ r. ⌜ Printed (findSheet (now (tray .entry)) (now (text .entry))) (now (out .entry)) (now (out .exit)) r ⌝ }
+{
+    let got = file_read::read_tray(tray, letters, ends);
+    if got.number != 0 {
+        return sheet_lines::refused_line(got.number, got.detail, out);
+    }
+    let n = got.letters as usize;
+    let k = got.slips as usize;
+    let m = sheet_of_text::file_text(text);
+    sheet_of_text::text_sheet(
+        &letters[..n],
+        &ends[..k],
+        &text[..m],
+        work,
+        &mut found[..LISTED],
+        out,
+    )
+}
