@@ -1,2 +1,2 @@
--- composing
+-- compose_core
 pub mod steps

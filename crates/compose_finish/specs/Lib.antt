@@ -1,2 +1,2 @@
--- finishing
+-- compose_finish
 pub mod steps

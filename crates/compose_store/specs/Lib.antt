@@ -1,2 +1,2 @@
--- records
+-- compose_store
 pub mod steps

@@ -1,2 +1,2 @@
--- legends
+-- compose_tray
 pub mod steps

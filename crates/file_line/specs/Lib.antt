@@ -1,2 +1,2 @@
--- lines
+-- file_line
 pub mod steps

@@ -1,2 +1,2 @@
--- reading
+-- file_read
 pub mod steps

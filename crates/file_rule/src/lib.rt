@@ -1,4 +1,4 @@
-// Tray files: limits, lines and readers. The functions stand in lines and reading.
+// Tray files: limits, lines and readers. The functions stand in file_line and file_read.
 pub const MAX_FILE: usize = 16384;
 
 pub const ENDS_NEED: usize = 1700;

@@ -1,2 +1,2 @@
--- filing
+-- fold_letters
 pub mod steps

@@ -1,4 +1,4 @@
-// Works the table of folding out from the rule and prints it, as it stands in the source of filing.
+// Works the table of folding out from the rule and prints it, as it stands in the source of fold_letters.
 ghost use mathlib.Core.Path.{_≡_};
 ghost use Rattle.fold_rule.specs.Folding as F;
 

@@ -1,2 +1,2 @@
--- counting
+-- legend_counts
 pub mod steps

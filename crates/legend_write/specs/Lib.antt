@@ -1,2 +1,2 @@
--- writing
+-- legend_write
 pub mod steps

@@ -1,2 +1,2 @@
--- columns
+-- sheet_columns
 pub mod steps

@@ -1,2 +1,2 @@
--- printing
+-- sheet_of_files
 pub mod steps

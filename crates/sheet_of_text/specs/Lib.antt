@@ -1,2 +1,2 @@
--- text_sheets
+-- sheet_of_text
 pub mod steps

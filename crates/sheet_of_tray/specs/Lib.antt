@@ -1,2 +1,2 @@
--- tray_sheets
+-- sheet_of_tray
 pub mod steps

@@ -1,6 +1,6 @@
 -- A function with the code of `compose`, over arrays of n records and with any struct of the answer and the arrays as its result, meets each contract
 -- that follows from what `compose_tray` says: a straight-line walk of its MIR, by hand:
---     let answer = legends::compose_tray(letters, ends, settings, work, legend, &mut joins, &mut places);
+--     let answer = compose_tray::compose_tray(letters, ends, settings, work, legend, &mut joins, &mut places);
 --     Composition { answer, joins, places }
 -- The settings, the work area and the legend are given to the callee for good; each array is lent to it for a lifetime of the call, and comes back.
 -- All that the proof knows of the callee is that it meets its contract.

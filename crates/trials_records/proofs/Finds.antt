@@ -1,6 +1,6 @@
 -- A function with the code of `find`, over an array of n records and with any struct of the answer and the array as its result, meets each contract
 -- that follows from what `find_slips` says: a straight-line walk of its MIR, by hand:
---     let answer = finding::find_slips(letters, ends, text, work, &mut found);
+--     let answer = find_slips::find_slips(letters, ends, text, work, &mut found);
 --     Finding { answer, found }
 -- The work area is given to the callee for good; the array is lent to it for a lifetime of the call, and comes back.
 -- All that the proof knows of the callee is that it meets its contract. The number n of the code is an operand that reads as n.

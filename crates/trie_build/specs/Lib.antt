@@ -1,2 +1,2 @@
--- automaton
+-- trie_build
 pub mod steps

@@ -1,2 +1,2 @@
--- heads
+-- trie_heads
 pub mod steps

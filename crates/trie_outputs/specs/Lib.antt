@@ -1,2 +1,2 @@
--- outputs
+-- trie_outputs
 pub mod steps

@@ -1,2 +1,2 @@
--- scanning
+-- trie_scan
 pub mod steps

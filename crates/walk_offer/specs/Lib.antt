@@ -1,2 +1,2 @@
--- offers
+-- walk_offer
 pub mod steps

@@ -1,4 +1,4 @@
--- `store_joins` meets its contract: the loop of `stores`, at joins made by `join_at`.
+-- `store_joins` meets its contract: the loop of `store_loops`, at joins made by `join_at`.
 use Prim.Native.Nat.{_+_, _-_, _*_, _≤_}
 use native.Mathlib.Omega.{arith}
 use lib.ListN.{length}

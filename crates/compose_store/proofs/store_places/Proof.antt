@@ -1,4 +1,4 @@
--- `store_places` meets its contract: the loop of `stores`, at places made by `place_at`.
+-- `store_places` meets its contract: the loop of `store_loops`, at places made by `place_at`.
 use Prim.Native.Nat.{_+_, _-_, _*_, _≤_, _<_}
 use native.Mathlib.Omega.{arith}
 use lib.ListN.{length}

@@ -1,5 +1,5 @@
 -- `next` meets its contract: a walk of its MIR, by hand.
---     let line = lines::line_at(r.file, r.at, k);
+--     let line = file_line::line_at(r.file, r.at, k);
 --     r.at = line.next;
 --     line
 -- The borrow of the reader is opened; a copy of the slice goes to the parser; the place behind the line is stored beside the slice, and the

@@ -1,4 +1,4 @@
--- `scan_found` meets its contract: the scanning loop of `stores`, over `next_found`.
+-- `scan_found` meets its contract: the scanning loop of `store_loops`, over `next_found`.
 use Rattle.store_loops.proofs.Scan.{scanned-by}
 use Rattle.find_core.specs.steps.Searching.{foundAt, Ready, Next, Enough, Left}
 use Rattle.find_core.proofs.Telling.{Telling, telling-start, telling-ready, telling-more}
