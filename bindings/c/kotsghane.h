@@ -1,6 +1,6 @@
 /* Coin legends composed from worn readings: the calls of the proved library, for C.
  *
- * `rt staticlib exports` at the root of the repository writes target/staticlib/libexports.a; link it.
+ * `rt staticlib kotsghane` at the root of the repository writes target/staticlib/libkotsghane.a; link it.
  *
  * A tray is letters and ends: slip 1 runs from the start to ends[0], slip i from ends[i - 2] to ends[i - 1]. Every call takes any bytes, any ends and any
  * lengths; what cannot be done is refused, by a number and a detail in the answer (docs/REFUSALS.md). A refusal leaves every lent buffer as it was; only
