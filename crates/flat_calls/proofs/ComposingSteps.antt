@@ -18,7 +18,7 @@ use Rattle.compose_core.specs.steps.Composing.{Staged}
 use Rattle.compose_core.proofs.StagedTells.{staged-tells, staged-room}
 use Rattle.answers.specs.Composing.{placeCells}
 use Rattle.answers.specs.Flat.{ComposeFlat}
-use Rattle.cell_copy.specs.Copying.{CanCopy}
+use Rattle.tables.specs.Copying.{CanCopy}
 
 module _ (g : Settings) (s es w w₁ l l′ : List ℕ) (jr pr : ℕ) (r : Composed) (st : Staged g s es w w₁ l l′ jr pr r) where
   pub joins-can : (m : ℕ) (j : List ℕ) → m ≡ r .joins → jr ≡ length j / 3 → CanCopy w₁ JOINS (3 * m) j

@@ -37,8 +37,8 @@ pub fn compose_flat(
         joins_room,
         places_room,
     );
-    cell_copy::copy_cells(work, JOINS, 3 * whole(answer.joins), joins);
-    cell_copy::copy_cells(work, PLACES, PLACE_CELLS * whole(answer.slips), places);
+    tables::copy_cells(work, JOINS, 3 * whole(answer.joins), joins);
+    tables::copy_cells(work, PLACES, PLACE_CELLS * whole(answer.slips), places);
     answer
 }
 

@@ -15,7 +15,7 @@ use lib.Seq.{take-length, length-take-le}
 use Rattle.words.specs.Lists.{over}
 use Rattle.words.proofs.Buffers.{length-over, rest-is, over-mid}
 use Rattle.tables.specs.Tables.{table}
-use Rattle.cell_copy.specs.Copying.{CanCopy}
+use Rattle.tables.specs.Copying.{CanCopy}
 use Rattle.trays.specs.declared.Refusal.{Refusal}
 use Rattle.trays.specs.declared.Written.{Written}
 use Rattle.trays.specs.Limits.{maxSlips, maxLetters}

@@ -91,7 +91,7 @@ fn write_merged(
 {
     let here = bytes::copy(letters1, letters);
     let count = ends1.len();
-    cell_copy::copy_cells(ends1, 0, count, ends);
+    tables::copy_cells(ends1, 0, count, ends);
     let slips = new.slips;
     write_slips(
         letters2,

@@ -25,7 +25,7 @@ use Rattle.greedy.specs.Orders.{weight}
 use Rattle.shortest.specs.Orders.{shortestFor}
 use Rattle.shortest.specs.steps.Choosing.{choose}
 use Rattle.shortest.proofs.Places.{choose-length, choose-all, shortest-places}
-use Rattle.cell_copy.specs.Copying.{CanCopy}
+use Rattle.tables.specs.Copying.{CanCopy}
 use Rattle.shortest_groups.specs.Groups as G
 use Rattle.shortest_groups.specs.Groups.{pairCells, pairsOf, Paired}
 use Rattle.shortest_pairs.specs.Pairs.{PairsAsk, PairsAre}

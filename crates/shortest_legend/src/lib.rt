@@ -50,7 +50,7 @@ fn kept_numbers(work: &[u16], k: usize) -> [u16; 10]
     ensures { λ r. ⌜ S.KeptCopied (now (work .entry)) k r ⌝ }
 {
     let mut kept = [0u16; 10];
-    cell_copy::copy_cells(work, KEPT, k, &mut kept);
+    tables::copy_cells(work, KEPT, k, &mut kept);
     kept
 }
 

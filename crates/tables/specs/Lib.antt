@@ -1,2 +1,3 @@
 -- Tables in a lent work area.
+pub mod Copying
 pub mod Tables

@@ -1,8 +1,10 @@
-// Tables of 16-bit cells at offsets of one lent work area: a cell is read by `at` and written by `put`.
+// Tables of 16-bit cells at offsets of one lent work area: a cell is read by `at` and written by `put`, a table is cleared, or copied into a list.
 ghost use mathlib.Core.Path.{_≡_};
 ghost use Prim.Native.Nat.{_+_, _<_, _≤_};
 ghost use lib.ListN.{length, replicate};
-ghost use Rattle.tables.specs.Tables.{Got, Put, Room, Filled};
+ghost use Rattle.words.specs.Lists.{over};
+ghost use Rattle.tables.specs.Copying.{CanCopy};
+ghost use Rattle.tables.specs.Tables.{Got, Put, Room, Filled, table};
 
 // A cell as a number, and a number as a cell.
 pub fn wide(x: u16) -> usize
@@ -56,6 +58,18 @@ pub fn clear(work: &mut [u16], base: usize, n: usize)
     let mut i = 0;
     while i < n {
         put(work, base, i, 0);
+        i += 1;
+    }
+}
+
+// Copies the first `n` cells of the table at `base` over the first part of `out`.
+pub fn copy_cells(work: &[u16], base: usize, n: usize, out: &mut [u16])
+    requires { ⌜ CanCopy (now work) base n (now out) ⌝ }
+    ensures { λ _. ⌜ now (out .exit) ≡ over (table (now (work .entry)) base n) (now (out .entry)) ⌝ }
+{
+    let mut i: usize = 0;
+    while i < n {
+        out[i] = work[base + i];
         i += 1;
     }
 }

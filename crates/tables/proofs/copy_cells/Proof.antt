@@ -3,11 +3,11 @@ use mathlib.Core.Path.{_≡_}
 use Prim.Native.Nat.{_-_, _≤_}
 use lib.ListN.{length}
 use Rattle.words.specs.Lists.{over}
 use Rattle.tables.specs.Tables.{table}
-use Rattle.cell_copy.proofs.CopyLoop.{cells-none, cells-more, cells-all}
+use Rattle.tables.proofs.CopyLoop.{cells-none, cells-more, cells-all}
 use borrow.Author.Needs.{needs}
-use Rattle.cell_copy.proofs.copy_cells.Statement.{statement}
-use Rattle.cell_copy.proofs.copy_cells.Tie as tie
+use Rattle.tables.proofs.copy_cells.Statement.{statement}
+use Rattle.tables.proofs.copy_cells.Tie as tie
 
 abbrev Inv-loop : tie.InvT-loop
 Inv-loop work base n out₀ i₀ out i = (i ≤ n) × (out ≡ over (table work base i) out₀) × (length out ≡ length out₀)

@@ -6,9 +6,9 @@ use native.Mathlib.Omega.{arith}
 use lib.ListN.{getD, set}
 use Rattle.words.specs.Lists.{over}
 use Rattle.words.proofs.Buffers.{over-set}
 use Rattle.tables.specs.Tables.{table}
 use Rattle.tables.proofs.Tables.{table-length, table-more}
-use Rattle.cell_copy.specs.Copying.{CanCopy}
+use Rattle.tables.specs.Copying.{CanCopy}
 
 pub cells-more : (w old out : List ℕ) (base i n : ℕ) → CanCopy w base n old → i < n → out ≡ over (table w base i) old →
     set out i (getD w (base + i) 0) ≡ over (table w base (i + 1)) old

@@ -1,2 +1,0 @@
--- The loop that copies cells.
-pub mod CopyLoop

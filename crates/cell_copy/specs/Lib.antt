@@ -1,2 +1,0 @@
--- Copying cells of the work area.
-pub mod Copying
