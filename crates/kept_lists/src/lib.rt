@@ -19,7 +19,7 @@ fn add_starts(
     ensures { λ _. ⌜ O.ListedTo O.beginnings (now (letters .entry)) (now (ends .entry)) n k count (now (work .entry)) j (now (work .exit)) ⌝ }
 {
     let i = tables::at(work, layout::KEPT, j);
-    let span = slip_span::slip_span(ends, i);
+    let span = slips::slip_span(ends, i);
     let end = span.end;
     let mut p = span.start;
     while p < end {
@@ -57,7 +57,7 @@ fn add_ends(
     ensures { λ _. ⌜ O.ListedTo O.endings (now (letters .entry)) (now (ends .entry)) n k count (now (work .entry)) j (now (work .exit)) ⌝ }
 {
     let i = tables::at(work, layout::KEPT, j);
-    let span = slip_span::slip_span(ends, i);
+    let span = slips::slip_span(ends, i);
     let start = span.start;
     let end = span.end;
     let last = end - 1;

@@ -23,7 +23,7 @@ fn kept_letters(letters: &[u8], ends: &[u16], kept: &[u16], k: usize) -> usize
     let mut i: usize = 0;
     while i < k {
         let slip = tables::wide(kept[i]);
-        let part = slip_span::slip_part(letters, ends, slip);
+        let part = slips::slip_part(letters, ends, slip);
         sum += part.len();
         i += 1;
     }

@@ -17,7 +17,7 @@ fn lay_piece(letters: &[u8], ends: &[u16], pieces: &[u16], k: usize, legend: &mu
 {
     let slip = wide(pieces[2 * k]);
     let shared = wide(pieces[2 * k + 1]);
-    let part = slip_span::slip_part(letters, ends, slip);
+    let part = slips::slip_part(letters, ends, slip);
     bytes::copy(&part[shared..], legend)
 }
 

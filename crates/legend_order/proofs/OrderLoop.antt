@@ -22,7 +22,7 @@ use Rattle.greedy.specs.Orders.{weight, row}
 use Rattle.greedy.proofs.Chains.{last-append}
 use Rattle.greedy.proofs.Letters.{weight-none}
 use Rattle.legend_chains.specs.Pieces.{piecesIn, PiecesBehind}
-use Rattle.slip_overlap.specs.Pairs.{TwoSlips, Overlap}
+use Rattle.slips.specs.Pairs.{TwoSlips, Overlap}
 use Rattle.legend_order.specs.Arranging.{orderPieces, OrderAsks, Arranged}
 use Rattle.legend_order.specs.steps.OneSlip.{priorOf, pieceOf, SlipAsks, Shared, AddAsks, Added}
 

@@ -13,7 +13,7 @@ fn shared_before(letters: &[u8], ends: &[u16], order: &[u16], m: usize, least: u
     }
     let left = wide(order[m - 1]);
     let right = wide(order[m]);
-    slip_overlap::slip_overlap(letters, ends, left, right, least)
+    slips::slip_overlap(letters, ends, left, right, least)
 }
 
 // Writes the piece of the `m`-th slip. Answers how many letters it adds.
@@ -31,7 +31,7 @@ fn add_slip(
     let slip = wide(order[m]);
     let shared = shared_before(letters, ends, order, m, least);
     legend_chains::put_piece(pieces, m, slip, shared);
-    let part = slip_span::slip_part(letters, ends, slip);
+    let part = slips::slip_part(letters, ends, slip);
     part.len() - shared
 }
 

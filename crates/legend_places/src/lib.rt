@@ -77,7 +77,7 @@ fn put_place(
 {
     let slip = wide(pieces[2 * q]);
     let shared = wide(pieces[2 * q + 1]);
-    let part = slip_span::slip_part(letters, ends, slip);
+    let part = slips::slip_part(letters, ends, slip);
     put_three(places, PLACE_CELLS * (slip - 1), here - shared, 1, 0);
     here + (part.len() - shared)
 }
@@ -106,7 +106,7 @@ fn aside_place(letters: &[u8], ends: &[u16], legend: &[u8], i: usize, places: &m
     if mark != 0 {
         return;
     }
-    let part = slip_span::slip_part(letters, ends, i + 1);
+    let part = slips::slip_part(letters, ends, i + 1);
     let trial = lowest_place(part, legend);
     put_three(places, PLACE_CELLS * i, trial.place, 0, trial.compared);
 }

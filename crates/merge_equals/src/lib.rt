@@ -5,7 +5,7 @@ ghost use Rattle.words.specs.Lists.{any};
 ghost use Rattle.words.specs.Words as W;
 ghost use Rattle.trays.specs.Slips.{slipsOf};
 ghost use Rattle.merge_equals.specs.Equals.{FirstSlips, SecondSlip, isNew, BothTrays, NewSlips};
-use slip_span::slip_part;
+use slips::slip_part;
 
 // The slips of a second tray that equal none before them: how many, the letters that they have together, and their numbers, 0 past the count.
 pub struct Fresh {

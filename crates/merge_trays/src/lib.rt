@@ -68,7 +68,7 @@ fn write_slips(
     let mut i: usize = 0;
     while i < slips.len() {
         let slip = wide(slips[i]);
-        let part = slip_span::slip_part(letters, ends, slip);
+        let part = slips::slip_part(letters, ends, slip);
         at += bytes::copy(part, &mut into[at..]);
         bounds[i] = narrow(here + at);
         i += 1;

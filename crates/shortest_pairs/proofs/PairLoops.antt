@@ -14,7 +14,7 @@ use Rattle.tables.specs.Tables.{Room, Put, Filled}
 use Rattle.tables.proofs.Tables.{put-here, put-other, filled-at, replicate-at}
 use Rattle.trays.specs.Limits.{maxShortest}
 use Rattle.shortest_groups.specs.Groups.{pairCells}
-use Rattle.slip_overlap.specs.Pairs.{TwoSlips, Overlap}
+use Rattle.slips.specs.Pairs.{TwoSlips, Overlap}
 use Rattle.shortest_pairs.specs.Pairs.{PairsAsk, PairsAre}
 use Rattle.shortest_pairs.specs.steps.Pairing.{PairedTo, RowAsks}
 

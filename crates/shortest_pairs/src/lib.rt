@@ -26,7 +26,7 @@ fn fill_row(
     let mut b: usize = 0;
     while b < k {
         let right = wide(kept[b]);
-        let shared = slip_overlap::slip_overlap(letters, ends, left, right, least);
+        let shared = slips::slip_overlap(letters, ends, left, right, least);
         tables::put(table, 0, MAX_SHORTEST * a + b, shared);
         b += 1;
     }

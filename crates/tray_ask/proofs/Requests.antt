@@ -20,8 +20,8 @@ use Rattle.trays.specs.Answers.{stretchOf, stretchStart, stretchEnd, Stretch, l
 use Rattle.trays.proofs.Rows.{or-zero, or-some, both-silent, by-number, rows-append}
 use Rattle.trays.proofs.Accepted.{row-silent, range-silent, accepted-tells}
 use Rattle.trays.proofs.SetTrays.{set-tells}
-use Rattle.slip_span.proofs.Stretches.{part-rises, part-fits, part-is}
-use Rattle.slip_overlap.specs.Pairs.{TwoSlips, Overlap}
+use Rattle.slips.proofs.Stretches.{part-rises, part-fits, part-is}
+use Rattle.slips.specs.Pairs.{TwoSlips, Overlap}
 
 pub request-zero : (es : List ℕ) (i : ℕ) (r : Refusal) → r ≡ refusal 10 i → i ≡ 0 → r ≡ slipRow es i
 request-zero es i r q e = q ∙ rw (eq-eqb i 0 e)

@@ -3,7 +3,7 @@ ghost use mathlib.Core.Path.{_≡_};
 ghost use Prim.Native.Nat.{_<_};
 ghost use Rattle.trays.specs.Faults as F;
 ghost use Rattle.trays.specs.Answers.{Stretch, locatedOf, pairOf};
-use slip_span::slip_span;
+use slips::slip_span;
 use tray_check::check_set_tray;
 use tray_check::check_tray;
 use trays::Located;
@@ -114,13 +114,7 @@ pub fn pair_overlap(letters: &[u8], ends: &[u16], left: u32, right: u32, least: 
             letters: 0,
         };
     }
-    let shared = slip_overlap::slip_overlap(
-        letters,
-        ends,
-        left as usize,
-        right as usize,
-        least as usize,
-    );
+    let shared = slips::slip_overlap(letters, ends, left as usize, right as usize, least as usize);
     Pair {
         number: fault.number,
         detail: fault.detail,

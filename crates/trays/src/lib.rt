@@ -1,4 +1,4 @@
-// Trays: limits, settings, the overlap strings of stops alone, and what calls on a tray answer. The calls stand in tray_check, slip_span and tray_ask.
+// Trays: limits, settings, the overlap strings of stops alone, and what calls on a tray answer. The calls stand in tray_check, slips and tray_ask.
 ghost use mathlib.Core.Path.{_≡_};
 ghost use Rattle.trays.specs.Aside.{notStops};
 ghost use Rattle.trays.specs.Faults.{refusal};

@@ -19,7 +19,7 @@ pub fn node_of(
     ensures { λ r. ⌜ IsNode (patternsIn (now (letters .entry)) (now (ends .entry)) n (now (work .entry))) r
         (slip (slipsOf (now (letters .entry)) (now (ends .entry))) i) ⌝ }
 {
-    let span = slip_span::slip_span(ends, i);
+    let span = slips::slip_span(ends, i);
     let end = span.end;
     tables::at(work, layout::AT, end - 1)
 }

@@ -36,7 +36,7 @@ fn number_level(
     let mut r = 0;
     while r < n {
         let slip = tables::at(work, layout::ORDER, r);
-        let span = slip_span::slip_span(ends, slip);
+        let span = slips::slip_span(ends, slip);
         let place = span.start + c;
         if place < span.end {
             k = number_letter(work, c, r, place, k);

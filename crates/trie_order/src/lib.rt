@@ -77,7 +77,7 @@ fn member_below(letters: &[u8], ends: &[u16], member: usize, typed: &[u8], bound
     ensures { λ r. ⌜ r ≡ O.below bound (now (typed .entry)) (slip (slipsOf (now (letters .entry)) (now (ends .entry))) member) member ⌝ }
 {
     below(
-        slip_span::slip_part(letters, ends, member),
+        slips::slip_part(letters, ends, member),
         member,
         typed,
         bound,
@@ -124,7 +124,7 @@ fn insert_first(letters: &[u8], ends: &[u16], cells: &mut [u16])
     ensures { λ _. ⌜ now (cells .exit) ≡ insertFirst (O.precedes (slipsOf (now (letters .entry)) (now (ends .entry)))) (now (cells .entry)) ⌝ }
 {
     let member = tables::wide(cells[0]);
-    let typed = slip_span::slip_part(letters, ends, member);
+    let typed = slips::slip_part(letters, ends, member);
     let k = rank(letters, ends, &cells[1..], typed, Bound::Number(member));
     lay_behind(cells, k);
 }
@@ -159,8 +159,8 @@ fn common_at(letters: &[u8], ends: &[u16], order: &[u16], i: usize) -> usize
     if i == 0 {
         return 0;
     }
-    let before = slip_span::slip_part(letters, ends, tables::wide(order[i - 1]));
-    let here = slip_span::slip_part(letters, ends, tables::wide(order[i]));
+    let before = slips::slip_part(letters, ends, tables::wide(order[i - 1]));
+    let here = slips::slip_part(letters, ends, tables::wide(order[i]));
     words::common(before, here)
 }
 

@@ -46,7 +46,7 @@ pub fn next_starter(work: &[u16], ends: &[u16], d: usize, r: usize) -> usize
     requires { ⌜ R.Real (now ends) d r ⌝ }
     ensures { λ next. ⌜ next ≡ R.nextStarter (now (work .entry)) (now (ends .entry)) d r ⌝ }
 {
-    let span = slip_span::slip_span(ends, r);
+    let span = slips::slip_span(ends, r);
     let start = span.start;
     tables::at(work, layout::STARTS_NEXT, start + d - 1)
 }
@@ -57,7 +57,7 @@ fn next_ender(work: &[u16], ends: &[u16], d: usize, l: usize) -> usize
     requires { ⌜ R.Real (now ends) d l ⌝ }
     ensures { λ next. ⌜ next ≡ R.nextEnder (now (work .entry)) (now (ends .entry)) d l ⌝ }
 {
-    let span = slip_span::slip_span(ends, l);
+    let span = slips::slip_span(ends, l);
     let end = span.end;
     tables::at(work, layout::ENDS_NEXT, end - d)
 }

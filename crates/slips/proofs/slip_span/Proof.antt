@@ -1,7 +1,7 @@
-use Rattle.slip_span.proofs.Stretches.{span-first, span-later}
+use Rattle.slips.proofs.Stretches.{span-first, span-later}
 use borrow.Author.Needs.{needs}
-use Rattle.slip_span.proofs.slip_span.Statement.{statement}
-use Rattle.slip_span.proofs.slip_span.Tie as tie
+use Rattle.slips.proofs.slip_span.Statement.{statement}
+use Rattle.slips.proofs.slip_span.Tie as tie
 
 returns : tie.Need-returns
 returns c = search span-first

@@ -1,7 +1,7 @@
-use Rattle.slip_overlap.proofs.Counted.{two-slips}
+use Rattle.slips.proofs.Counted.{two-slips}
 use borrow.Author.Needs.{needs}
-use Rattle.slip_overlap.proofs.slip_overlap.Statement.{statement}
-use Rattle.slip_overlap.proofs.slip_overlap.Tie as tie
+use Rattle.slips.proofs.slip_overlap.Statement.{statement}
+use Rattle.slips.proofs.slip_overlap.Tie as tie
 
 returns : tie.Need-returns
 returns c = search two-slips

@@ -1,7 +1,7 @@
-use Rattle.slip_overlap.proofs.Counted.{overlap-inside, overlap-short, overlap-stops, overlap-counted}
+use Rattle.slips.proofs.Counted.{overlap-inside, overlap-short, overlap-stops, overlap-counted}
 use borrow.Author.Needs.{needs}
-use Rattle.slip_overlap.proofs.counted_overlap.Statement.{statement}
-use Rattle.slip_overlap.proofs.counted_overlap.Tie as tie
+use Rattle.slips.proofs.counted_overlap.Statement.{statement}
+use Rattle.slips.proofs.counted_overlap.Tie as tie
 
 slice-aggregate-counts : tie.Need-slice-aggregate-counts
 slice-aggregate-counts c = search overlap-inside

@@ -1,7 +1,7 @@
-use Rattle.slip_span.proofs.Stretches.{part-rises, part-fits, part-is}
+use Rattle.slips.proofs.Stretches.{part-rises, part-fits, part-is}
 use borrow.Author.Needs.{needs}
-use Rattle.slip_span.proofs.slip_part.Statement.{statement}
-use Rattle.slip_span.proofs.slip_part.Tie as tie
+use Rattle.slips.proofs.slip_part.Statement.{statement}
+use Rattle.slips.proofs.slip_part.Tie as tie
 
 sub-result : tie.Need-sub-result
 sub-result c = search part-rises

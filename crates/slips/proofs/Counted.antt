@@ -13,7 +13,7 @@ use Rattle.trays.specs.Slips.{slipsOf, slip}
 use Rattle.trays.specs.Aside.{notStops, counted}
 use Rattle.trays.proofs.Stops.{counted-long, counted-short}
 use Rattle.trays.proofs.Spans.{accepted-spanned}
-use Rattle.slip_overlap.specs.Pairs.{TwoSlips, Overlap}
+use Rattle.slips.specs.Pairs.{TwoSlips, Overlap}
 
 module _ (m : ℕ) (a b : List ℕ) (n : ℕ) (e : n ≡ overlap a b) where
   pub overlap-inside : n ≡ length (take n b)

@@ -1,2 +1,0 @@
--- The overlap of two slips, whether it counts.
-pub mod Counted

@@ -1,2 +1,0 @@
--- Laws of a slip's stretch.
-pub mod Stretches
