@@ -1,4 +1,4 @@
--- Composing: refusals 7, 8 and 9 behind those of the settings and the tray, the answer, and what each buffer holds afterwards.
+-- Composing: refusals 7, 8 and 9 after those of the settings and the tray, the answer, and what each buffer holds afterwards.
 --   beforeC g s es w      == what turns composing back before place C, with the settings g
 --   roomRows c l j p      == place C: legend room l, room for j joins and p places
 --   composeFault          == what turns composing back
@@ -53,7 +53,7 @@ outcomeOf c =
 abbrev pub refusedBy : Refusal → Composed
 refusedBy f = record { number = f .number; detail = f .detail; slips = 0; kept = 0; letters = 0; saved = 0; legend = 0; joins = 0 }
 
--- the answer where f is what turns the tray back
+-- the answer where f is what refuses the tray
 abbrev pub composedBy : Refusal → Composing → Composed
 composedBy f c = elim (f .number) [ zero ↦ outcomeOf c | suc n ↦ refusedBy f ]
 

@@ -1,5 +1,5 @@
--- Finding the slips of a tray with letters s and ends es in a text t: refusals 12, 13, 7 and 14 behind those of the tray, the answer, and what
--- each buffer holds afterwards. The work area w has so many cells, and the list takes k occurrences.
+-- Finding the slips of a tray with letters s and ends es in a text t: refusals 12, 13, 7 and 14 after those of the tray, the answer, and what
+-- each buffer holds afterwards. The work area has w cells, and the list takes k occurrences.
 --   textRows t            == place B, text: 12 and 13
 --   findRows s es t w     == the rows before place C
 --   findBefore            == what turns finding back before place C
@@ -42,7 +42,7 @@ listRow ss t k = let n = length (occurrences ss t) in row 14 (ltb k n) n
 unfoldable pub findFault : List ℕ → List ℕ → List ℕ → ℕ → ℕ → Refusal
 findFault s es t w k = firstRow (findRows s es t w ++ (listRow (slipsOf s es) t k ∷ []))
 
--- the answer to a tray and a text that are not turned back
+-- the answer to a tray and a text that are not refused
 abbrev pub searchOutcome : List (List ℕ) → List ℕ → Search
 searchOutcome ss t = record { number = 0; detail = 0; moves = moves ss t; count = length (occurrences ss t) }
 

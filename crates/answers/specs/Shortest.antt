@@ -1,6 +1,6 @@
--- The shortest legend: refusals 20 and 8 behind those of the settings, of the tray and 7, the answer, and what each buffer holds afterwards.
+-- The shortest legend: refusals 20 and 8 after those of the settings, of the tray and 7, the answer, and what each buffer holds afterwards.
 --   shortestRows c l         == place C: room for l letters
---   shortestFault g s es w l == what turns the call back, with the settings g, a work area of w cells and room for l letters
+--   shortestFault g s es w l == what refuses the call, with the settings g, a work area of w cells and room for l letters
 --   shortestOf g s es w l    == the answer
 --   ShortestSays             == the promise, for every input: settings g; tray s, es; work area w and legend l before, w′ and l′ after; answer r
 use mathlib.Core.Path.{_≡_}
@@ -41,7 +41,7 @@ shortestOutcome c =
 abbrev pub shortestRefused : Refusal → Shortest
 shortestRefused f = record { number = f .number; detail = f .detail; legend = 0; count = 0; order = replicate maxShortest 0 }
 
--- the answer where f is what turns the call back
+-- the answer where f is what refuses the call
 abbrev pub shortestBy : Refusal → Composing → Shortest
 shortestBy f c = elim (f .number) [ zero ↦ shortestOutcome c | suc n ↦ shortestRefused f ]
 

@@ -1,6 +1,6 @@
 -- The lent work area as a caller sees it.
 --   workRow w        == place B, work area: 7, of w cells
---   WorkKept f w w′  == the work area is untouched where f, what turns the call back before place C, is a refusal; it keeps its length always
+--   WorkKept f w w′  == the work area is untouched where f, what the rows before place C give, is a refusal; it keeps its length always
 use mathlib.Core.Path.{_≡_}
 use mathlib.Core.List.{List}
 use Prim.Native.Nat.{ℕ, _≤_}

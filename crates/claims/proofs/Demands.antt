@@ -1,5 +1,5 @@
 -- The demands on the definitions, proved.
-use Rattle.greedy.proofs.Demand3.{demand-3}
+use Rattle.greedy.proofs.GreedyLegends.{greedy-legends}
 use Rattle.greedy.proofs.FewerJoins.{fewer-joins}
 use Rattle.greedy.proofs.StopFree.{stop-free}
 use Rattle.greedy.proofs.Placed.{all-tried}
@@ -11,7 +11,7 @@ use Rattle.claims.specs.Claims.{Demands}
 pub demands : Demands
 demands =
     record {
-      third = demand-3;
+      greedy = greedy-legends;
       fewer-joins = fewer-joins;
       stop-free = stop-free;
       all-tried = all-tried;

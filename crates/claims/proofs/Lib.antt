@@ -1,3 +1,3 @@
--- The demands and the starred specimens, proved.
+-- The demands and the specimens of the rules, proved.
 pub mod Demands
 pub mod Starred

@@ -1,4 +1,4 @@
--- Every specimen that the rules marks with * holds of the definitions: its tray is accepted, and the answer computed is the one written.
+-- Every specimen of the rules (docs/RULES.md, *Specimens*) holds of the definitions: its tray is accepted, and the answer computed is the one written.
 use mathlib.Core.Path.{_≡_, refl}
 use mathlib.Core.List.{map}
 use Rattle.trays.specs.Faults.{trayFault, pairFault}

@@ -1,5 +1,5 @@
 -- The demands that speak of the definitions alone, for every accepted tray and, where composing is meant, any settings.
-use Rattle.greedy.specs.Claims.{Demand-3, Fewer-joins, Stop-free, All-tried}
+use Rattle.greedy.specs.Claims.{Greedy-legends, Fewer-joins, Stop-free, All-tried}
 use Rattle.matching.specs.Moves.{Few-moves}
 use Rattle.shortest.specs.Claims.{Shortest-legends}
 use Rattle.merge_rule.specs.Claims.{Same-legend, One-or-four}
@@ -7,7 +7,7 @@ use Rattle.merge_rule.specs.Claims.{Same-legend, One-or-four}
 pub record Demands : Type 0 where
   -- one list by both rules; kept letters = saved + legend length; the legend holds every kept slip; at most twice, with a least overlap of 1
   -- and where no kept slip begins with a stop
-  pub third : Demand-3
+  pub greedy : Greedy-legends
   -- a higher least overlap only leaves joins out: those with enough letters are made as before, in the same order
   pub fewer-joins : Fewer-joins
   -- with a least overlap of 1, and where no kept slip begins with a stop, joins, legend, places and letters compared are as if all overlaps counted

@@ -1,3 +1,3 @@
--- What the rules demands of the definitions, and the specimens that it marks for proof.
+-- What is demanded of the definitions, and the specimens of the rules (docs/RULES.md, *Specimens*).
 pub mod Claims
 pub mod Starred

@@ -1,4 +1,4 @@
--- The specimens that the rules marks with *, as one list: a tray, what is asked of it, and the answer that the rules gives.
+-- The specimens of the rules (docs/RULES.md, *Specimens*) as one list: a tray, what is asked of it, and the answer, worked out by hand.
 --   Sheet              == what composing gives: the values of the `compose` sheet, and the joins by both rules
 --   Asked, Told        == a question on a tray, and its answer
 --   answer s es q      == the answer to q from the definitions, for the tray of letters s and ends es

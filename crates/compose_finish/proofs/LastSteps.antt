@@ -25,7 +25,7 @@ use Rattle.greedy.specs.Joins.{Join, rightOf, saved}
 use Rattle.greedy.specs.Composing.{Composing, whole, joinsOf, legendOf, keptLetters}
 use Rattle.greedy.specs.Legends.{pieces, piecesFor}
 use Rattle.greedy.proofs.Relabel.{plain-in}
-use Rattle.greedy.proofs.Demand3.{composed}
+use Rattle.greedy.proofs.GreedyLegends.{composed}
 use Rattle.greedy.proofs.KeptSizes.{TraySlips, traySlips, kept-real, kept-few, kept-small, legend-small, pieces-count}
 use Rattle.legend_chains.specs.Pieces.{piecesIn}
 use Rattle.legend_chains.proofs.NeighbourPieces.{pieces-by}
@@ -93,7 +93,7 @@ module _ (g : Settings) (s es w : List ℕ) (k j : ℕ) (left right overs : List
       let n = a .neighbours in
       let t : j + 1 ≡ suc (length (joinsIn w j)) = omega (arith, count-joins) in
       rw (first-kept, t)
-      (pieces-by (joinsIn w j) left right overs (n .left-is) (n .right-is) (n .over-is) small K
+      (pieces-by (joinsIn w j) left right overs (n .left-is) (n .right-is) (n .overlap-is) small K
       (λ i h. let r = kept-real s es (walked .tray) i h in (r .0, omega (arith, few-ends, r .1)))
       ∙ rw (walked .joins-are))
 
@@ -110,7 +110,7 @@ module _ (g : Settings) (s es w : List ℕ) (k j : ℕ) (left right overs : List
                   table-at w KEPT maxSlips i (omega (arith, walked .few-kept)) in (omega (arith, q .0), omega (arith, q .1, few-ends));
               lefts = n .lefts;
               rights = n .rights;
-              over-all = n .over-all;
+              overlaps = n .overlaps;
               right-small = λ i h. rw (n .right-is i h) (small (suc i));
               cells = rw (length-replicate {A = ℕ} (2 * maxSlips) 0) (omega arith);
               room = rw here-pieces (omega (arith, pieces-count s es (walked .tray) g, kept-few s es (walked .tray)));

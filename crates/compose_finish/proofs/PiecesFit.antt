@@ -17,7 +17,7 @@ use Rattle.trays.specs.Aside.{isAside, counted}
 use Rattle.trays.specs.Faults.{trayFault}
 use Rattle.trays.proofs.Kept.{kept-asc, in-kept, kept-in}
 use Rattle.greedy.specs.Legends.{Piece, added, spelled, piecesFor}
-use Rattle.greedy.proofs.Demand3.{numbers-rise}
+use Rattle.greedy.proofs.GreedyLegends.{numbers-rise}
 use Rattle.greedy.proofs.KeptSizes.{TraySlips, traySlips, joins-rep, kept-real, legend-small}
 use Rattle.greedy.proofs.Letters.{Order, over-most, legend-order, pieces-numbers}
 use Rattle.legend_lay.specs.Laying.{PieceFits}

@@ -19,7 +19,7 @@ struct Checked {
     more: bool,
 }
 
-// Before the first line of a file of so many bytes.
+// Before the first line of a file of this many bytes.
 fn begun(size: usize) -> Checked
     ensures { λ r. ⌜ r ≡ begunAt size ⌝ }
 {

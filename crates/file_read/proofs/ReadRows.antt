@@ -15,7 +15,7 @@ use Rattle.trays.specs.Faults.{refusal}
 use Rattle.trays.proofs.WrittenSlips.{tray-refused, tray-wrote}
 use Rattle.file_rule.specs.Lines.{linesOf}
 use Rattle.file_rule.specs.Faults.{linesFault, readFault}
-use Rattle.file_rule.specs.Answers.{slipsIn, Reading}
+use Rattle.file_rule.specs.Answers.{slipsIn, ReadSays}
 use Rattle.file_read.specs.steps.Copying.{Lent, Copied}
 use Rattle.file_rule.proofs.LineFaults.{or-last, lines-accepted}
 
@@ -41,7 +41,7 @@ module _ (s : List ℕ) (a b : ℕ) where
           (sym (or-last (linesFault 1 (linesOf s)) (lines-accepted 1 (linesOf s))))
 
 module _ (s a b : List ℕ) (f : Refusal) (e : f ≡ readFault s (length a) (length b)) where
-  pub read-refused : (f .number ≡ 0 → ⊥) → Reading s a a b b (record { number = f .number; detail = f .detail; letters = 0; slips = 0 })
+  pub read-refused : (f .number ≡ 0 → ⊥) → ReadSays s a a b b (record { number = f .number; detail = f .detail; letters = 0; slips = 0 })
   read-refused z = rw (← e) (tray-refused f (slipsIn s) z a b)
 
   module _ (z : f .number ≡ 0) where
@@ -69,5 +69,5 @@ module _ (s a b : List ℕ) (f : Refusal) (e : f ≡ readFault s (length a) (len
           ]
         ]
 
-    pub read-copied : (a′ b′ : List ℕ) (r : Written) → Copied s a a′ b b′ r → Reading s a a′ b b′ r
+    pub read-copied : (a′ b′ : List ℕ) (r : Written) → Copied s a a′ b b′ r → ReadSays s a a′ b b′ r
     read-copied a′ b′ r c = rw (← e) (tray-wrote f (slipsIn s) a a′ b b′ r z c)

@@ -1,7 +1,7 @@
 // A tray file is read: it is checked before it is copied, and its letters are folded in the copy.
 ghost use mathlib.Core.Path.{_≡_};
 ghost use Rattle.file_rule.specs.Faults as F;
-ghost use Rattle.file_rule.specs.Answers.{Reading};
+ghost use Rattle.file_rule.specs.Answers.{ReadSays};
 ghost use Rattle.file_read.specs.steps.Copying.{Lent, Copied};
 use file_rule::ENDS_NEED;
 use file_rule::MAX_FILE;
@@ -9,7 +9,7 @@ use trays::Refusal;
 use trays::Written;
 use trays::refuse;
 
-// Place A: refusals 15 to 19 of a file, where so many letters and ends are lent.
+// Place A: refusals 15 to 19 of a file, where this many letters and ends are lent.
 fn check_file(file: &[u8], letters: usize, ends: usize) -> Refusal
     ensures { λ r. ⌜ r ≡ F.readFault (now (file .entry)) letters ends ⌝ }
 {
@@ -54,7 +54,7 @@ fn copy_file(file: &[u8], letters: &mut [u8], ends: &mut [u16]) -> Written
 
 // Reads a tray file into lent letters and ends. Nothing is written before every line is checked.
 pub fn read_tray(file: &[u8], letters: &mut [u8], ends: &mut [u16]) -> Written
-    ensures { λ r. ⌜ Reading (now (file .entry)) (now (letters .entry)) (now (letters .exit)) (now (ends .entry)) (now (ends .exit)) r ⌝ }
+    ensures { λ r. ⌜ ReadSays (now (file .entry)) (now (letters .entry)) (now (letters .exit)) (now (ends .entry)) (now (ends .exit)) r ⌝ }
 {
     let found = check_file(file, letters.len(), ends.len());
     if found.number != 0 {

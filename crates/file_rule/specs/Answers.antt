@@ -1,6 +1,6 @@
 -- What reading a tray file leaves, for every input.
 --   slipsIn s  == the slips of the tray file s: the letters of its lines
---   Reading    == what read_tray promises: lent letters a and ends b before, a′ and b′ after; answer r
+--   ReadSays    == what read_tray promises: lent letters a and ends b before, a′ and b′ after; answer r
 use mathlib.Core.List.{List, map}
 use Prim.Native.Nat.{ℕ}
 use lib.ListN.{length}
@@ -12,5 +12,5 @@ use Rattle.file_rule.specs.Faults.{readFault}
 abbrev pub slipsIn : List ℕ → List (List ℕ)
 slipsIn s = map letters (linesOf s)
 
-abbrev pub Reading : List ℕ → List ℕ → List ℕ → List ℕ → List ℕ → Written → Type 0
-Reading s a a′ b b′ r = TrayWritten (readFault s (length a) (length b)) (slipsIn s) a a′ b b′ r
+abbrev pub ReadSays : List ℕ → List ℕ → List ℕ → List ℕ → List ℕ → Written → Type 0
+ReadSays s a a′ b b′ r = TrayWritten (readFault s (length a) (length b)) (slipsIn s) a a′ b b′ r

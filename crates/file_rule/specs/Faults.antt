@@ -1,7 +1,7 @@
 -- Refusals 15 to 19, the rows of the rules' table that a tray file meets.
---   lineFault k l    == what turns back the line l, which is line k: 17, 18, 19
---   linesFault k ls  == what turns back the first bad one of the lines ls, counted from k
---   readFault s a b  == what turns back the file s, where a letters and b ends are lent: place A
+--   lineFault k l    == what refuses the line l, which is line k: 17, 18, 19
+--   linesFault k ls  == what refuses the first bad one of the lines ls, counted from k
+--   readFault s a b  == what refuses the file s, where a letters and b ends are lent: place A
 use mathlib.Core.Bool.{_||_, not}
 use mathlib.Core.List.{List, [], _∷_}
 use Prim.Native.Nat.{ℕ, suc}

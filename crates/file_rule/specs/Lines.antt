@@ -2,7 +2,7 @@
 --   linesOf s      == the lines of the file s, each with its LF, which the last may lack
 --   firstLine s    == the first of them
 --   isDigit b      == b is a decimal digit
---   number v ds    == 1 + the number that v and the digits ds behind it write; 0 if one of ds is no digit
+--   number v ds    == 1 + the number that v and the digits ds after it write; 0 if one of ds is no digit
 --   field cs       == 1 + the number that the columns cs hold; 0 if they hold none
 --   slipField l    == the slip number of the line l
 --   lengthField l  == its stated length

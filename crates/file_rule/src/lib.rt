@@ -1,4 +1,4 @@
-// Tray files: limits, lines and readers. The functions stand in file_line and file_read.
+// Tray files: limits, and the byte that ends a line. Definitions stand in specs/; functions in file_line, file_check and file_read.
 pub const MAX_FILE: usize = 16384;
 
 pub const ENDS_NEED: usize = 1700;

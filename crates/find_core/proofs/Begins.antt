@@ -27,8 +27,8 @@ use Rattle.find_core.specs.steps.Searching.{Clear, Prepared, turnedBack,
 use Rattle.find_core.proofs.Checks.{silent-short, fault-list, fault-none}
 use Rattle.find_core.proofs.Answering.{answer-found, core-refused}
 
-module _ {s es w w₁ w₂ : List ℕ} {count : ℕ} (b : Built s es w count w₁) (h : HeadsFilled s es (length es) count w₁ w₂) where
-  pub prepared : {w₃ : List ℕ} → OutputsFilled s es (length es) count w₂ w₃ → Prepared s es w count w₃
+module _ {s es w w₁ w₂ : List ℕ} {nodes : ℕ} (b : Built s es w nodes w₁) (h : HeadsFilled s es (length es) nodes w₁ w₂) where
+  pub prepared : {w₃ : List ℕ} → OutputsFilled s es (length es) nodes w₂ w₃ → Prepared s es w nodes w₃
   prepared o =
       let few : length es ≤ maxSlips = b .automaton .branched .numbered .few-members in
       record {
@@ -82,7 +82,7 @@ module _ {s es t w w₁ : List ℕ} {nodes : ℕ} (h : Clear s es t w) (p : Prep
             fits = l;
             enough = record {
               upto = omega (arith, r .found-are);
-              scan = λ n. subst (λ (k : ℕ). Standing s es t (length es) k w₂ (scanIn w₂ 0)) (sym (g .count-is))
+              scan = λ n. subst (λ (k : ℕ). Standing s es t (length es) k w₂ (scanIn w₂ 0)) (sym (g .nodes-are))
                   (subst (λ (x : Scan). Standing s es t (length es) nodes w₂ x) (sym (g .scan-is)) stands);
             };
           }

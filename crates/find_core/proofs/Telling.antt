@@ -25,14 +25,14 @@ use Rattle.answers.specs.declared.Found.{Found}
 use Rattle.answers.specs.Finding.{foundRecord}
 use Rattle.find_core.specs.steps.Searching.{scanAt, Ready, Next, Enough, Left}
 
-module _ {s es t : List ℕ} {n count : ℕ} {w : List ℕ} {x y : Scan} (q : Reached s es t n count w x y) where
+module _ {s es t : List ℕ} {n nodes : ℕ} {w : List ℕ} {x y : Scan} (q : Reached s es t n nodes w x y) where
   pub reached-end : y .read < 4294967296
   reached-end = omega (arith, standing-keeps (q .standing) .read)
 
   pub reached-slip : y .slip < 65536
   reached-slip = standing-keeps (q .standing) .slip
 
-pub passed-keeps : {s es t : List ℕ} {n count : ℕ} {w : List ℕ} {y z : Scan} → Passed s es t n count w y z → CanKeep w z
+pub passed-keeps : {s es t : List ℕ} {n nodes : ℕ} {w : List ℕ} {y z : Scan} → Passed s es t n nodes w y z → CanKeep w z
 passed-keeps p = standing-keeps (p .standing)
 
 module _ {s es t w : List ℕ} {i : ℕ} (R : Ready s es t i w) where

@@ -19,7 +19,7 @@ pub struct Begun {
     pub count: usize,
 }
 
-// Refusals 1 to 6, 12, 13 and 7, where so many cells are lent: all rows before place C.
+// Refusals 1 to 6, 12, 13 and 7, where this many cells are lent: all rows before place C.
 fn check_find(letters: &[u8], ends: &[u16], text: &[u8], cells: usize) -> Refusal
     ensures { λ r. ⌜ r ≡ F.findBefore (now (letters .entry)) (now (ends .entry)) (now (text .entry)) cells ⌝ }
 {
@@ -46,10 +46,10 @@ fn prepare(letters: &[u8], ends: &[u16], work: &mut [u16]) -> usize
     ensures { λ r. ⌜ T.Prepared (now (letters .entry)) (now (ends .entry)) (now (work .entry)) r (now (work .exit)) ⌝ }
 {
     let n = ends.len();
-    let count = trie_build::build(letters, ends, work);
-    trie_heads::fill_heads(letters, ends, work, n, count);
-    trie_outputs::fill_outputs(letters, ends, work, n, count);
-    count
+    let nodes = trie_build::build(letters, ends, work);
+    trie_heads::fill_heads(letters, ends, work, n, nodes);
+    trie_outputs::fill_outputs(letters, ends, work, n, nodes);
+    nodes
 }
 
 // The answer to a call that is turned back: nothing is stored.

@@ -65,7 +65,7 @@ fn scan_flat(
     }
 }
 
-// The same into a lent list of numbers, two for each occurrence: end place, slip.
+// Finds every slip in a text: occurrences go into a lent list of numbers, two for each, end place and slip.
 pub fn find_flat(
     letters: &[u8],
     ends: &[u16],

@@ -1,12 +1,11 @@
--- Computed specimens of the definitions on composing. The outcomes are worked out by hand from the rules' sentences and computed here
--- from the definitions. Modules are checked in the order of their names: an edited definition is refused here first.
+-- Computed specimens of the definitions on composing, besides those of docs/RULES.md, *Specimens*, which stand in claims. The outcomes are worked
+-- out by hand from the rules' sentences and computed here from the definitions. Modules are checked in the order of their names: an edited definition is refused here first.
 --   Outcome        == all that the definitions say of one tray
 --   outcomeOf g ss == the outcome of the slips ss with the settings g
---   Specimen       == a tray, written as words, and the outcome that the rules gives
---   starred        == the trays that the rules marks for proof
+--   Specimen       == a tray, written as words, and its outcome by the rules
 --   telling        == trays at which a misread rule has another outcome
 --   compared       == trays, and the letters compared for each slip; texts, and those compared to find a word in them
---   tight          == a tray and a text that holds it, at which the bound of demand 3 is met with equality
+--   tight          == a tray and a text that holds it, at which the bound on savings is met with equality
 --   set            == trays with settings at which a misread rule has another outcome
 --   least-needed   == a tray and a text at which the bound fails, since the least overlap is 2
 --   stops-needed   == a tray and a text at which the bound fails, since a slip begins with a stop
@@ -58,33 +57,6 @@ specimen ws K js t ps n m =
       outcome = record { kept-slips = K; by-plain-rule = js; by-walk = js; legend = word t; places = ps; saving = n; letters = m };
     }
 
-pub starred : List Specimen
-starred =
-    specimen [] [] [] "" [] 0 0
-    ∷ specimen ("AVG" ∷ []) (1 ∷ []) [] "AVG" (1 ∷ []) 0 3
-    ∷ specimen ("AVG" ∷ "AVG" ∷ []) (1 ∷ []) [] "AVG" (1 ∷ 1 ∷ []) 0 3
-    ∷ specimen ("AVG" ∷ "CAESAVG" ∷ []) (2 ∷ []) [] "CAESAVG" (5 ∷ 1 ∷ []) 0 7
-    ∷ specimen ("ANNA" ∷ []) (1 ∷ []) [] "ANNA" (1 ∷ []) 0 4
-    ∷ specimen ("AB" ∷ "BA" ∷ []) (1 ∷ 2 ∷ []) (join 2 1 1 ∷ []) "BAB" (2 ∷ 1 ∷ []) 1 4
-    ∷ specimen ("CD" ∷ "AB" ∷ []) (1 ∷ 2 ∷ []) [] "CDAB" (1 ∷ 3 ∷ []) 0 4
-    ∷ specimen
-    ("AKI" ∷ "ELE" ∷ "KIKI" ∷ "KIRA" ∷ "LEA" ∷ [])
-    (1 ∷ 2 ∷ 3 ∷ 4 ∷ 5 ∷ [])
-    (join 1 3 2 ∷ join 3 4 2 ∷ join 2 5 2 ∷ join 5 1 1 ∷ [])
-    "ELEAKIKIRA"
-    (4 ∷ 1 ∷ 5 ∷ 7 ∷ 2 ∷ [])
-    7
-    17
-    ∷ specimen
-    ("IMPCAES" ∷ "AES" ∷ "CAESAVG" ∷ "VGPIVS" ∷ "SIMP" ∷ [])
-    (1 ∷ 3 ∷ 4 ∷ 5 ∷ [])
-    (join 1 3 4 ∷ join 5 1 3 ∷ join 3 4 2 ∷ [])
-    "SIMPCAESAVGPIVS"
-    (2 ∷ 6 ∷ 5 ∷ 10 ∷ 1 ∷ [])
-    9
-    24
-    ∷ []
-
 pub telling : List Specimen
 telling =
     -- a slip that has a right neighbour waits no more
@@ -123,15 +95,11 @@ telling =
 abbrev pub computed : Settings → Specimen → Outcome
 computed g s = outcomeOf g (map word (s .tray))
 
-pub starred-computed : map (computed usual) starred ≡ map (λ s. s .outcome) starred
-unfolding starred
-starred-computed = refl
-
 pub telling-computed : map (computed usual) telling ≡ map (λ s. s .outcome) telling
 unfolding telling
 telling-computed = refl
 
--- each behind its least overlap
+-- each after its least overlap
 pub set : List (ℕ × Specimen)
 set =
     (2, specimen ("AB" ∷ "BC" ∷ []) (1 ∷ 2 ∷ []) [] "ABBC" (1 ∷ 3 ∷ []) 0 4)

@@ -23,7 +23,7 @@ use Rattle.greedy.specs.Joins.{plainFor}
 use Rattle.greedy.specs.Legends.{piecesFor}
 use Rattle.greedy.specs.Orders.{weight}
 use Rattle.greedy.specs.Composing.{whole, legendOf}
-use Rattle.greedy.proofs.Demand3.{numbers-rise, numbers-positive}
+use Rattle.greedy.proofs.GreedyLegends.{numbers-rise, numbers-positive}
 use Rattle.greedy.proofs.Chains.{Chain, Rep}
 use Rattle.greedy.proofs.Bound.{kept-rep}
 use Rattle.greedy.proofs.Letters.{pieces-numbers, saving-of}

@@ -1,10 +1,10 @@
 -- The letters of pieces laid in an order, and of the pieces of joins.
 --   Over x o y         == y lies over x with overlap o: x and the letters of y beyond o end with y, o letters before the end of x
 --   Order ss x ps      == each piece of ps lies over the slip before it, the first over x
---   rowOf w p xs       == the pieces of the slips xs behind slip p, and p itself before them, laid with overlap 0
+--   laidFrom w p xs    == slip p, laid with overlap 0, and the pieces of the slips xs laid after it
 -- Letters that end with x end with y after y was laid over x; so each slip of an order stands where placeIn says, and adds its length
 -- without its overlap. The pieces of joins are an order, since a join's overlap is that of its two slips and a chain starts with overlap
--- 0. Where chains represent the joins, the pieces are the chains' rows: their numbers are those of K, their overlaps those of the joins.
+-- 0. Where chains represent the joins, the pieces are the chains', one after another: their numbers are those of K, their overlaps those of the joins.
 use mathlib.Core.Path.{_≡_, refl, sym, ap, _∙_}
 use mathlib.Core.Bool.{Bool, true}
 use mathlib.Core.List.{List, [], _∷_, _++_, append-assoc, append-nil, map}
@@ -24,7 +24,7 @@ use Rattle.words.proofs.Sums.{sum, All, is, held, held-first, sum-append}
 use Rattle.trays.specs.Slips.{slip, total}
 use Rattle.greedy.specs.Joins.{Join, rightOf, leftOf, saved}
 use Rattle.greedy.specs.Legends.{Piece, piece, overlapAfter, chainFrom, chainAt, pieces, added, spelled, placeIn}
-use Rattle.greedy.specs.Orders.{weight, row, along}
+use Rattle.greedy.specs.Orders.{weight, laidAfter, along}
 use Rattle.greedy.specs.Claims.{holdsAll}
 use Rattle.greedy.proofs.Chains.{Chain, wholeChain, Tail, Run, Arc, Rep}
 
@@ -113,44 +113,44 @@ module _ (ss : List (List ℕ)) where
   holds-all [] t h = refl
   holds-all (i ∷ K) t h = and-intro _ _ (h i (held-first i i K refl)) (holds-all K t λ k n. h k (omega arith))
 
-abbrev pub rowOf : (ℕ → ℕ → ℕ) → ℕ → List ℕ → List Piece
-rowOf w p xs = piece p 0 ∷ row w p xs
+abbrev pub laidFrom : (ℕ → ℕ → ℕ) → ℕ → List ℕ → List Piece
+laidFrom w p xs = piece p 0 ∷ laidAfter w p xs
 
-pub row-numbers : (w : ℕ → ℕ → ℕ) (g : ℕ → ℕ) (p : ℕ) (xs : List ℕ) → sum (λ q. g (q .number)) (rowOf w p xs) ≡ sum g (p ∷ xs)
-row-numbers w g p [] = refl
-row-numbers w g p (x ∷ xs) = ap (λ n. g p + n) (row-numbers w g x xs)
+pub laid-numbers : (w : ℕ → ℕ → ℕ) (g : ℕ → ℕ) (p : ℕ) (xs : List ℕ) → sum (λ q. g (q .number)) (laidFrom w p xs) ≡ sum g (p ∷ xs)
+laid-numbers w g p [] = refl
+laid-numbers w g p (x ∷ xs) = ap (λ n. g p + n) (laid-numbers w g x xs)
 
-pub row-overlaps : (w : ℕ → ℕ → ℕ) (p : ℕ) (xs : List ℕ) → sum (λ q. q .overlap) (rowOf w p xs) ≡ along w p xs
-row-overlaps w p [] = refl
-row-overlaps w p (x ∷ xs) = omega (arith, row-overlaps w x xs)
+pub laid-overlaps : (w : ℕ → ℕ → ℕ) (p : ℕ) (xs : List ℕ) → sum (λ q. q .overlap) (laidFrom w p xs) ≡ along w p xs
+laid-overlaps w p [] = refl
+laid-overlaps w p (x ∷ xs) = omega (arith, laid-overlaps w x xs)
 
 module _ (counts : List ℕ → Bool) (ss : List (List ℕ)) where
   -- no slip has the number 0, so nothing is shared with it
   pub weight-none : (k : ℕ) → weight counts ss 0 k ≡ 0
   weight-none k = omega (arith, overlapFor-at-most counts [] (slip ss k), overlap-at-most [] (slip ss k))
 
-  pub row-behind : (p : ℕ) (xs : List ℕ) → Order ss (slip ss p) (row (weight counts ss) p xs)
-  row-behind p [] = tt
-  row-behind p (x ∷ xs) = (over-overlap counts (slip ss p) (slip ss x), row-behind x xs)
+  pub laid-after : (p : ℕ) (xs : List ℕ) → Order ss (slip ss p) (laidAfter (weight counts ss) p xs)
+  laid-after p [] = tt
+  laid-after p (x ∷ xs) = (over-overlap counts (slip ss p) (slip ss x), laid-after x xs)
 
-  pub row-order : (p : ℕ) (xs x : List ℕ) → Order ss x (rowOf (weight counts ss) p xs)
-  row-order p xs x = (over-none x (slip ss p), row-behind p xs)
+  pub laid-from : (p : ℕ) (xs x : List ℕ) → Order ss x (laidFrom (weight counts ss) p xs)
+  laid-from p xs x = (over-none x (slip ss p), laid-after p xs)
 
-  pub row-holds :
-      (i p : ℕ) (xs : List ℕ) → 1 ≤ held i (p ∷ xs) → standsIn (slip ss i) (spelled ss (rowOf (weight counts ss) p xs)) ≡ true
-  row-holds i p xs h =
-      order-holds ss i (rowOf (weight counts ss) p xs) (row-order p xs []) (omega (arith, row-numbers (weight counts ss) (is i) p xs))
+  pub laid-holds :
+      (i p : ℕ) (xs : List ℕ) → 1 ≤ held i (p ∷ xs) → standsIn (slip ss i) (spelled ss (laidFrom (weight counts ss) p xs)) ≡ true
+  laid-holds i p xs h =
+      order-holds ss i (laidFrom (weight counts ss) p xs) (laid-from p xs []) (omega (arith, laid-numbers (weight counts ss) (is i) p xs))
 
-  pub row-saving :
-      (p : ℕ) (xs : List ℕ) → total ss (p ∷ xs) ≡ along (weight counts ss) p xs + length (spelled ss (rowOf (weight counts ss) p xs))
-  row-saving p xs =
+  pub laid-saving :
+      (p : ℕ) (xs : List ℕ) → total ss (p ∷ xs) ≡ along (weight counts ss) p xs + length (spelled ss (laidFrom (weight counts ss) p xs))
+  laid-saving p xs =
       let w = weight counts ss in
       omega (
         arith,
         total-sum ss (p ∷ xs),
-        row-numbers w (λ i. length (slip ss i)) p xs,
-        row-overlaps w p xs,
-        order-saving ss (rowOf w p xs) [] (row-order p xs []),
+        laid-numbers w (λ i. length (slip ss i)) p xs,
+        laid-overlaps w p xs,
+        order-saving ss (laidFrom w p xs) [] (laid-from p xs []),
       )
 
 -- the overlap with the right neighbour, if there is one
@@ -208,7 +208,7 @@ rest-none js i n = rw (ne-eqb (leftOf i js) 0 (λ e. omega arith), chainAt)
 
 module _ (w : ℕ → ℕ → ℕ) (K : List ℕ) (js : List Join) (arcs : All (Arc w K) js) where
   chain-run :
-      (n p : ℕ) (xs : List ℕ) (o : ℕ) → 1 ≤ p → Tail js p xs → length xs ≤ n → chainFrom (suc n) js p o ≡ piece p o ∷ row w p xs
+      (n p : ℕ) (xs : List ℕ) (o : ℕ) → 1 ≤ p → Tail js p xs → length xs ≤ n → chainFrom (suc n) js p o ≡ piece p o ∷ laidAfter w p xs
   chain-run n p [] o h t k = rw (chain-cons js n p o h, t, chain-none js n (overlapAfter p js))
   chain-run zero p (x ∷ xs) o h t k = absurd (omega arith)
   chain-run (suc n) p (x ∷ xs) o h (r, l, m, t) k =
@@ -217,7 +217,7 @@ module _ (w : ℕ → ℕ → ℕ) (K : List ℕ) (js : List Join) (arcs : All (
         | inr e ↦ absurd (omega arith)
       ]
 
-  chain-first : (C : Chain) → Run js C → length (C .rest) ≤ length js → chainAt js (C .first) ≡ rowOf w (C .first) (C .rest)
+  chain-first : (C : Chain) → Run js C → length (C .rest) ≤ length js → chainAt js (C .first) ≡ laidFrom w (C .first) (C .rest)
   chain-first C (l, m, t) k = rw (eq-eqb (leftOf (C .first) js) 0 l, chainAt) (chain-run (length js) (C .first) (C .rest) 0 m t k)
 
   module _ (f : Piece → ℕ) where
@@ -231,21 +231,21 @@ module _ (w : ℕ → ℕ → ℕ) (K : List ℕ) (js : List Join) (arcs : All (
 
     laid-chains :
         (Cs : List Chain) → All (Run js) Cs → sum (λ C. length (C .rest)) Cs ≤ length js
-        → sum (λ C. sum laid (wholeChain C)) Cs ≡ sum (λ C. sum f (rowOf w (C .first) (C .rest))) Cs
+        → sum (λ C. sum laid (wholeChain C)) Cs ≡ sum (λ C. sum f (laidFrom w (C .first) (C .rest))) Cs
     laid-chains [] r n = refl
     laid-chains (C ∷ Cs) (r, rs) n =
         rw (chain-first C r (omega arith), laid-rest (C .first) (C .rest) (r .2)) (omega (arith, laid-chains Cs rs (omega arith)))
 
     -- a sum over the pieces, chain by chain
-    pieces-sum : (Cs : List Chain) → Rep w K js Cs → sum f (pieces js K) ≡ sum (λ C. sum f (rowOf w (C .first) (C .rest))) Cs
+    pieces-sum : (Cs : List Chain) → Rep w K js Cs → sum f (pieces js K) ≡ sum (λ C. sum f (laidFrom w (C .first) (C .rest))) Cs
     pieces-sum Cs R = sum-each f (chainAt js) K ∙ (sym (R .all laid) ∙ laid-chains Cs (R .runs) (omega (arith, R .count)))
 
 module _ {w : ℕ → ℕ → ℕ} {K : List ℕ} {js : List Join} {Cs : List Chain} (R : Rep w K js Cs) where
   pub pieces-numbers : (g : ℕ → ℕ) → sum (λ p. g (p .number)) (pieces js K) ≡ sum g K
-  pieces-numbers g = pieces-sum w K js (R .arcs) (λ p. g (p .number)) Cs R ∙ simp (row-numbers w g) (R .all g)
+  pieces-numbers g = pieces-sum w K js (R .arcs) (λ p. g (p .number)) Cs R ∙ simp (laid-numbers w g) (R .all g)
 
   pub pieces-overlaps : sum (λ p. p .overlap) (pieces js K) ≡ saved js
-  pieces-overlaps = pieces-sum w K js (R .arcs) (λ p. p .overlap) Cs R ∙ simp row-overlaps (R .saved)
+  pieces-overlaps = pieces-sum w K js (R .arcs) (λ p. p .overlap) Cs R ∙ simp laid-overlaps (R .saved)
 
 module _
     (counts : List ℕ → Bool) (ss : List (List ℕ)) {K : List ℕ} {js : List Join} {Cs : List Chain} (R : Rep (weight counts ss) K js Cs)

@@ -16,7 +16,7 @@ pub mod TextOrder
 pub mod Bound
 pub mod StopFree
 pub mod FewerJoins
-pub mod Demand3
+pub mod GreedyLegends
 pub mod Linked
 pub mod Threads
 pub mod KeptSizes

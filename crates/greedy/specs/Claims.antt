@@ -1,9 +1,9 @@
--- Demand 3: what is claimed of every accepted tray with any settings, over the definitions alone.
+-- What is claimed of greedy joining, for every accepted tray with any settings, over the definitions alone.
 --   holdsAll ss K t  == the text t holds every slip of K
 --   stopFree ss K    == no slip of K begins with a stop
 --   bound c t        == the most letters that the kept slips may have if the text t holds them
 --   Greedy c         == what is claimed of all that is composed
---   Demand-3         == so for every accepted tray
+--   Greedy-legends         == so for every accepted tray
 --   Fewer-joins      == a higher least overlap only leaves joins out
 --   AllCount c       == joins, legend, places and letters compared are as if all overlaps counted
 --   Stop-free        == so with a least overlap of 1, where no kept slip begins with a stop
@@ -50,8 +50,8 @@ pub record Greedy (c : Composing) : Type 0 where
       c .least ≡ 1
       → stopFree (c .slips) (keptOf c) ≡ true → (t : List ℕ) → holdsAll (c .slips) (keptOf c) t ≡ true → keptLetters c ≤ bound c t
 
-abbrev pub Demand-3 : Type 0
-Demand-3 = (g : Settings) (s es : List ℕ) → trayFault s es .number ≡ 0 → Greedy (whole g (slipsOf s es))
+abbrev pub Greedy-legends : Type 0
+Greedy-legends = (g : Settings) (s es : List ℕ) → trayFault s es .number ≡ 0 → Greedy (whole g (slipsOf s es))
 
 -- a higher least overlap only leaves joins out: those with enough letters are made as before, in the same order
 abbrev pub Fewer-joins : Type 0

@@ -2,7 +2,7 @@
 --   beginnings counts ss K   == the non-empty beginnings of the slips of K that count
 --   sooner x y               == the walk visits x before y
 --   waiting ss x K js        == the slips that wait at the beginning x
---   behind r ws js           == the waiting slip behind which slip r is joined, 0 for none
+--   behind r ws js           == the waiting slip to whose right slip r is joined, 0 for none
 --   walkFor counts ss K      == the joins of the walk
 use mathlib.Core.Bool.{Bool, cond, _&&_, _||_}
 use mathlib.Core.List.{List, [], _∷_, _++_}
@@ -34,8 +34,8 @@ waiting ss x K js = those (λ i. endsProperly x (slip ss i) && eqb (rightOf i js
 abbrev pub behind : ℕ → List ℕ → List Join → ℕ
 behind r ws js = cond (eqb (headOr 0 ws) (lastOf r js)) (headOr 0 (tailOf ws)) (headOr 0 ws)
 
--- Rules: each kept slip that has this beginning and no left neighbour, in ascending order, is joined behind that one; if there
--- is none, not joined.
+-- Rules: each kept slip that has this beginning and no left neighbour, in ascending order, is joined to the right of that one; if there
+-- is none, it is not joined.
 abbrev pub visitSlip : List (List ℕ) → List ℕ → List ℕ → ℕ → List Join → List Join
 visitSlip ss K x r js =
     let l = behind r (waiting ss x K js) js in
@@ -49,6 +49,7 @@ abbrev pub walkFrom : List (List ℕ) → List ℕ → List (List ℕ) → List 
 walkFrom ss K [] js = js
 walkFrom ss K (x ∷ xs) js = walkFrom ss K xs (visit ss K x K js)
 
--- Rules: visit each different beginning of kept slips that counts: one with a letter other than the full stop.
+-- Rules: visit each different beginning of kept slips that counts: one that has at least as many letters as the least overlap, and a letter other
+-- than the full stop.
 abbrev pub walkFor : (List ℕ → Bool) → List (List ℕ) → List ℕ → List Join
 walkFor counts ss K = walkFrom ss K (inOrder sooner (beginnings counts ss K)) []

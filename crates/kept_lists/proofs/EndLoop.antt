@@ -23,7 +23,7 @@ use Rattle.trays.specs.Slips.{slipsOf, slip, endOf, spanOf}
 use Rattle.trays.specs.declared.Span.{Span}
 use Rattle.tables.specs.Tables.{Got}
 use Rattle.matching.specs.Moves.{beginsSome, longestEnding}
-use Rattle.matching.specs.Nodes.{nodes, string, IsNode, Num}
+use Rattle.matching.specs.Nodes.{nodesOf, string, IsNode, Num}
 use Rattle.matching.proofs.Finds.{endsProperly-fail}
 use Rattle.matching.proofs.Numbered.{fail-shorter}
 use Rattle.matching.proofs.NodeLaws.{node-root, node-some}
@@ -35,8 +35,8 @@ use Rattle.layout.proofs.AreaSlips.{AreaSlips, areaSlips}
 use Rattle.kept_lists.specs.steps.KeptLists.{endings, Listing, ListedTo}
 use Rattle.trie_heads.specs.steps.Heads.{CanPush, Pushed}
 use Rattle.trie_heads.proofs.MemberNodes.{Member, member-node, node-num, node-most}
-use Rattle.kept_lists.proofs.SideLoop.{OneMore, Adding, added}
-use Rattle.kept_lists.proofs.SideLoop.{adding-none, adding-skip, adding-can, adding-more, adding-all}
+use Rattle.kept_lists.proofs.AffixLoop.{OneMore, Adding, added}
+use Rattle.kept_lists.proofs.AffixLoop.{adding-none, adding-skip, adding-can, adding-more, adding-all}
 
 -- proper endings and failures
 proper-ends : (x y : List ℕ) → length x < length y → endsProperly x y ≡ ends x y
@@ -55,19 +55,19 @@ one-shorter d h =
           (λ t. lt-ltb (d - 1) m (omega (arith, ltb-true d m t)));
     }
 
-pub record Falling (s es : List ℕ) (n k count : ℕ) (w₀ : List ℕ) (j i end : ℕ) (w : List ℕ) (u d : ℕ) : Type 0 where
+pub record Falling (s es : List ℕ) (n k nodes : ℕ) (w₀ : List ℕ) (j i end : ℕ) (w : List ℕ) (u d : ℕ) : Type 0 where
   pub last : end ≡ endOf es i
-  pub node : u < length (nodes (patternsIn s es n w₀))
+  pub node : u < length (nodesOf (patternsIn s es n w₀))
   pub short : length (string (patternsIn s es n w₀) u) ≤ d
   pub most : d < length (slip (slipsOf s es) i)
   pub path : (v : ℕ) → Num (patternsIn s es n w₀) v → length (string (patternsIn s es n w₀) v) ≤ d →
       endsProperly (string (patternsIn s es n w₀) v) (slip (slipsOf s es) i) ≡ ends (string (patternsIn s es n w₀) v) (string (patternsIn s es n w₀) u)
   pub adding : Adding endings s es n k w₀ j i w (ltb d)
 
-module _ {s es : List ℕ} {n k count : ℕ} {w₀ : List ℕ} {j i : ℕ} (E : Listing endings s es n k count w₀ (j + 1)) (g : Got w₀ KEPT j i) where
+module _ {s es : List ℕ} {n k nodes : ℕ} {w₀ : List ℕ} {j i : ℕ} (E : Listing endings s es n k nodes w₀ (j + 1)) (g : Got w₀ KEPT j i) where
   open AreaSlips (areaSlips s es n w₀) using (ss, ps)
 
-  abbrev N : Numbered s es n count w₀
+  abbrev N : Numbered s es n nodes w₀
   N = E .staged .automaton .branched .numbered
 
   here : Member s es n w₀ i
@@ -93,7 +93,7 @@ module _ {s es : List ℕ} {n k count : ℕ} {w₀ : List ℕ} {j i : ℕ} (E : 
       pub falling-fail : FAIL + f < length w₀
       falling-fail = omega (arith, node-most N whole, N .few-nodes, N .room)
 
-      pub falling-start : {u : ℕ} → Got w₀ FAIL f u → Falling s es n k count w₀ j i (x .end) w₀ u (x .end - x .start - 1)
+      pub falling-start : {u : ℕ} → Got w₀ FAIL f u → Falling s es n k nodes w₀ j i (x .end) w₀ u (x .end - x .start - 1)
       falling-start {u} b =
           let link : IsNode ps u (longestEnding (tailOf (slip ss i)) ps) =
           rw (b .is, ← whole .is) (E .staged .automaton .fails f (node-num ps whole (here .letters))) in
@@ -116,7 +116,7 @@ module _ {s es : List ℕ} {n k count : ℕ} {w₀ : List ℕ} {j i : ℕ} (E : 
       omega (arith, ap length (m .is), N .level .all _ (node-num ps m (here .letters)))
 
   -- one length
-  module _ {end : ℕ} {w : List ℕ} {u d : ℕ} (F : Falling s es n k count w₀ j i end w u d) where
+  module _ {end : ℕ} {w : List ℕ} {u d : ℕ} (F : Falling s es n k nodes w₀ j i end w u d) where
     pub falling-deep : d ≤ end
     falling-deep = omega (arith, F .most, F .last, here .size)
 
@@ -134,7 +134,7 @@ module _ {s es : List ℕ} {n k count : ℕ} {w₀ : List ℕ} {j i : ℕ} (E : 
         level-is : cell w₀ LEVEL d ≡ a
         level-is = sym (b .is ∙ F .adding .below .cells (LEVEL + d) (omega (arith, F .most, slip-short)))
 
-        pub falling-skip : (d′ : ℕ) → u < a → d′ ≡ d - 1 → Falling s es n k count w₀ j i end w u d′
+        pub falling-skip : (d′ : ℕ) → u < a → d′ ≡ d - 1 → Falling s es n k nodes w₀ j i end w u d′
         falling-skip d′ l e =
             let shorter : length (string ps u) < d =
             elim (decLt (length (string ps u)) d) [
@@ -173,7 +173,7 @@ module _ {s es : List ℕ} {n k count : ℕ} {w₀ : List ℕ} {j i : ℕ} (E : 
             pub falling-next : FAIL + u < length w′
             falling-next = omega (arith, num-most N u num, N .few-nodes, N .room, more .below .same)
 
-            pub falling-more : {u′ : ℕ} (d′ : ℕ) → Got w′ FAIL u u′ → d′ ≡ d - 1 → Falling s es n k count w₀ j i end w′ u′ d′
+            pub falling-more : {u′ : ℕ} (d′ : ℕ) → Got w′ FAIL u u′ → d′ ≡ d - 1 → Falling s es n k nodes w₀ j i end w′ u′ d′
             falling-more {u′} d′ b e =
                 let c : cell w₀ FAIL u ≡ u′ = sym (b .is ∙ more .below .cells (FAIL + u) (omega (arith, num-most N u num, N .few-nodes))) in
                 let link : IsNode ps u′ (longestEnding (tailOf (string ps u)) ps) = rw c at (E .staged .automaton .fails u num) in
@@ -191,7 +191,7 @@ module _ {s es : List ℕ} {n k count : ℕ} {w₀ : List ℕ} {j i : ℕ} (E : 
                   adding = more;
                 })
 
-    pub falling-all : u ≤ 0 → ListedTo endings s es n k count w₀ j w
+    pub falling-all : u ≤ 0 → ListedTo endings s es n k nodes w₀ j w
     falling-all l =
         let z : u ≡ 0 = omega arith in
         adding-all E g (F .adding)

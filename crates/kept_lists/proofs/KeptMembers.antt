@@ -24,7 +24,7 @@ use Rattle.trie_heads.proofs.Threading.{in-drop, drop-here, drop-later}
 use Rattle.trays.proofs.Spans.{accepted-spanned}
 use Rattle.trie_heads.proofs.MemberNodes.{Member, in-member}
 
-module _ {s es : List ℕ} {n k count : ℕ} {w : List ℕ} (S : KeptFound s es n k count w) where
+module _ {s es : List ℕ} {n k nodes : ℕ} {w : List ℕ} (S : KeptFound s es n k nodes w) where
   pub kept-length : length (keptIn w k) ≡ k
   kept-length = table-length w KEPT k (omega (arith, S .few-kept, S .automaton .branched .numbered .room))
 
@@ -54,7 +54,7 @@ module _ {s es : List ℕ} {n k count : ℕ} {w : List ℕ} (S : KeptFound s es 
 pub kept-same : {w w′ : List ℕ} {k : ℕ} → k ≤ 200 → SameBelow STARTS w w′ → keptIn w′ k ≡ keptIn w k
 kept-same {w} {w′} {k} h b = table-same w w′ KEPT k (b .same) (λ i l. b .cells (KEPT + i) (omega arith))
 
-pub staged-kept : {s es : List ℕ} {n k count : ℕ} {w w′ : List ℕ} → SameBelow STARTS w w′ → KeptFound s es n k count w → KeptFound s es n k count w′
+pub staged-kept : {s es : List ℕ} {n k nodes : ℕ} {w w′ : List ℕ} → SameBelow STARTS w w′ → KeptFound s es n k nodes w → KeptFound s es n k nodes w′
 staged-kept {s} {es} {n} b S =
     record {
       automaton = automaton-kept (kept-lower HEAD (omega arith) b) (S .automaton);

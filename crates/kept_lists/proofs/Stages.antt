@@ -15,21 +15,21 @@ use Rattle.layout.specs.Numbered.{patternsIn, SameBelow}
 use Rattle.layout.specs.Staging.{keptIn}
 use Rattle.layout.proofs.Frames.{kept-lower, members-kept}
 use Rattle.kept_slips.specs.steps.Kept.{KeptFound, KeptTold}
-use Rattle.kept_lists.specs.steps.KeptLists.{beginnings, endings, atSide, SideIs, SideFilled, ListsFilled}
+use Rattle.kept_lists.specs.steps.KeptLists.{beginnings, endings, withAffix, AffixListsAre, AffixFilled, ListsFilled}
 use Rattle.layout.proofs.Heads.{threaded-kept, num-most}
 use Rattle.trie_heads.proofs.Keeping.{kept-trans}
 use Rattle.kept_lists.proofs.KeptMembers.{kept-member, kept-same}
 
 -- what is written behind STARTS-NEXT leaves its lists as they are
-starts-kept : {s es : List ℕ} {n k count : ℕ} {w w′ : List ℕ} → KeptFound s es n k count w → SameBelow ENDS w w′ →
-    SideIs beginnings s es n w (keptIn w k) → SideIs beginnings s es n w′ (keptIn w′ k)
-starts-kept {s} {es} {n} {k} {count} {w} {w′} S b I =
+starts-kept : {s es : List ℕ} {n k nodes : ℕ} {w w′ : List ℕ} → KeptFound s es n k nodes w → SameBelow ENDS w w′ →
+    AffixListsAre beginnings s es n w (keptIn w k) → AffixListsAre beginnings s es n w′ (keptIn w′ k)
+starts-kept {s} {es} {n} {k} {nodes} {w} {w′} S b I =
     let N = S .automaton .branched .numbered in
     let ps = patternsIn s es n w in
     rw (members-kept n (omega (arith, N .few-members)) b, kept-same (S .few-kept) (kept-lower STARTS (omega arith) b))
     (λ v m.
     let x = string ps v in
-    threaded-kept b STARTS v STARTS-NEXT (λ r. startOf es r + (length x - 1)) (atSide beginnings (slipsOf s es) x (keptIn w k))
+    threaded-kept b STARTS v STARTS-NEXT (λ r. startOf es r + (length x - 1)) (withAffix beginnings (slipsOf s es) x (keptIn w k))
     (omega (arith, num-most N v m, N .few-nodes))
     (λ r q.
     let (i, t) = in-those (λ r. begins x (slip (slipsOf s es) r)) (keptIn w k) q in
@@ -37,8 +37,8 @@ starts-kept {s} {es} {n} {k} {count} {w} {w′} S b I =
     omega (arith, node-some ps v m .0, begins-length x (slip (slipsOf s es) r) t, o .size, o .fits))
     (I v m))
 
-pub listed : {s es : List ℕ} {n k count : ℕ} {w w₁ w₂ w₃ : List ℕ} → KeptTold s es n count w k w₁ →
-    SideFilled beginnings s es n k count w₁ w₂ → SideFilled endings s es n k count w₂ w₃ → ListsFilled s es n count w k w₃
+pub listed : {s es : List ℕ} {n k nodes : ℕ} {w w₁ w₂ w₃ : List ℕ} → KeptTold s es n nodes w k w₁ →
+    AffixFilled beginnings s es n k nodes w₁ w₂ → AffixFilled endings s es n k nodes w₂ w₃ → ListsFilled s es n nodes w k w₃
 listed {s} {es} {n} {w₃ = w₃} K S E =
     record {
       staged = E .staged;

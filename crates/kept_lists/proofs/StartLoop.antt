@@ -25,7 +25,7 @@ use Rattle.layout.specs.Numbered.{patternsIn, Numbered}
 use Rattle.kept_lists.specs.steps.KeptLists.{beginnings, Listing, ListedTo}
 use Rattle.trie_heads.specs.steps.Heads.{CanPush, Pushed}
 use Rattle.trie_heads.proofs.MemberNodes.{Member, node-num}
-use Rattle.kept_lists.proofs.SideLoop.{OneMore, Adding, added, adding-none, adding-can, adding-more, adding-all}
+use Rattle.kept_lists.proofs.AffixLoop.{OneMore, Adding, added, adding-none, adding-can, adding-more, adding-all}
 
 one-longer : (c : ℕ) → OneMore (suc c) (λ m. leb m c) (λ m. leb m (suc c))
 one-longer c =
@@ -42,14 +42,14 @@ pub record Beginning (s es : List ℕ) (n k : ℕ) (w₀ : List ℕ) (j i end : 
   pub upto : p ≤ endOf es i
   pub adding : Adding beginnings s es n k w₀ j i w (λ m. leb m (p - startOf es i))
 
-module _ {s es : List ℕ} {n k count : ℕ} {w₀ : List ℕ} {j i : ℕ} (S : Listing beginnings s es n k count w₀ (j + 1)) (g : Got w₀ KEPT j i) where
+module _ {s es : List ℕ} {n k nodes : ℕ} {w₀ : List ℕ} {j i : ℕ} (S : Listing beginnings s es n k nodes w₀ (j + 1)) (g : Got w₀ KEPT j i) where
   abbrev x : List ℕ
   x = slip (slipsOf s es) i
 
   abbrev ps : List (List ℕ)
   ps = patternsIn s es n w₀
 
-  N : Numbered s es n count w₀
+  N : Numbered s es n nodes w₀
   N = S .staged .automaton .branched .numbered
 
   here : Member s es n w₀ i
@@ -109,7 +109,7 @@ module _ {s es : List ℕ} {n k count : ℕ} {w₀ : List ℕ} {j i : ℕ} (S : 
             adding = rw f (adding-more S g (B .adding) num long has (one-longer c) y (sym place));
           }
 
-  pub beginning-all : {end : ℕ} {w : List ℕ} {p : ℕ} → Beginning s es n k w₀ j i end w p → end ≤ p → ListedTo beginnings s es n k count w₀ j w
+  pub beginning-all : {end : ℕ} {w : List ℕ} {p : ℕ} → Beginning s es n k w₀ j i end w p → end ≤ p → ListedTo beginnings s es n k nodes w₀ j w
   beginning-all {p = p} B l =
       adding-all S g (B .adding)
       (λ v m t. le-leb (length (string ps v)) (p - startOf es i) (omega (arith, begins-length (string ps v) x t, B .last, B .upto, here .size)))

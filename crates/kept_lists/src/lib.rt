@@ -12,11 +12,11 @@ fn add_starts(
     work: &mut [u16],
     n: usize,
     k: usize,
-    count: usize,
+    nodes: usize,
     j: usize,
 )
-    requires { ⌜ O.Listing O.beginnings (now letters) (now ends) n k count (now work) (j + 1) ⌝ }
-    ensures { λ _. ⌜ O.ListedTo O.beginnings (now (letters .entry)) (now (ends .entry)) n k count (now (work .entry)) j (now (work .exit)) ⌝ }
+    requires { ⌜ O.Listing O.beginnings (now letters) (now ends) n k nodes (now work) (j + 1) ⌝ }
+    ensures { λ _. ⌜ O.ListedTo O.beginnings (now (letters .entry)) (now (ends .entry)) n k nodes (now (work .entry)) j (now (work .exit)) ⌝ }
 {
     let i = tables::at(work, layout::KEPT, j);
     let span = slips::slip_span(ends, i);
@@ -30,31 +30,31 @@ fn add_starts(
 }
 
 // Fills STARTS and STARTS_NEXT: from the last of the `k` kept members on, so that each list ascends.
-fn fill_starts(letters: &[u8], ends: &[u16], work: &mut [u16], n: usize, k: usize, count: usize)
-    requires { ⌜ K.KeptFound (now letters) (now ends) n k count (now work) ⌝ }
-    ensures { λ _. ⌜ O.SideFilled O.beginnings (now (letters .entry)) (now (ends .entry)) n k count (now (work .entry)) (now (work .exit)) ⌝ }
+fn fill_starts(letters: &[u8], ends: &[u16], work: &mut [u16], n: usize, k: usize, nodes: usize)
+    requires { ⌜ K.KeptFound (now letters) (now ends) n k nodes (now work) ⌝ }
+    ensures { λ _. ⌜ O.AffixFilled O.beginnings (now (letters .entry)) (now (ends .entry)) n k nodes (now (work .entry)) (now (work .exit)) ⌝ }
 {
-    tables::clear(work, layout::STARTS, count + 1);
+    tables::clear(work, layout::STARTS, nodes + 1);
     let mut j = k;
     while 0 < j {
         j -= 1;
-        add_starts(letters, ends, work, n, k, count, j);
+        add_starts(letters, ends, work, n, k, nodes, j);
     }
 }
 
 // Puts the `j`-th kept member into the lists of the nodes that it properly ends with. These are on the failure path of its node, and each is
-// shorter than the one before: the lengths are tried from the longest on.
+// shorter than the one before: lengths go from the longest down.
 fn add_ends(
     letters: &[u8],
     ends: &[u16],
     work: &mut [u16],
     n: usize,
     k: usize,
-    count: usize,
+    nodes: usize,
     j: usize,
 )
-    requires { ⌜ O.Listing O.endings (now letters) (now ends) n k count (now work) (j + 1) ⌝ }
-    ensures { λ _. ⌜ O.ListedTo O.endings (now (letters .entry)) (now (ends .entry)) n k count (now (work .entry)) j (now (work .exit)) ⌝ }
+    requires { ⌜ O.Listing O.endings (now letters) (now ends) n k nodes (now work) (j + 1) ⌝ }
+    ensures { λ _. ⌜ O.ListedTo O.endings (now (letters .entry)) (now (ends .entry)) n k nodes (now (work .entry)) j (now (work .exit)) ⌝ }
 {
     let i = tables::at(work, layout::KEPT, j);
     let span = slips::slip_span(ends, i);
@@ -77,25 +77,25 @@ fn add_ends(
 }
 
 // Fills ENDS and ENDS_NEXT in the same way.
-fn fill_ends(letters: &[u8], ends: &[u16], work: &mut [u16], n: usize, k: usize, count: usize)
-    requires { ⌜ K.KeptFound (now letters) (now ends) n k count (now work) ⌝ }
-    ensures { λ _. ⌜ O.SideFilled O.endings (now (letters .entry)) (now (ends .entry)) n k count (now (work .entry)) (now (work .exit)) ⌝ }
+fn fill_ends(letters: &[u8], ends: &[u16], work: &mut [u16], n: usize, k: usize, nodes: usize)
+    requires { ⌜ K.KeptFound (now letters) (now ends) n k nodes (now work) ⌝ }
+    ensures { λ _. ⌜ O.AffixFilled O.endings (now (letters .entry)) (now (ends .entry)) n k nodes (now (work .entry)) (now (work .exit)) ⌝ }
 {
-    tables::clear(work, layout::ENDS, count + 1);
+    tables::clear(work, layout::ENDS, nodes + 1);
     let mut j = k;
     while 0 < j {
         j -= 1;
-        add_ends(letters, ends, work, n, k, count, j);
+        add_ends(letters, ends, work, n, k, nodes, j);
     }
 }
 
 // Fills all of them. Answers how many members are kept.
-pub fn fill_lists(letters: &[u8], ends: &[u16], work: &mut [u16], n: usize, count: usize) -> usize
-    requires { ⌜ Automaton (now letters) (now ends) n count (now work) ⌝ }
-    ensures { λ k. ⌜ O.ListsFilled (now (letters .entry)) (now (ends .entry)) n count (now (work .entry)) k (now (work .exit)) ⌝ }
+pub fn fill_lists(letters: &[u8], ends: &[u16], work: &mut [u16], n: usize, nodes: usize) -> usize
+    requires { ⌜ Automaton (now letters) (now ends) n nodes (now work) ⌝ }
+    ensures { λ k. ⌜ O.ListsFilled (now (letters .entry)) (now (ends .entry)) n nodes (now (work .entry)) k (now (work .exit)) ⌝ }
 {
-    let k = kept_slips::tell_kept(letters, ends, work, n, count);
-    fill_starts(letters, ends, work, n, k, count);
-    fill_ends(letters, ends, work, n, k, count);
+    let k = kept_slips::tell_kept(letters, ends, work, n, nodes);
+    fill_starts(letters, ends, work, n, k, nodes);
+    fill_ends(letters, ends, work, n, k, nodes);
     k
 }

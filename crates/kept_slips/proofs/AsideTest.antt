@@ -44,8 +44,8 @@ fail-inner : (ps : List (List ℕ)) (y x : List ℕ) → 1 ≤ length y → begi
 fail-inner ps [] x h b e = absurd (omega arith)
 fail-inner ps (a ∷ y) x h b e = inr (a, y, b, e)
 
-module _ {s es : List ℕ} {n count : ℕ} {w : List ℕ} {i : ℕ} (J : Judged s es n count w i) where
-  abbrev N : Numbered s es n count w
+module _ {s es : List ℕ} {n nodes : ℕ} {w : List ℕ} {i : ℕ} (J : Judged s es n nodes w i) where
+  abbrev N : Numbered s es n nodes w
   N = J .marked .headed .automaton .branched .numbered
 
   open AreaSlips (areaSlips s es n w) using (ss, M, ps)

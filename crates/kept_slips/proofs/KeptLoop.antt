@@ -27,13 +27,13 @@ use Rattle.layout.proofs.Heads.{members-length, num-most}
 use Rattle.trie_heads.proofs.MemberNodes.{got-member, node-most}
 use Rattle.layout.proofs.Heads.{headed-kept}
 
-pub marked-kept : {s es : List ℕ} {n count : ℕ} {w w′ : List ℕ} → SameBelow KEPT w w′ → Marked s es n count w → Marked s es n count w′
-marked-kept {s} {es} {n} {count} {w} {w′} k X =
+pub marked-kept : {s es : List ℕ} {n nodes : ℕ} {w w′ : List ℕ} → SameBelow KEPT w w′ → Marked s es n nodes w → Marked s es n nodes w′
+marked-kept {s} {es} {n} {nodes} {w} {w′} k X =
     let A = X .headed .automaton in
     let N = A .branched .numbered in
     let ps = patternsIn s es n w in
     let fail : (v : ℕ) → Num ps v → cell w′ FAIL v ≡ cell w FAIL v = λ v m. k .cells (FAIL + v) (omega (arith, num-most N v m, N .few-nodes)) in
-    let mark : (u : ℕ) → u ≤ count → cell w′ MARK u ≡ cell w MARK u = λ u h. k .cells (MARK + u) (omega (arith, N .few-nodes)) in
+    let mark : (u : ℕ) → u ≤ nodes → cell w′ MARK u ≡ cell w MARK u = λ u h. k .cells (MARK + u) (omega (arith, N .few-nodes)) in
     record {
       headed = headed-kept (kept-lower MARK (omega arith) k) (X .headed);
       marks =
@@ -49,18 +49,18 @@ marked-kept {s} {es} {n} {count} {w} {w′} k X =
 abbrev stays : List (List ℕ) → List ℕ → ℕ → Bool
 stays ss M i = not (isAside ss M i)
 
-pub record Sifting (s es : List ℕ) (n count : ℕ) (w : List ℕ) (j k : ℕ) : Type 0 where
-  pub marked : Marked s es n count w
+pub record Sifting (s es : List ℕ) (n nodes : ℕ) (w : List ℕ) (j k : ℕ) : Type 0 where
+  pub marked : Marked s es n nodes w
   pub upto : j ≤ n
   pub fewer : k ≤ j
   pub list : table w KEPT k ≡ those (stays (slipsOf s es) (members w n)) (take j (members w n))
 
-module _ {s es : List ℕ} {n count : ℕ} {w : List ℕ} where
-  pub sifting-start : Marked s es n count w → Sifting s es n count w 0 0
+module _ {s es : List ℕ} {n nodes : ℕ} {w : List ℕ} where
+  pub sifting-start : Marked s es n nodes w → Sifting s es n nodes w 0 0
   unfolding table
   sifting-start X = record { marked = X; upto = omega arith; fewer = omega arith; list = refl }
 
-  module _ {j k : ℕ} (S : Sifting s es n count w j k) (h : j < n) {i : ℕ} (g : Got w MEMBERS j i) where
+  module _ {j k : ℕ} (S : Sifting s es n nodes w j k) (h : j < n) {i : ℕ} (g : Got w MEMBERS j i) where
     abbrev M : List ℕ
     M = members w n
 
@@ -72,12 +72,12 @@ module _ {s es : List ℕ} {n count : ℕ} {w : List ℕ} where
         let N = S .marked .headed .automaton .branched .numbered in
         take-suc M j 0 (rw (members-length N) h) ∙ ap (λ x. take j M ++ (x ∷ [])) (table-at w MEMBERS n j h ∙ sym (g .is))
 
-    pub sifting-judged : Judged s es n count w i
+    pub sifting-judged : Judged s es n nodes w i
     sifting-judged =
         let m = got-member (S .marked .headed .automaton .branched .numbered) g h in
         record { marked = S .marked; member = m .among; few = m .few }
 
-    pub sifting-aside : {b : Bool} (j′ : ℕ) → b ≡ isAside (slipsOf s es) (members w n) i → b ≡ true → j′ ≡ j + 1 → Sifting s es n count w j′ k
+    pub sifting-aside : {b : Bool} (j′ : ℕ) → b ≡ isAside (slipsOf s es) (members w n) i → b ≡ true → j′ ≡ j + 1 → Sifting s es n nodes w j′ k
     sifting-aside j′ e y q =
         record {
           marked = S .marked;
@@ -94,7 +94,7 @@ module _ {s es : List ℕ} {n count : ℕ} {w : List ℕ} where
         record { within = omega (arith, S .fewer, N .few-members, N .room); small = g .small }
 
     pub sifting-kept : {b : Bool} {w′ : List ℕ} (j′ k′ : ℕ) → b ≡ isAside (slipsOf s es) (members w n) i → b ≡ false → Put w KEPT k i w′ →
-        k′ ≡ k + 1 → j′ ≡ j + 1 → Sifting s es n count w′ j′ k′
+        k′ ≡ k + 1 → j′ ≡ j + 1 → Sifting s es n nodes w′ j′ k′
     sifting-kept {w′ = w′} j′ k′ e y p f q =
         let N = S .marked .headed .automaton .branched .numbered in
         let z : members w′ n ≡ M = members-kept n (omega (arith, N .few-members)) (kept-put p) in
@@ -107,7 +107,7 @@ module _ {s es : List ℕ} {n count : ℕ} {w : List ℕ} where
               (put-more p k′ (sifting-can .within) f ∙ ap (λ l. l ++ (i ∷ [])) (S .list));
         }
 
-  pub sifting-all : {w′ : List ℕ} {j k : ℕ} → Marked s es n count w → Sifting s es n count w′ j k → SameBelow KEPT w w′ → n ≤ j → KeptFilled s es n count w k w′
+  pub sifting-all : {w′ : List ℕ} {j k : ℕ} → Marked s es n nodes w → Sifting s es n nodes w′ j k → SameBelow KEPT w w′ → n ≤ j → KeptFilled s es n nodes w k w′
   sifting-all {w′} {j} {k} X S b l =
       let N = S .marked .headed .automaton .branched .numbered in
       let ss = slipsOf s es in

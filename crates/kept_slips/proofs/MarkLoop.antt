@@ -9,7 +9,7 @@ use native.Mathlib.Omega.{arith}
 use lib.ListN.{length, replicate}
 use Rattle.tables.specs.Tables.{Got, Put, Room, Filled}
 use Rattle.tables.proofs.Tables.{put-here, put-other}
-use Rattle.matching.specs.Nodes.{nodes, Num}
+use Rattle.matching.specs.Nodes.{nodesOf, Num}
 use Rattle.layout.specs.Layout.{FAIL, MARK}
 use Rattle.layout.specs.Tables.{cell}
 use Rattle.layout.specs.Numbered.{patternsIn, Numbered, SameBelow, Headed}
@@ -20,18 +20,18 @@ use Rattle.layout.proofs.Heads.{num-most}
 use Rattle.trie_heads.proofs.MemberNodes.{node-most}
 use Rattle.layout.proofs.Heads.{headed-kept}
 
-pub record Marking (s es : List ℕ) (n count : ℕ) (w : List ℕ) (v : ℕ) : Type 0 where
-  pub headed : Headed s es n count w
+pub record Marking (s es : List ℕ) (n nodes : ℕ) (w : List ℕ) (v : ℕ) : Type 0 where
+  pub headed : Headed s es n nodes w
   pub some : 1 ≤ v
-  pub upto : v ≤ count + 1
+  pub upto : v ≤ nodes + 1
   pub into : (x : ℕ) → Num (patternsIn s es n w) x → x < v → cell w MARK (cell w FAIL x) ≡ 1
-  pub back : (u : ℕ) → u < length (nodes (patternsIn s es n w)) → cell w MARK u ≡ 1 → (x : ℕ) × Num (patternsIn s es n w) x × (cell w FAIL x ≡ u)
+  pub back : (u : ℕ) → u < length (nodesOf (patternsIn s es n w)) → cell w MARK u ≡ 1 → (x : ℕ) × Num (patternsIn s es n w) x × (cell w FAIL x ≡ u)
 
-module _ {s es : List ℕ} {n count : ℕ} {w : List ℕ} where
-  pub marking-room : Headed s es n count w → MARK + (count + 1) ≤ length w
+module _ {s es : List ℕ} {n nodes : ℕ} {w : List ℕ} where
+  pub marking-room : Headed s es n nodes w → MARK + (nodes + 1) ≤ length w
   marking-room H = omega (arith, H .automaton .branched .numbered .room, H .automaton .branched .numbered .few-nodes)
 
-  pub marking-start : {w′ : List ℕ} → Headed s es n count w → Filled MARK (count + 1) (replicate (count + 1) 0) w w′ → Marking s es n count w′ 1
+  pub marking-start : {w′ : List ℕ} → Headed s es n nodes w → Filled MARK (nodes + 1) (replicate (nodes + 1) 0) w w′ → Marking s es n nodes w′ 1
   marking-start {w′} H f =
       let G = headed-kept (kept-filled f) H in
       let N = G .automaton .branched .numbered in
@@ -41,12 +41,12 @@ module _ {s es : List ℕ} {n count : ℕ} {w : List ℕ} where
         upto = omega arith;
         into = λ x m l. absurd (omega (arith, m .some));
         back = λ u l e.
-            let r : u < count + 1 = omega (arith, N .all-nodes) in
+            let r : u < nodes + 1 = omega (arith, N .all-nodes) in
             absurd (omega (arith, e, cleared f r));
       }
 
-  module _ {v : ℕ} (M : Marking s es n count w v) (h : v ≤ count) where
-    abbrev N : Numbered s es n count w
+  module _ {v : ℕ} (M : Marking s es n nodes w v) (h : v ≤ nodes) where
+    abbrev N : Numbered s es n nodes w
     N = M .headed .automaton .branched .numbered
 
     marking-num : Num (patternsIn s es n w) v
@@ -56,13 +56,13 @@ module _ {s es : List ℕ} {n count : ℕ} {w : List ℕ} where
     marking-place = omega (arith, N .room, N .few-nodes)
 
     module _ {u : ℕ} (g : Got w FAIL v u) where
-      link-most : u ≤ count
+      link-most : u ≤ nodes
       link-most = omega (arith, g .is, node-most N (M .headed .automaton .fails v marking-num))
 
       pub marking-can : Room w MARK u 1
       marking-can = record { within = omega (arith, link-most, N .few-nodes, N .room); small = omega arith }
 
-      pub marking-more : {w′ : List ℕ} → Put w MARK u 1 w′ → (v′ : ℕ) → v′ ≡ v + 1 → Marking s es n count w′ v′
+      pub marking-more : {w′ : List ℕ} → Put w MARK u 1 w′ → (v′ : ℕ) → v′ ≡ v + 1 → Marking s es n nodes w′ v′
       marking-more {w′} p v′ e =
           let k : SameBelow MARK w w′ = kept-put p in
           let f = patterns-kept N (omega arith) k in
@@ -86,8 +86,8 @@ module _ {s es : List ℕ} {n count : ℕ} {w : List ℕ} where
                 ]);
           }
 
-  pub marking-all : {a w′ : List ℕ} {v : ℕ} → Filled MARK (count + 1) (replicate (count + 1) 0) w a → SameBelow MARK a w′ → Marking s es n count w′ v →
-      count < v → MarksFilled s es n count w w′
+  pub marking-all : {a w′ : List ℕ} {v : ℕ} → Filled MARK (nodes + 1) (replicate (nodes + 1) 0) w a → SameBelow MARK a w′ → Marking s es n nodes w′ v →
+      nodes < v → MarksFilled s es n nodes w w′
   marking-all f k M l =
       let N = M .headed .automaton .branched .numbered in
       record {

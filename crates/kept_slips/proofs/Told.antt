@@ -13,8 +13,8 @@ use Rattle.trie_heads.proofs.Keeping.{kept-trans}
 use Rattle.kept_slips.specs.steps.Kept.{MarksFilled, KeptFilled, KeptTold}
 
 pub told :
-    {s es : List ℕ} {n k count : ℕ} {w w₁ w₂ w₃ : List ℕ}
-    → HeadsFilled s es n count w w₁ → MarksFilled s es n count w₁ w₂ → KeptFilled s es n count w₂ k w₃ → KeptTold s es n count w k w₃
+    {s es : List ℕ} {n k nodes : ℕ} {w w₁ w₂ w₃ : List ℕ}
+    → HeadsFilled s es n nodes w w₁ → MarksFilled s es n nodes w₁ w₂ → KeptFilled s es n nodes w₂ k w₃ → KeptTold s es n nodes w k w₃
 told {s} {es} {n} H M K =
     let N = M .marked .headed .automaton .branched .numbered in
     let two = kept-trans (H .below) (kept-lower HEAD (omega arith) (M .below)) in

@@ -1,2 +1,2 @@
--- The calls for other languages on one slip, a pair and a tray file.
+-- The calls for other languages on one slip, a pair, a tray file and two trays.
 pub mod Numbers

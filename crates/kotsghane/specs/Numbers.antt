@@ -10,7 +10,7 @@ use Rattle.trays.specs.declared.Located.{Located}
 use Rattle.trays.specs.declared.Pair.{Pair}
 use Rattle.trays.specs.Answers.{locatedOf, pairOf}
 use Rattle.trays.specs.declared.Written.{Written}
-use Rattle.file_rule.specs.Answers.{Reading}
+use Rattle.file_rule.specs.Answers.{ReadSays}
 use Rattle.merge_rule.specs.Merging.{MergeSays}
 
 abbrev pub slipNumbers : Located → List ℕ
@@ -34,7 +34,7 @@ pub record PairExported (m : ℕ) (s es : List ℕ) (i j : ℕ) (a′ : List ℕ
 
 pub record ReadExported (file ls ls′ es es′ a′ : List ℕ) : Type 0 where
   pub answer : Written
-  pub says : Reading file ls ls′ es es′ answer
+  pub says : ReadSays file ls ls′ es es′ answer
   pub numbers-are : a′ ≡ writtenNumbers answer
 
 pub record MergeExported (s es t fs ls ls′ cs cs′ a′ : List ℕ) : Type 0 where

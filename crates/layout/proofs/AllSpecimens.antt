@@ -6,7 +6,7 @@ use mathlib.Core.List.{List, [], _∷_}
 use Prim.Native.Nat.{ℕ}
 use lib.ListN.{getD}
 use Rattle.words.specs.Quoted.{word}
-use Rattle.matching.specs.Nodes.{nodes}
+use Rattle.matching.specs.Nodes.{nodesOf}
 use Rattle.layout.specs.Rows.{rows}
 
 -- The nodes are the empty string, A, B, AB: those of one letter are from number 1 on, that of two letters is number 3.
@@ -14,5 +14,5 @@ abbrev pub visits : List (List ℕ)
 visits = rows (word "AB" ∷ word "B" ∷ []) (λ d. getD (0 ∷ 1 ∷ 3 ∷ 4 ∷ []) d 0) 2
 
 pub visits-computed : visits ≡ (word "AB" ∷ word "A" ∷ word "B" ∷ [])
-unfolding nodes
+unfolding nodesOf
 visits-computed = refl

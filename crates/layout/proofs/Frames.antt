@@ -16,7 +16,7 @@ use Rattle.trays.specs.Faults.{trayFault}
 use Rattle.trays.proofs.Accepted.{accepted-tells, span-fits, span-slip}
 use Rattle.tables.specs.Tables.{Only}
 use Rattle.tables.proofs.Tables.{table-same}
-use Rattle.matching.specs.Nodes.{nodes}
+use Rattle.matching.specs.Nodes.{nodesOf}
 use Rattle.layout.specs.Layout.{MEMBERS, AT, OWN, LEVEL, KID, NEAR, FAIL, HEAD, nearLetters, firstSign}
 use Rattle.layout.specs.Tables.{cell, members, patterns, LevelIs, KidIs, NearIs}
 use Rattle.layout.specs.Numbered.{patternsIn, Numbered, Branched, Automaton, SameBelow}
@@ -55,7 +55,7 @@ module _ (ps : List (List ℕ)) where
         all = l .all;
       }
 
-  pub kid-same : (kid kid′ : ℕ → ℕ) → ((v : ℕ) → v ≤ length (nodes ps) → kid′ v ≡ kid v) → KidIs ps kid → KidIs ps kid′
+  pub kid-same : (kid kid′ : ℕ → ℕ) → ((v : ℕ) → v ≤ length (nodesOf ps) → kid′ v ≡ kid v) → KidIs ps kid → KidIs ps kid′
   kid-same kid kid′ e k =
       record {
         some = λ v h. rw (e v h) (k .some v h);
@@ -67,11 +67,11 @@ module _ {w w′ : List ℕ} where
   pub members-kept : {b : ℕ} (n : ℕ) → n ≤ b → SameBelow b w w′ → members w′ n ≡ members w n
   members-kept n h k = table-same w w′ MEMBERS n (k .same) (λ i l. k .cells (MEMBERS + i) (omega arith))
 
-  module _ {s es : List ℕ} {n count : ℕ} where
-    pub patterns-kept : {b : ℕ} → Numbered s es n count w → maxSlips ≤ b → SameBelow b w w′ → patternsIn s es n w′ ≡ patternsIn s es n w
+  module _ {s es : List ℕ} {n nodes : ℕ} where
+    pub patterns-kept : {b : ℕ} → Numbered s es n nodes w → maxSlips ≤ b → SameBelow b w w′ → patternsIn s es n w′ ≡ patternsIn s es n w
     patterns-kept N h k = ap (patterns (slipsOf s es)) (members-kept n (omega (arith, N .few-members)) k)
 
-    pub numbered-kept : SameBelow KID w w′ → Numbered s es n count w → Numbered s es n count w′
+    pub numbered-kept : SameBelow KID w w′ → Numbered s es n nodes w → Numbered s es n nodes w′
     numbered-kept k N =
         let m = members-kept n (omega (arith, N .few-members)) k in
         let place : (i c : ℕ) → In i (members w n) → c < length (slip (slipsOf s es) i) → startOf es i + c < maxLetters =
@@ -89,7 +89,7 @@ module _ {w w′ : List ℕ} where
           level = rw m (level-same _ _ (cell w LEVEL) (cell w′ LEVEL) (λ d h. k .cells (LEVEL + d) (omega arith)) (N .level));
         }
 
-    pub branched-kept : SameBelow NEAR w w′ → Branched s es n count w → Branched s es n count w′
+    pub branched-kept : SameBelow NEAR w w′ → Branched s es n nodes w → Branched s es n nodes w′
     branched-kept k B =
         let N = B .numbered in
         let e = patterns-kept N (omega arith) k in
@@ -99,12 +99,12 @@ module _ {w w′ : List ℕ} where
               rw e (kid-same _ (cell w KID) (cell w′ KID) (λ v h. k .cells (KID + v) (omega (arith, N .all-nodes, N .few-nodes))) (B .kids));
         }
 
-    pub near-kept : SameBelow FAIL w w′ → Numbered s es n count w → NearIs (patternsIn s es n w) (cell w NEAR) → NearIs (patternsIn s es n w′) (cell w′ NEAR)
+    pub near-kept : SameBelow FAIL w w′ → Numbered s es n nodes w → NearIs (patternsIn s es n w) (cell w NEAR) → NearIs (patternsIn s es n w′) (cell w′ NEAR)
     near-kept k N f =
         rw (patterns-kept N (omega arith) k) (λ v c h i a b.
         rw (k .cells (NEAR + (nearLetters * v + (c - firstSign))) (omega arith)) (f v c h i a b))
 
-    pub automaton-kept : SameBelow HEAD w w′ → Automaton s es n count w → Automaton s es n count w′
+    pub automaton-kept : SameBelow HEAD w w′ → Automaton s es n nodes w → Automaton s es n nodes w′
     automaton-kept k A =
         let N = A .branched .numbered in
         let e = patterns-kept N (omega arith) k in

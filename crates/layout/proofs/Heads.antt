@@ -1,7 +1,7 @@
 -- Members and their nodes, in the work area of an automaton with HEAD and TWIN.
 --   threaded-..   == a list threaded through a table: its first number, another table with the same cells
 --   member-..     == a member has a letter, and a number up to the most slips
---   num-most      == the number of a node is at most count
+--   num-most      == the number of a node is at most nodes
 --   headed-kept   == what is written behind TWIN leaves HEAD and TWIN as they are
 use mathlib.Core.Path.{_≡_, refl}
 use mathlib.Core.List.{List, [], _∷_, List·Memᴰ·head, List·Memᴰ·tail}
@@ -39,7 +39,7 @@ threaded-kept {w = w} {w′ = w′} k heads v nexts key xs h l t =
     rw (k .cells (heads + v) h)
     (threaded-same (λ r. cell w nexts (key r)) (λ r. cell w′ nexts (key r)) (cell w heads v) xs (λ r m. k .cells (nexts + key r) (l r m)) t)
 
-module _ {s es : List ℕ} {n count : ℕ} {w : List ℕ} (N : Numbered s es n count w) where
+module _ {s es : List ℕ} {n nodes : ℕ} {w : List ℕ} (N : Numbered s es n nodes w) where
   pub member-few : (i : ℕ) → In i (members w n) → i ≤ maxSlips
   member-few i m = omega (arith, N .real i m .1, accepted-tells s es (N .accepted) .few)
 
@@ -54,11 +54,11 @@ module _ {s es : List ℕ} {n count : ℕ} {w : List ℕ} (N : Numbered s es n c
   pub members-length : length (members w n) ≡ n
   members-length = table-length w MEMBERS n (omega (arith, N .few-members, N .room))
 
-  pub num-most : (v : ℕ) → Num (patternsIn s es n w) v → v ≤ count
+  pub num-most : (v : ℕ) → Num (patternsIn s es n w) v → v ≤ nodes
   num-most v m = omega (arith, m .inside, N .all-nodes)
 
-pub headed-kept : {s es : List ℕ} {n count : ℕ} {w w′ : List ℕ} → SameBelow MARK w w′ → Headed s es n count w → Headed s es n count w′
-headed-kept {s} {es} {n} {count} {w} {w′} k H =
+pub headed-kept : {s es : List ℕ} {n nodes : ℕ} {w w′ : List ℕ} → SameBelow MARK w w′ → Headed s es n nodes w → Headed s es n nodes w′
+headed-kept {s} {es} {n} {nodes} {w} {w′} k H =
     let N = H .automaton .branched .numbered in
     let ss = slipsOf s es in
     let ps = patternsIn s es n w in

@@ -21,7 +21,7 @@ use Rattle.layout.specs.Numbered.{patternsIn, Numbered}
 use Rattle.layout.proofs.Frames.{letter-span, letter-within, letter-place}
 use Rattle.layout.proofs.AreaSlips.{AreaSlips, areaSlips}
 
-module _ {s es : List ℕ} {n count : ℕ} {w : List ℕ} (N : Numbered s es n count w) (v : ℕ) (m : Num (patternsIn s es n w) v) where
+module _ {s es : List ℕ} {n nodes : ℕ} {w : List ℕ} (N : Numbered s es n nodes w) (v : ℕ) (m : Num (patternsIn s es n w) v) where
   open AreaSlips (areaSlips s es n w) using (ss, M, ps)
 
   abbrev x : List ℕ

@@ -22,7 +22,7 @@ use Rattle.words.proofs.Orders.{up, down, lex-first, lex-then, lex-cases}
 use Rattle.words.proofs.Picks.{asc-getD}
 use Rattle.greedy.specs.Walk.{sooner}
 use Rattle.greedy.proofs.Nodes.{Nodes}
-use Rattle.matching.specs.Nodes.{lower, nodes, string, Num}
+use Rattle.matching.specs.Nodes.{lower, nodesOf, string, Num}
 use Rattle.matching.proofs.Endings.{slip-some}
 use Rattle.matching.proofs.NodeLaws.{nodes-numbered, node-of}
 use Rattle.layout.specs.Tables.{patterns, LevelIs}
@@ -64,7 +64,7 @@ module _ (ps : List (List ℕ)) (level : ℕ → ℕ) (top : ℕ) (L : LevelIs p
       let (n, f) = row-num d b h l (omega arith) high in
       let x = string ps a in
       let y = string ps b in
-      elim (lex-cases up (length x) (length y) (before x y) (asc-getD [] (Less lower) (nodes ps) a b (nodes-numbered ps .asc) q (n .inside))) [
+      elim (lex-cases up (length x) (length y) (before x y) (asc-getD [] (Less lower) (nodesOf ps) a b (nodes-numbered ps .asc) q (n .inside))) [
         | inl t ↦ absurd (omega (arith, ltb-true (length x) (length y) t))
         | inr t ↦ t
       ]

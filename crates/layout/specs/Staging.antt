@@ -27,7 +27,7 @@ joinsIn w k = map (joinIn w) (upFrom 0 k)
 pub record Neighbours (js : List Join) (left right overs : List ℕ) : Type 0 where
   pub lefts : length left ≡ maxSlips
   pub rights : length right ≡ maxSlips
-  pub over-all : length overs ≡ maxSlips
+  pub overlaps : length overs ≡ maxSlips
   pub left-is : (i : ℕ) → i < maxSlips → getD left i 0 ≡ leftOf (suc i) js
   pub right-is : (i : ℕ) → i < maxSlips → getD right i 0 ≡ rightOf (suc i) js
-  pub over-is : (i : ℕ) → i < maxSlips → getD overs i 0 ≡ overlapAfter (suc i) js
+  pub overlap-is : (i : ℕ) → i < maxSlips → getD overs i 0 ≡ overlapAfter (suc i) js

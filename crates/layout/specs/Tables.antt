@@ -18,7 +18,7 @@ use Rattle.words.specs.Members.{In}
 use Rattle.trays.specs.Slips.{slip, startOf, endOf}
 use Rattle.tables.specs.Tables.{table}
 use Rattle.matching.specs.Moves.{beginsSome, longestEnding}
-use Rattle.matching.specs.Nodes.{nodes, string, IsNode, Num}
+use Rattle.matching.specs.Nodes.{nodesOf, string, IsNode, Num}
 use Rattle.greedy.specs.steps.Scans.{starters, enders}
 use Rattle.layout.specs.Layout.{MEMBERS, nearNodes, nearLetters, firstSign, lastSign}
 
@@ -51,16 +51,16 @@ OwnIs ss es M own = (v : ℕ) → Num (patterns ss M) v → Owned ss es M (own v
 
 -- LEVEL: the nodes of d letters or more are those from `level d` on
 pub record LevelIs (ps : List (List ℕ)) (level : ℕ → ℕ) (top : ℕ) : Type 0 where
-  pub some : (d : ℕ) → 1 ≤ d → d ≤ suc top → (1 ≤ level d) × (level d ≤ length (nodes ps))
+  pub some : (d : ℕ) → 1 ≤ d → d ≤ suc top → (1 ≤ level d) × (level d ≤ length (nodesOf ps))
   pub from : (d v : ℕ) → 1 ≤ d → d ≤ suc top → Num ps v → d ≤ length (string ps v) → level d ≤ v
   pub back : (d v : ℕ) → 1 ≤ d → d ≤ suc top → Num ps v → level d ≤ v → d ≤ length (string ps v)
   pub all : (v : ℕ) → Num ps v → length (string ps v) ≤ top
 
 -- KID: the children of v are the numbers from `kid v` up to `kid (v + 1)`
 pub record KidIs (ps : List (List ℕ)) (kid : ℕ → ℕ) : Type 0 where
-  pub some : (v : ℕ) → v ≤ length (nodes ps) → (1 ≤ kid v) × (kid v ≤ length (nodes ps))
-  pub into : (v u c : ℕ) → v < length (nodes ps) → Num ps u → string ps u ≡ string ps v ++ (c ∷ []) → (kid v ≤ u) × (u < kid (suc v))
-  pub back : (v u : ℕ) → v < length (nodes ps) → Num ps u → kid v ≤ u → u < kid (suc v) → (c : ℕ) × (string ps u ≡ string ps v ++ (c ∷ []))
+  pub some : (v : ℕ) → v ≤ length (nodesOf ps) → (1 ≤ kid v) × (kid v ≤ length (nodesOf ps))
+  pub into : (v u c : ℕ) → v < length (nodesOf ps) → Num ps u → string ps u ≡ string ps v ++ (c ∷ []) → (kid v ≤ u) × (u < kid (suc v))
+  pub back : (v u : ℕ) → v < length (nodesOf ps) → Num ps u → kid v ≤ u → u < kid (suc v) → (c : ℕ) × (string ps u ≡ string ps v ++ (c ∷ []))
 
 -- NEAR: the child of each of the first nodes by each letter
 pub record Child (ps : List (List ℕ)) (v c r : ℕ) : Type 0 where
@@ -69,7 +69,7 @@ pub record Child (ps : List (List ℕ)) (v c r : ℕ) : Type 0 where
 
 abbrev pub NearIs : List (List ℕ) → (ℕ → ℕ) → Type 0
 NearIs ps near =
-    (v c : ℕ) → v < nearNodes → v < length (nodes ps) → firstSign ≤ c → c ≤ lastSign → Child ps v c (near (nearLetters * v + (c - firstSign)))
+    (v c : ℕ) → v < nearNodes → v < length (nodesOf ps) → firstSign ≤ c → c ≤ lastSign → Child ps v c (near (nearLetters * v + (c - firstSign)))
 
 -- FAIL: the failure link of a node is the longest proper ending of its string that begins a member
 abbrev pub FailUpTo : List (List ℕ) → ℕ → (ℕ → ℕ) → Type 0

@@ -47,10 +47,10 @@ module _ (right overs : List ℕ) (n i o : ℕ) (xs : List ℕ) (m : ℕ) where
       chain-rest l =
           record {
             rights = a .rights;
-            over-all = a .over-all;
+            overlaps = a .overlaps;
             right-small = a .right-small;
             small = rw r (a .right-small (i - 1) (omega (arith, a .small)));
-            over-small = l;
+            overlap-small = l;
             cells = omega (arith, a .cells, p .same);
             room = rw r (omega (arith, a .room, ap length next, chain-length right overs (n - 1) (getD right (i - 1) 0) (getD overs (i - 1) 0) o′));
           }

@@ -28,10 +28,10 @@ module _ (left right overs : List ℕ) (n i : ℕ) (xs : List ℕ) (m mark : ℕ
     add-asks a =
         record {
           rights = a .rights;
-          over-all = a .over-all;
+          overlaps = a .overlaps;
           right-small = a .right-small;
           small = a .small;
-          over-small = omega arith;
+          overlap-small = omega arith;
           cells = a .cells;
           room = rw chain-is at (a .room);
         }
@@ -69,7 +69,7 @@ module _ (kept : List ℕ) (n : ℕ) (left right overs : List ℕ) (turns : ℕ)
         record {
           lefts = a .lefts;
           rights = a .rights;
-          over-all = a .over-all;
+          overlaps = a .overlaps;
           right-small = a .right-small;
           some = rw e (r .0);
           small = rw e (r .1);

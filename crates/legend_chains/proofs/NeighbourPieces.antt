@@ -17,13 +17,13 @@ use Rattle.legend_chains.specs.Chains.{chainBy, chainOf, piecesBy}
 module _ (js : List Join) (left right overs : List ℕ)
     (left-is : (i : ℕ) → i < maxSlips → getD left i 0 ≡ leftOf (suc i) js)
     (right-is : (i : ℕ) → i < maxSlips → getD right i 0 ≡ rightOf (suc i) js)
-    (over-is : (i : ℕ) → i < maxSlips → getD overs i 0 ≡ overlapAfter (suc i) js)
+    (overlap-is : (i : ℕ) → i < maxSlips → getD overs i 0 ≡ overlapAfter (suc i) js)
     (small : (i : ℕ) → rightOf i js ≤ maxSlips) where
   chain-by : (n i o : ℕ) → i ≤ maxSlips → chainBy right overs n i o ≡ chainFrom n js i o
   chain-by zero i o h = refl
   chain-by (suc n) zero o h = refl
   chain-by (suc n) (suc i) o h =
-      rw (eqb·suc-zero i, chainFrom, right-is i h, over-is i h)
+      rw (eqb·suc-zero i, chainFrom, right-is i h, overlap-is i h)
       (ap (λ (l : List Piece). piece (suc i) o ∷ l) (chain-by n (rightOf (suc i) js) (overlapAfter (suc i) js) (small (suc i))))
 
   chain-of : (i : ℕ) → 1 ≤ i → i ≤ maxSlips → chainOf left right overs (suc (length js)) i ≡ chainAt js i

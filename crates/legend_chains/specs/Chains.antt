@@ -31,7 +31,7 @@ pub record PiecesAsk (kept : List ℕ) (n : ℕ) (left right overs : List ℕ) (
   pub real : (k : ℕ) → k < n → (1 ≤ getD kept k 0) × (getD kept k 0 ≤ maxSlips)
   pub lefts : length left ≡ maxSlips
   pub rights : length right ≡ maxSlips
-  pub over-all : length overs ≡ maxSlips
+  pub overlaps : length overs ≡ maxSlips
   pub right-small : (k : ℕ) → k < maxSlips → getD right k 0 ≤ maxSlips
   pub cells : 2 * maxSlips ≤ length xs
   pub room : length (piecesBy left right overs turns (take n kept)) ≤ maxSlips

@@ -18,7 +18,7 @@ use Rattle.trays.specs.Slips.{slipsOf, slip}
 use Rattle.trays.specs.Aside.{counted}
 use Rattle.trays.proofs.Spans.{accepted-spanned}
 use Rattle.greedy.specs.Legends.{Piece, piece, added, spelled}
-use Rattle.greedy.specs.Orders.{weight, row}
+use Rattle.greedy.specs.Orders.{weight, laidAfter}
 use Rattle.greedy.proofs.Chains.{last-append}
 use Rattle.greedy.proofs.Letters.{weight-none}
 use Rattle.legend_chains.specs.Pieces.{piecesIn, PiecesBehind}
@@ -84,9 +84,9 @@ module _ (least : ℕ) (s es xs : List ℕ) (m : ℕ) (ps : List ℕ) (A : AddAs
         }
 
 -- the chain with one slip more
-row-more : (w : ℕ → ℕ → ℕ) (p : ℕ) (xs : List ℕ) (x : ℕ) → row w p (xs ++ (x ∷ [])) ≡ row w p xs ++ (piece x (w (lastOr p xs) x) ∷ [])
-row-more w p [] x = refl
-row-more w p (y ∷ xs) x = ap (λ (l : List Piece). piece y (w p y) ∷ l) (row-more w y xs x)
+laid-more : (w : ℕ → ℕ → ℕ) (p : ℕ) (xs : List ℕ) (x : ℕ) → laidAfter w p (xs ++ (x ∷ [])) ≡ laidAfter w p xs ++ (piece x (w (lastOr p xs) x) ∷ [])
+laid-more w p [] x = refl
+laid-more w p (y ∷ xs) x = ap (λ (l : List Piece). piece y (w p y) ∷ l) (laid-more w y xs x)
 
 last-prior : (xs : List ℕ) (m : ℕ) → m ≤ length xs → lastOr 0 (take m xs) ≡ priorOf xs m
 last-prior xs zero h = refl
@@ -102,7 +102,7 @@ pub record Arranging (least : ℕ) (s es xs : List ℕ) (k m : ℕ) (ps ps′ : 
 module _ (least : ℕ) (s es xs : List ℕ) where
   chain-more : (m : ℕ) → m < length xs → orderPieces least s es (take (suc m) xs) ≡ orderPieces least s es (take m xs) ++ (pieceOf least s es xs m ∷ [])
   chain-more m h =
-      rw (take-suc xs m 0 h, row-more (weight (counted least) (slipsOf s es)) 0 (take m xs) (getD xs m 0), last-prior xs m (omega arith))
+      rw (take-suc xs m 0 h, laid-more (weight (counted least) (slipsOf s es)) 0 (take m xs) (getD xs m 0), last-prior xs m (omega arith))
 
   pub arranging-none : (k : ℕ) (ps : List ℕ) → Arranging least s es xs k 0 ps ps 0
   arranging-none k ps = record { upto = omega arith; same = refl; pieces-are = refl; need-is = refl; short = omega arith }

@@ -11,11 +11,11 @@ use Rattle.trays.specs.Slips.{slipsOf}
 use Rattle.trays.specs.Aside.{counted}
 use Rattle.trays.specs.Faults.{trayFault}
 use Rattle.greedy.specs.Legends.{Piece, spelled}
-use Rattle.greedy.specs.Orders.{weight, row}
+use Rattle.greedy.specs.Orders.{weight, laidAfter}
 use Rattle.legend_chains.specs.Pieces.{piecesIn}
 
 abbrev pub orderPieces : ℕ → List ℕ → List ℕ → List ℕ → List Piece
-orderPieces least s es xs = row (weight (counted least) (slipsOf s es)) 0 xs
+orderPieces least s es xs = laidAfter (weight (counted least) (slipsOf s es)) 0 xs
 
 pub record OrderAsks (s es xs : List ℕ) (k : ℕ) (ps : List ℕ) : Type 0 where
   pub tray : trayFault s es .number ≡ 0

@@ -2,7 +2,7 @@
 -- from the definitions. Modules are checked in the order of their names: an edited definition is refused here first.
 --   Outcome          == the moves and the occurrences
 --   outcomeOf ss t   == those of the slips ss in the text t
---   Specimen         == a tray and a text, written as words, and the outcome that the rules gives
+--   Specimen         == a tray and a text, written as words, and its outcome by the rules
 use mathlib.Core.Path.{_≡_, refl}
 use mathlib.Core.List.{List, [], _∷_, map}
 use Prim.Native.Nat.{ℕ}

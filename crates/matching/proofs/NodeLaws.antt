@@ -21,7 +21,7 @@ use Rattle.words.proofs.Orders.{up, strings, lex-con}
 use Rattle.words.proofs.Strings.{begins-take, begins-prefix, begins-length}
 use Rattle.words.proofs.Picks.{getD-in}
 use Rattle.matching.specs.Moves.{beginsSome}
-use Rattle.matching.specs.Nodes.{lower, prefixes, nodes, string, IsNode, Num}
+use Rattle.matching.specs.Nodes.{lower, prefixes, nodesOf, string, IsNode, Num}
 use Rattle.matching.proofs.States.{fail}
 use Rattle.matching.proofs.Numbering.{lower-tr, lower-shorter}
 use Rattle.matching.proofs.Numbered as Numbered
@@ -47,8 +47,8 @@ module _ (ps : List (List ℕ)) where
   sorts : Sorts (Less lower) (prefixes ps) (inOrder lower (prefixes ps))
   sorts = inOrder-sorts lower lower-tr lower-con (prefixes ps)
 
-  pub nodes-numbered : Numbered.Numbered ps (nodes ps)
-  unfolding nodes
+  pub nodes-numbered : Numbered.Numbered ps (nodesOf ps)
+  unfolding nodesOf
   nodes-numbered =
       record {
         root = refl;
@@ -62,8 +62,8 @@ module _ (ps : List (List ℕ)) where
       node zero n = absurd (omega arith)
       node (suc v) n = let l = inOrder lower (prefixes ps) in in-prefixes (getD l v []) (sorts .back _ (getD-in [] l v (omega arith)))
 
-  pub nodes-some : 0 < length (nodes ps)
-  unfolding nodes
+  pub nodes-some : 0 < length (nodesOf ps)
+  unfolding nodesOf
   nodes-some = omega arith
 
   pub node-root : string ps 0 ≡ []
@@ -77,14 +77,14 @@ module _ (ps : List (List ℕ)) where
 
   pub node-of : (x : List ℕ) → 1 ≤ length x → beginsSome x ps ≡ true → (v : ℕ) × Num ps v × (string ps v ≡ x)
   node-of x h b =
-      let (v, n, e) = Numbered.number ps (nodes ps) nodes-numbered x h b in
+      let (v, n, e) = Numbered.number ps (nodesOf ps) nodes-numbered x h b in
       (v, record { some = n .0; inside = n .1 }, e)
 
   pub node-one : {x : List ℕ} {u v : ℕ} → IsNode ps u x → IsNode ps v x → u ≡ v
-  node-one {u = u} {v = v} m n = Numbered.str-one ps (nodes ps) nodes-numbered u v (m .inside) (n .inside) (m .is ∙ sym (n .is))
+  node-one {u = u} {v = v} m n = Numbered.str-one ps (nodesOf ps) nodes-numbered u v (m .inside) (n .inside) (m .is ∙ sym (n .is))
 
-  pub node-lower : (u v : ℕ) → u < length (nodes ps) → v < length (nodes ps) → lower (string ps u) (string ps v) ≡ true → u < v
-  node-lower u v = Numbered.str-lower ps (nodes ps) nodes-numbered u v
+  pub node-lower : (u v : ℕ) → u < length (nodesOf ps) → v < length (nodesOf ps) → lower (string ps u) (string ps v) ≡ true → u < v
+  node-lower u v = Numbered.str-lower ps (nodesOf ps) nodes-numbered u v
 
   pub node-fails : {f : ℕ} (v : ℕ) → Num ps v → IsNode ps f (fail ps (string ps v)) → f < v
-  node-fails {f} v n m = Numbered.fail-below ps (nodes ps) nodes-numbered v f (n .some, n .inside) (m .inside) (m .is)
+  node-fails {f} v n m = Numbered.fail-below ps (nodesOf ps) nodes-numbered v f (n .some, n .inside) (m .inside) (m .is)

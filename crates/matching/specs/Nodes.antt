@@ -1,7 +1,7 @@
 -- The nodes of the prefix automaton: the different beginnings of the patterns, numbered by length, then byte order.
 --   lower x y       == node x has a lower number than node y
 --   prefixes ps     == the non-empty beginnings of the patterns
---   nodes ps        == the empty string, then the different beginnings, ascending
+--   nodesOf ps      == the empty string, then the different beginnings, ascending
 --   string ps v     == the string of node v
 --   IsNode ps v x   == v is the number of the node with the string x
 --   Num ps v        == v is the number of a node with a letter
@@ -20,16 +20,16 @@ lower x y = ltb (length x) (length y) || (eqb (length x) (length y) && before x 
 abbrev pub prefixes : List (List ℕ) → List (List ℕ)
 prefixes ps = each (λ x. map (λ d. take d x) (upFrom 1 (length x))) ps
 
-unfoldable pub nodes : List (List ℕ) → List (List ℕ)
-nodes ps = [] ∷ inOrder lower (prefixes ps)
+unfoldable pub nodesOf : List (List ℕ) → List (List ℕ)
+nodesOf ps = [] ∷ inOrder lower (prefixes ps)
 
 abbrev pub string : List (List ℕ) → ℕ → List ℕ
-string ps v = getD (nodes ps) v []
+string ps v = getD (nodesOf ps) v []
 
 pub record IsNode (ps : List (List ℕ)) (v : ℕ) (x : List ℕ) : Type 0 where
-  pub inside : v < length (nodes ps)
+  pub inside : v < length (nodesOf ps)
   pub is : string ps v ≡ x
 
 pub record Num (ps : List (List ℕ)) (v : ℕ) : Type 0 where
   pub some : 1 ≤ v
-  pub inside : v < length (nodes ps)
+  pub inside : v < length (nodesOf ps)

@@ -1,5 +1,5 @@
--- Two trays merged: the slips that are written, what turns the call back, and what the lent buffers hold afterwards, for every input.
---   merged eq ws xs     == ws, and behind it those of xs that equal nothing written before them
+-- Two trays merged: the slips that are written, what refuses the call, and what the lent buffers hold afterwards, for every input.
+--   merged eq ws xs     == ws, and after it those of xs that equal nothing written before them
 --   mergedOf s es t fs  == so for the slips of two trays, s with ends es and t with ends fs: slips are equal if their letters are
 --   lentRow a b         == 15, where a letters and b ends are lent
 --   mergeRows           == the rows of the rules' table, top to bottom; mergeFault == the first that speaks, or 0

@@ -27,7 +27,7 @@ fn refused(number: u8, detail: u32) -> Written
     }
 }
 
-// Refusal 15, where so many letters and ends are lent, then 1 to 6 of the first tray and of the second.
+// Refusal 15, where this many letters and ends are lent, then 1 to 6 of the first tray and of the second.
 fn check_inputs(
     letters1: &[u8],
     ends1: &[u16],

@@ -18,7 +18,7 @@ use Rattle.trays.specs.Written.{TrayWritten}
 use Rattle.trays.proofs.Rows.{or-zero, or-some, speaking}
 use Rattle.trays.proofs.WrittenSlips.{refused-as, silent, letters-first, ends-first}
 use Rattle.file_rule.specs.Faults.{readFault}
-use Rattle.file_rule.specs.Answers.{slipsIn, Reading}
+use Rattle.file_rule.specs.Answers.{slipsIn, ReadSays}
 use Rattle.sheet_rule.specs.Sheets.{detailWidth, refusedLine, refusedSize, composeSheetOf, findSheetOf, maxFound}
 use Rattle.sheet_lines.specs.steps.Lines.{Printed}
 use Rattle.sheet_rule.specs.Programs.{lettersIn, endsIn, traySheet, composeSheetFault, composeSheet, textIn, textFault, textSheet, findSheetFault, findSheet}
@@ -36,7 +36,7 @@ module _ (s a b : List ℕ) (room : FileRoom a b) where
   unfolding readFault
   fault-own = rw (le-ltb (length a) maxFile (room .letters), le-ltb (length b) endsNeed (room .ends))
 
-  module _ (a′ b′ : List ℕ) (r : Written) (t : Reading s a a′ b b′ r) where
+  module _ (a′ b′ : List ℕ) (r : Written) (t : ReadSays s a a′ b b′ r) where
     -- the promise, for what turns the file itself back
     read : TrayWritten (own s) (slipsIn s) a a′ b b′ r
     read = rw fault-own at t
@@ -71,7 +71,7 @@ module _ (s : List ℕ) where
       ap (composed s) (or-some (own s) (trayFault (lettersIn s) (endsIn s)) (omega arith))
       ∙ ap {B = List ℕ} (λ (m : ℕ). elim m [ zero ↦ composeSheetOf (slipsOf (lettersIn s) (endsIn s)) | suc k ↦ refusedLine (own s) ]) h
 
-  module _ (a b w l o : List ℕ) (room : ComposeRoom a b w l o) (a′ b′ : List ℕ) (r : Written) (t : Reading s a a′ b b′ r) where
+  module _ (a b w l o : List ℕ) (room : ComposeRoom a b w l o) (a′ b′ : List ℕ) (r : Written) (t : ReadSays s a a′ b b′ r) where
     pub compose-can : (r .number ≡ 0 → ⊥) → (r .detail < 10 ^ detailWidth) × (refusedSize ≤ length o)
     compose-can z = refused-can s a b (room .file) a′ b′ r t z o (omega (arith, room .tray .sheet))
 
@@ -99,7 +99,7 @@ found-lent a b w f o room = sym (length-take-le (2 * maxFound) f (room .found))
 pub text-room : (a b w f o : List ℕ) → FindRoom a b w f o → TextRoom w (take (2 * maxFound) f) o
 text-room a b w f o room = record { work = room .work; found = sym (found-lent a b w f o room); sheet = room .sheet }
 
-pub find-can : (s a b w f o : List ℕ) → FindRoom a b w f o → (a′ b′ : List ℕ) (r : Written) → Reading s a a′ b b′ r → (r .number ≡ 0 → ⊥)
+pub find-can : (s a b w f o : List ℕ) → FindRoom a b w f o → (a′ b′ : List ℕ) (r : Written) → ReadSays s a a′ b b′ r → (r .number ≡ 0 → ⊥)
     → (r .detail < 10 ^ detailWidth) × (refusedSize ≤ length o)
 find-can s a b w f o room a′ b′ r t z = refused-can s a b (room .file) a′ b′ r t z o (omega (arith, room .sheet))
 
@@ -114,7 +114,7 @@ module _ (s x : List ℕ) where
       ap (found s x) (or-some (own s) (textFault (lettersIn s) (endsIn s) (textIn x)) (omega arith))
       ∙ ap {B = List ℕ} (λ (m : ℕ). elim m [ zero ↦ findSheetOf (slipsOf (lettersIn s) (endsIn s)) (textIn x) | suc k ↦ refusedLine (own s) ]) h
 
-  module _ (a b w f o : List ℕ) (room : FindRoom a b w f o) (a′ b′ : List ℕ) (r : Written) (t : Reading s a a′ b b′ r) where
+  module _ (a b w f o : List ℕ) (room : FindRoom a b w f o) (a′ b′ : List ℕ) (r : Written) (t : ReadSays s a a′ b b′ r) where
     pub find-refused : (r .number ≡ 0 → ⊥) → (o′ : List ℕ) (k : ℕ) → Printed (refusedLine (refusal (r .number) (r .detail))) o o′ k →
         Printed (findSheet s x) o o′ k
     find-refused z o′ k p =

@@ -1,4 +1,4 @@
--- What the programs print, from the bytes of their files: the first row of the rules' table that turns back, or the sheet.
+-- What the programs print, from the bytes of their files: the first refusal of the rules' table that holds, or the sheet.
 --   lettersIn, endsIn file  == the letters and ends of a tray file
 --   traySheet s es          == what is printed of a tray: its refusal 1 to 6, or its `compose` sheet
 --   composeSheetFault file          == what turns a tray file back: 16 to 19, then 1 to 6

@@ -158,7 +158,7 @@ findLines n m k ns = findLine n m k ++ lines (foundLineAt ns) k
 abbrev pub composeRoom : ℕ
 composeRoom = traySize + slipSize * maxSlips + joinSize * (maxSlips - 1) + (maxLetters + 1)
 
--- `find` lists at most so many occurrences
+-- `find` lists at most this many occurrences
 abbrev pub maxFound : ℕ
 maxFound = 8000
 

@@ -26,7 +26,7 @@ use Rattle.greedy.specs.Joins.{Join}
 use Rattle.greedy.specs.Orders.{weight}
 use Rattle.greedy.specs.Composing.{usual, whole, joinsOf}
 use Rattle.greedy.proofs.Chains.{Chain, Arc, chains-fewer}
-use Rattle.greedy.proofs.Demand3.{composed}
+use Rattle.greedy.proofs.GreedyLegends.{composed}
 use Rattle.matching.specs.Occurrences.{Occurrence, occurrence, endingAt, occurrences}
 use Rattle.matching.proofs.States.{few-moves}
 use Rattle.matching.proofs.Finds.{in-ending}

@@ -31,11 +31,11 @@ use Rattle.greedy.specs.Composing.{whole}
 use Rattle.greedy.specs.Orders.{weight, along, orderLegend}
 use Rattle.greedy.specs.Claims.{holdsAll, stopFree}
 use Rattle.greedy.proofs.Chains.{Chain, wholeChain, end, Rep, along-append}
-use Rattle.greedy.proofs.Letters.{sum-each, total-sum, holds-all, row-holds, row-saving, saving-of}
+use Rattle.greedy.proofs.Letters.{sum-each, total-sum, holds-all, laid-holds, laid-saving, saving-of}
 use Rattle.greedy.proofs.TextOrder.{over, Apart, text-order}
 use Rattle.greedy.proofs.Bound.{kept-once, kept-rep}
 use Rattle.greedy.proofs.StopFree.{stopFree-at}
-use Rattle.greedy.proofs.Demand3.{numbers-rise, numbers-positive}
+use Rattle.greedy.proofs.GreedyLegends.{numbers-rise, numbers-positive}
 use Rattle.shortest.specs.Orders.{orders, less, firstLeast, shortestFor}
 use Rattle.shortest.specs.steps.Choosing.{greater, firstMost, choose}
 use Rattle.shortest.specs.Claims.{times, Optimal, Shortest-legends}
@@ -94,9 +94,9 @@ pub stopFree-plain : (m : ℕ) → m ≡ 1 → (ss : List (List ℕ)) (K : List 
 stopFree-plain m one ss K free x k i = omega (arith, overlapFor-free m one x (slip ss k) (stopFree-at ss K free k i))
 
 module _ (counts : List ℕ → Bool) (ss : List (List ℕ)) where
-  -- the row behind slip 0 is the whole chain, since slip 0 has no letter
+  -- what is laid after slip 0 is the whole chain, since slip 0 has no letter
   pub order-length : (xs : List ℕ) → total ss xs ≡ along (weight counts ss) 0 xs + length (orderLegend counts ss xs)
-  order-length xs = omega (arith, row-saving counts ss 0 xs)
+  order-length xs = omega (arith, laid-saving counts ss 0 xs)
 
   module _ (K : List ℕ) where
     abbrev legend : List ℕ → ℕ
@@ -143,7 +143,7 @@ module _ (counts : List ℕ → Bool) (ss : List (List ℕ)) where
 
     pub shortest-holds : holdsAll ss K (orderLegend counts ss (shortestFor counts ss K)) ≡ true
     shortest-holds =
-        holds-all ss K (orderLegend counts ss shortest) (λ i h. row-holds counts ss i 0 shortest (omega (arith, shortest-order (is i))))
+        holds-all ss K (orderLegend counts ss shortest) (λ i h. laid-holds counts ss i 0 shortest (omega (arith, shortest-order (is i))))
 
     pub shortest-text :
         ((x : ℕ) → held x K ≤ 1) → Apart ss K → Plain counts ss K → (t : List ℕ) → holdsAll ss K t ≡ true → legend shortest ≤ length t

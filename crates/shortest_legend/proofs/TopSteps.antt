@@ -20,7 +20,7 @@ use Rattle.trays.proofs.Rows.{speaking}
 use Rattle.trays.proofs.SetTrays.{set-tells}
 use Rattle.trays.proofs.Kept.{kept-asc}
 use Rattle.greedy.specs.Composing.{Composing, whole}
-use Rattle.greedy.proofs.Demand3.{numbers-rise}
+use Rattle.greedy.proofs.GreedyLegends.{numbers-rise}
 use Rattle.greedy.proofs.KeptSizes.{kept-real}
 use Rattle.shortest.specs.Orders.{shortestFor}
 use Rattle.layout.specs.Layout.{SEEK}

@@ -21,7 +21,7 @@ use Rattle.trays.specs.Faults.{refusal, accepted, firstRow, written}
 use Rattle.greedy.specs.Legends.{spelled}
 use Rattle.greedy.specs.Composing.{Composing, whole, keptOf}
 use Rattle.greedy.specs.Orders as O
-use Rattle.greedy.proofs.Letters.{row-behind}
+use Rattle.greedy.proofs.Letters.{laid-after}
 use Rattle.greedy.proofs.KeptSizes.{kept-real, legend-small}
 use Rattle.shortest.specs.Orders.{shortestOrder, shortestLegend}
 use Rattle.shortest.proofs.Shortest.{shortest-order, shortest-whole}
@@ -122,15 +122,15 @@ module _ (g : Settings) (s es r : List ℕ) (k : ℕ) (S : OrderSought g s es r 
           record {
             tray = S .tray;
             pairs = omega (arith, A .same, S .few);
-            fits = rw pieces-are (order-fits s es (orderPieces (g .least) s es xs) [] (row-behind (counted (g .least)) ss 0 xs) (row-real 0 xs order-real));
+            fits = rw pieces-are (order-fits s es (orderPieces (g .least) s es xs) [] (laid-after (counted (g .least)) ss 0 xs) (laid-real 0 xs order-real));
             room-is = rw pieces-are (omega (arith, need-is));
           }
         where
-          row-real :
+          laid-real :
               (p : ℕ) (ys : List ℕ) → ((i : ℕ) → In i ys → (1 ≤ i) × (i ≤ length es))
-              → All (λ q. (1 ≤ q .number) × (q .number ≤ length es)) (O.row (O.weight (counted (g .least)) ss) p ys)
-          row-real p [] real = tt
-          row-real p (y ∷ ys) real = (real y (List·Memᴰ·head refl), row-real y ys (λ i m. real i (List·Memᴰ·tail m)))
+              → All (λ q. (1 ≤ q .number) × (q .number ≤ length es)) (O.laidAfter (O.weight (counted (g .least)) ss) p ys)
+          laid-real p [] real = tt
+          laid-real p (y ∷ ys) real = (real y (List·Memᴰ·head refl), laid-real y ys (λ i m. real i (List·Memᴰ·tail m)))
 
       pub laid-all :
           (l′ : List ℕ) (a : Shortest) → l′ ≡ over (spelled ss (piecesIn ps 0 k)) l → a ≡ outcomeBy n k r → Written (whole g ss) l l′ a

@@ -9,9 +9,9 @@ ghost use Rattle.trays.specs.Faults as F;
 ghost use Rattle.slips.specs.Pairs.{TwoSlips, Overlap};
 use tables::wide;
 use trays::Span;
-use trays::counts;
+use trays::not_stops;
 
-// Where slip `slip` starts and ends: the stretch itself, not an equal one elsewhere.
+// Where slip `slip` starts and ends in the letters of its tray.
 pub fn slip_span(ends: &[u16], slip: usize) -> Span
     requires { ⌜ (1 ≤ slip) × (slip ≤ length (now ends)) ⌝ }
     ensures { λ r. ⌜ r ≡ S.spanOf (now (ends .entry)) slip ⌝ }
@@ -45,7 +45,7 @@ fn counted_overlap(a: &[u8], b: &[u8], least: usize) -> usize
     if n < least {
         return 0;
     }
-    if counts(&b[..n]) {
+    if not_stops(&b[..n]) {
         return n;
     }
     0

@@ -40,10 +40,6 @@ table-more w base n m h e =
     let l : n < length (drop base w) = rw length-drop (omega arith) in
     rw (e, add-one, take-suc (drop base w) n 0 l, getD-drop)
 
--- what `at` reads is a member of the table
-pub table-got : (w : List ℕ) (base n i r : ℕ) → Got w base i r → i < n → r ≡ getD (table w base n) i 0
-table-got w base n i r g h = g .is ∙ sym (table-at w base n i h)
-
 table-size : (w : List ℕ) (base n : ℕ) → length (table w base n) ≡ min n (length w - base)
 unfolding table
 table-size w base n = simp (length-take, length-drop)
@@ -120,9 +116,6 @@ cells-put f p h = only-put f p (omega arith)
 
 pub cells-below : {w w′ : List ℕ} {a m : ℕ} (base n : ℕ) → Only (Cells a m) w w′ → base + n ≤ a → table w′ base n ≡ table w base n
 cells-below base n f h = only-table base n f (λ i l c. omega arith)
-
-pub cells-above : {w w′ : List ℕ} {a m : ℕ} (base n : ℕ) → Only (Cells a m) w w′ → a + m ≤ base → table w′ base n ≡ table w base n
-cells-above base n f h = only-table base n f (λ i l c. omega arith)
 
 -- a table that is filled in order
 pub record Filling (base n : ℕ) (xs : List ℕ) (i : ℕ) (w w′ : List ℕ) : Type 0 where

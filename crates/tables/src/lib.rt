@@ -6,7 +6,7 @@ ghost use Rattle.words.specs.Lists.{over};
 ghost use Rattle.tables.specs.Copying.{CanCopy};
 ghost use Rattle.tables.specs.Tables.{Got, Put, Room, Filled, table};
 
-// A cell as a number, and a number as a cell.
+// A cell of 16 bits as a number.
 pub fn wide(x: u16) -> usize
     ensures { λ r. ⌜ (r ≡ x) × (r < 65536) ⌝ }
 {

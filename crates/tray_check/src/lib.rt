@@ -1,4 +1,4 @@
-// The tray check: refusals 1 to 6, for any letters and any ends.
+// The check of settings and tray: refusals 21 and 1 to 6, for any settings, any letters and any ends.
 ghost use mathlib.Core.Path.{_≡_};
 ghost use Prim.Native.Nat.{_≤_, _<_, _+_};
 ghost use lib.ListN.{length};

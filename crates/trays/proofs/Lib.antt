@@ -9,7 +9,7 @@ pub mod SetTrays
 pub mod Spans
 pub mod Stored
 pub mod Stops
-pub mod CountsLoop
+pub mod NotStopsLoop
 pub mod WrittenSlips
 pub mod WrittenTrays
 pub mod Specimens

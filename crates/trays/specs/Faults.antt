@@ -1,14 +1,14 @@
 -- Refusals 21, 1 to 6, 10 and 11 with their details, as the rows of the rules' table.
 --   row n b d     == the row numbered n with detail d if its condition b holds, else no refusal
 --   firstRow rs   == the first refusal of the rows, which are taken top to bottom
---   written f xs old == a lent buffer afterwards: xs written over its first part, unless f turns the call back
+--   written f xs old == a lent buffer afterwards: xs written over its first part, unless f refuses the call
 --   badPlace i s  == the place, counted from i, of the first byte outside the signs; 0 for none
 --   tooLong m ..  == the lowest slip of more than m letters; 0 for none
 --   trayRowsFor m == place B, tray: 1 to 6, where a slip may have m letters
 --   trayRows      == the same for the limit that holds
---   trayFault     == the tray itself is turned back, or 0
+--   trayFault     == what refuses the tray itself, or 0
 --   leastRow m    == place B, settings: 21
---   setRows m     == place B, settings and tray; setFault == these turn the call back, or 0
+--   setRows m     == place B, settings and tray; setFault == what refuses these, or 0
 --   slipRow       == place B, request: 10
 --   pairRow       == place B, request: 11
 use mathlib.Core.Bool.{Bool, true, false, cond, _||_, not}

@@ -3,7 +3,7 @@
 --   endsFrom here xs  == the ends of the slips xs, where letters come before them up to `here`; endsOf xs == where none do
 --   sizeRows xs       == rows 1 and 4 of a tray written of the slips xs
 --   wrote xs          == the answer once the slips xs are written
---   writtenBy f xs    == the answer, where f is what turns the call back
+--   writtenBy f xs    == the answer, where f is what refuses the call
 --   TrayWritten       == the promise: lent letters a and ends b before, a′ and b′ after; answer r
 use mathlib.Core.Path.{_≡_}
 use mathlib.Core.List.{List, [], _∷_}

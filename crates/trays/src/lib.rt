@@ -9,10 +9,10 @@ pub const MAX_SLIP: usize = 32;
 
 pub const MAX_LETTERS: usize = 2000;
 
-// 20: the shortest legend is sought for at most so many kept slips.
+// 20: the shortest legend is sought for at most this many kept slips.
 pub const MAX_SHORTEST: usize = 10;
 
-// 21: the least overlap is at most so many letters.
+// 21: the least overlap is at most this many letters.
 pub const MAX_LEAST: u32 = 32;
 
 // The full stop, the lowest of the 27 signs.
@@ -60,9 +60,9 @@ pub fn refuse(number: u8, detail: u32) -> Refusal
     Refusal { number, detail }
 }
 
-// Whether an overlap string that is long enough counts: some letter of it is no stop. It looks from the last letter on for a reason of layout alone
-// (docs/STEPS.md).
-pub fn counts(x: &[u8]) -> bool
+// Whether some letter of a string is no stop, so that it counts as an overlap where it is long enough. It looks from the last letter on; neither end is
+// better in itself, but the other one moved code elsewhere (docs/DECISIONS.md, *Code*).
+pub fn not_stops(x: &[u8]) -> bool
     ensures { λ r. ⌜ r ≡ notStops (now (x .entry)) ⌝ }
 {
     let mut i = x.len();

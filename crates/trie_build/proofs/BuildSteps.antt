@@ -87,12 +87,12 @@ module _ (s es w : List ℕ) (a : Buildable s es w) where
               }
 
 -- numbers and links
-module _ (s es w w₁ : List ℕ) (a : SortedAll s es w w₁) (count : ℕ) (w₂ : List ℕ) (f : NodesFilled s es (length es) w₁ count w₂) (w₃ : List ℕ)
-    (g : LinksFilled s es (length es) count w₂ w₃) where
+module _ (s es w w₁ : List ℕ) (a : SortedAll s es w w₁) (nodes : ℕ) (w₂ : List ℕ) (f : NodesFilled s es (length es) w₁ nodes w₂) (w₃ : List ℕ)
+    (g : LinksFilled s es (length es) nodes w₂ w₃) where
   pub built-same : length w₃ ≡ length w
   built-same = g .only .same ∙ f .only .same ∙ a .same
 
-  pub slips-built : Built s es w count w₃
+  pub slips-built : Built s es w nodes w₃
   slips-built =
       let few : length es ≤ maxSlips = a .sorted .few-members in
       record {

@@ -23,7 +23,7 @@ pub fn build(letters: &[u8], ends: &[u16], work: &mut [u16]) -> usize
 {
     sort_slips(letters, ends, work);
     let n = ends.len();
-    let count = trie_nodes::number_nodes(letters, ends, work, n);
-    trie_links::fill_links(letters, ends, work, n, count);
-    count
+    let nodes = trie_nodes::number_nodes(letters, ends, work, n);
+    trie_links::fill_links(letters, ends, work, n, nodes);
+    nodes
 }

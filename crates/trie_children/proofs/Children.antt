@@ -12,7 +12,7 @@ use lib.ListN.{length, getD, length-append}
 use Rattle.words.proofs.Tests.{by-test}
 use Rattle.tables.specs.Tables.{Got}
 use Rattle.matching.specs.Moves.{beginsSome}
-use Rattle.matching.specs.Nodes.{nodes, string, Num}
+use Rattle.matching.specs.Nodes.{nodesOf, string, Num}
 use Rattle.matching.proofs.NodeLaws.{node-of}
 use Rattle.layout.specs.Layout.{KID}
 use Rattle.layout.specs.Tables.{cell, Child}
@@ -30,17 +30,17 @@ child-none ps v c f =
           (λ b. b);
     }
 
-pub record Scanning (s es : List ℕ) (n count : ℕ) (w : List ℕ) (v c e u : ℕ) : Type 0 where
-  pub branched : Branched s es n count w
-  pub node : v ≤ count
+pub record Scanning (s es : List ℕ) (n nodes : ℕ) (w : List ℕ) (v c e u : ℕ) : Type 0 where
+  pub branched : Branched s es n nodes w
+  pub node : v ≤ nodes
   pub some : 1 ≤ u
   pub low : cell w KID v ≤ u
   pub end : e ≡ cell w KID (suc v)
-  pub last : e ≤ count + 1
+  pub last : e ≤ nodes + 1
   pub passed : (x : ℕ) → Num (patternsIn s es n w) x → string (patternsIn s es n w) x ≡ string (patternsIn s es n w) v ++ (c ∷ []) → u ≤ x
 
-module _ {s es : List ℕ} {n count : ℕ} {w : List ℕ} {v : ℕ} (B : Branched s es n count w) (node : v ≤ count) where
-  pub scan-start : (c e u : ℕ) → Got w KID (v + 1) e → Got w KID v u → Scanning s es n count w v c e u
+module _ {s es : List ℕ} {n nodes : ℕ} {w : List ℕ} {v : ℕ} (B : Branched s es n nodes w) (node : v ≤ nodes) where
+  pub scan-start : (c e u : ℕ) → Got w KID (v + 1) e → Got w KID v u → Scanning s es n nodes w v c e u
   scan-start c e u g h =
       let a = B .numbered .all-nodes in
       let k = B .kids .some v (omega arith) in
@@ -56,11 +56,11 @@ module _ {s es : List ℕ} {n count : ℕ} {w : List ℕ} {v : ℕ} (B : Branche
         passed = λ x m q. omega (arith, h .is, B .kids .into v x c (omega arith) m q .0);
       }
 
-module _ {s es : List ℕ} {n count : ℕ} {w : List ℕ} {v c e u : ℕ} (S : Scanning s es n count w v c e u) where
+module _ {s es : List ℕ} {n nodes : ℕ} {w : List ℕ} {v c e u : ℕ} (S : Scanning s es n nodes w v c e u) where
   abbrev ps : List (List ℕ)
   ps = patternsIn s es n w
 
-  inside : v < length (nodes ps)
+  inside : v < length (nodesOf ps)
   inside = omega (arith, S .node, S .branched .numbered .all-nodes)
 
   pub scan-none : e ≤ u → Child ps v c 0
@@ -103,7 +103,7 @@ module _ {s es : List ℕ} {n count : ℕ} {w : List ℕ} {v c e u : ℕ} (S : S
           | no k ↦ omega (arith, after x m z .1 (omega (arith, S .passed x m z)))
         ])
 
-    pub scan-more : {b : ℕ} (u′ : ℕ) → b ≡ letterOf s w u → (b ≡ c → ⊥) → u′ ≡ u + 1 → Scanning s es n count w v c e u′
+    pub scan-more : {b : ℕ} (u′ : ℕ) → b ≡ letterOf s w u → (b ≡ c → ⊥) → u′ ≡ u + 1 → Scanning s es n nodes w v c e u′
     scan-more u′ q r k =
         record {
           branched = S .branched;

@@ -16,7 +16,7 @@ use borrow.Author.Tests.{ltb-true, ltb-false, leb-true, leb-false}
 use Rattle.words.proofs.Tests.{both, one-of}
 use Rattle.tables.specs.Tables.{Cells, Only, Put, Room}
 use Rattle.tables.proofs.Tables.{only-refl, cells-put, put-here, put-other}
-use Rattle.matching.specs.Nodes.{nodes, string, Num}
+use Rattle.matching.specs.Nodes.{nodesOf, string, Num}
 use Rattle.layout.specs.Layout.{KID}
 use Rattle.layout.specs.Tables.{cell, KidIs}
 use Rattle.layout.specs.Numbered.{patternsIn, Numbered, SameBelow}
@@ -26,11 +26,11 @@ use Rattle.trie_children.proofs.Parents.{parents-tree, parents-ascend, 
 
 pub record First (ps : List (List ℕ)) (par : ℕ → ℕ) (v k : ℕ) : Type 0 where
   pub some : 1 ≤ k
-  pub inside : k ≤ length (nodes ps)
+  pub inside : k ≤ length (nodesOf ps)
   pub below : (x : ℕ) → Num ps x → x < k → par x < v
   pub from : (x : ℕ) → Num ps x → k ≤ x → v ≤ par x
 
-module _ {s es : List ℕ} {n count : ℕ} {w : List ℕ} (N : Numbered s es n count w) where
+module _ {s es : List ℕ} {n nodes : ℕ} {w : List ℕ} (N : Numbered s es n nodes w) where
   abbrev qs : List (List ℕ)
   qs = patternsIn s es n w
 
@@ -42,7 +42,7 @@ module _ {s es : List ℕ} {n count : ℕ} {w : List ℕ} (N : Numbered s es n c
         | no ne ↦ elim (parents-ascend N m k (omega arith)) [ inl q ↦ omega arith | inr q ↦ omega (arith, q .0) ]
       ]
 
-  first-kids : (kid : ℕ → ℕ) → ((v : ℕ) → v ≤ length (nodes qs) → First qs (parentOf w) v (kid v)) → KidIs qs kid
+  first-kids : (kid : ℕ → ℕ) → ((v : ℕ) → v ≤ length (nodesOf qs) → First qs (parentOf w) v (kid v)) → KidIs qs kid
   first-kids kid f =
       record {
         some = λ v h. (f v h .some, f v h .inside);
@@ -56,16 +56,16 @@ module _ {s es : List ℕ} {n count : ℕ} {w : List ℕ} (N : Numbered s es n c
             (letterOf s w u, parents-tree N .par-is u (m .some, m .inside) ∙ ap (λ y. string qs y ++ (letterOf s w u ∷ [])) p);
       }
 
-pub record FillingKids (s es : List ℕ) (n count : ℕ) (w₀ w : List ℕ) (v u : ℕ) : Type 0 where
-  pub numbered : Numbered s es n count w₀
+pub record FillingKids (s es : List ℕ) (n nodes : ℕ) (w₀ w : List ℕ) (v u : ℕ) : Type 0 where
+  pub numbered : Numbered s es n nodes w₀
   pub only : Only (Cells KID 2002) w₀ w
-  pub upto : v ≤ count + 2
+  pub upto : v ≤ nodes + 2
   pub some : 1 ≤ u
-  pub inside : u ≤ count + 1
+  pub inside : u ≤ nodes + 1
   pub passed : (x : ℕ) → Num (patternsIn s es n w₀) x → x < u → parentOf w₀ x < v
   pub done : (y : ℕ) → y < v → First (patternsIn s es n w₀) (parentOf w₀) y (cell w KID y)
 
-pub kids-start : {s es : List ℕ} {n count : ℕ} {w : List ℕ} → Numbered s es n count w → FillingKids s es n count w w 0 1
+pub kids-start : {s es : List ℕ} {n nodes : ℕ} {w : List ℕ} → Numbered s es n nodes w → FillingKids s es n nodes w w 0 1
 kids-start N =
     record {
       numbered = N;
@@ -77,21 +77,21 @@ kids-start N =
       done = λ y h. absurd (omega arith);
     }
 
-module _ {s es : List ℕ} {n count : ℕ} {w₀ w : List ℕ} {v u : ℕ} (F : FillingKids s es n count w₀ w v u) where
+module _ {s es : List ℕ} {n nodes : ℕ} {w₀ w : List ℕ} {v u : ℕ} (F : FillingKids s es n nodes w₀ w v u) where
   abbrev ps : List (List ℕ)
   ps = patternsIn s es n w₀
 
   kids-kept : SameBelow KID w₀ w
   kids-kept = only-kept KID (F .only) (λ p q. q .from)
 
-  pub kids-placed : u ≤ count → ParentCells w u
+  pub kids-placed : u ≤ nodes → ParentCells w u
   kids-placed h = placed (numbered-kept kids-kept (F .numbered)) (F .some) h
 
   -- node u has a parent below v
-  pub kids-pass : {b : Bool} (u′ : ℕ) → b ≡ true → b ≡ leb u count && ltb (parentOf w u) v → u′ ≡ u + 1 → FillingKids s es n count w₀ w v u′
+  pub kids-pass : {b : Bool} (u′ : ℕ) → b ≡ true → b ≡ leb u nodes && ltb (parentOf w u) v → u′ ≡ u + 1 → FillingKids s es n nodes w₀ w v u′
   kids-pass u′ t e q =
-      let r = both (leb u count) (ltb (parentOf w u) v) (sym e ∙ t) in
-      let h : u ≤ count = leb-true u count (r .0) in
+      let r = both (leb u nodes) (ltb (parentOf w u) v) (sym e ∙ t) in
+      let h : u ≤ nodes = leb-true u nodes (r .0) in
       let l : parentOf w₀ u < v = rw (parent-kept (F .numbered) w u kids-kept (F .some) h) at (ltb-true (parentOf w u) v (r .1)) in
       record {
         numbered = F .numbered;
@@ -104,26 +104,26 @@ module _ {s es : List ℕ} {n count : ℕ} {w₀ w : List ℕ} {v u : ℕ} (F : 
       }
 
   -- it has none, so it is the first
-  kids-first : {b : Bool} → b ≡ false → b ≡ leb u count && ltb (parentOf w u) v → First ps (parentOf w₀) v u
+  kids-first : {b : Bool} → b ≡ false → b ≡ leb u nodes && ltb (parentOf w u) v → First ps (parentOf w₀) v u
   kids-first t e =
       record {
         some = F .some;
         inside = omega (arith, F .inside, F .numbered .all-nodes);
         below = F .passed;
         from = λ x m k.
-            let h : u ≤ count = omega (arith, m .inside, F .numbered .all-nodes) in
+            let h : u ≤ nodes = omega (arith, m .inside, F .numbered .all-nodes) in
             let i : Num ps u = record { some = F .some; inside = omega (arith, F .numbered .all-nodes) } in
             let l : v ≤ parentOf w u =
-            elim (one-of (leb u count) (ltb (parentOf w u) v) (sym e ∙ t)) [
-              | inl q ↦ absurd (omega (arith, leb-false u count q))
+            elim (one-of (leb u nodes) (ltb (parentOf w u) v) (sym e ∙ t)) [
+              | inl q ↦ absurd (omega (arith, leb-false u nodes q))
               | inr q ↦ ltb-false (parentOf w u) v q
             ] in
             parent-from (F .numbered) v u x i
             (rw (parent-kept (F .numbered) w u kids-kept (F .some) h) at l) m k;
       }
 
-  pub kids-put : {b : Bool} {w′ : List ℕ} (v′ : ℕ) → v ≤ count + 1 → b ≡ false → b ≡ leb u count && ltb (parentOf w u) v → Put w KID v u w′ → v′ ≡ v + 1
-      → FillingKids s es n count w₀ w′ v′ u
+  pub kids-put : {b : Bool} {w′ : List ℕ} (v′ : ℕ) → v ≤ nodes + 1 → b ≡ false → b ≡ leb u nodes && ltb (parentOf w u) v → Put w KID v u w′ → v′ ≡ v + 1
+      → FillingKids s es n nodes w₀ w′ v′ u
   kids-put {w′ = w′} v′ h t e p q =
       let f = F .numbered .few-nodes in
       let here : KID + v < length w = omega (arith, F .only .same, F .numbered .room) in
@@ -140,12 +140,12 @@ module _ {s es : List ℕ} {n count : ℕ} {w₀ w : List ℕ} {v u : ℕ} (F : 
         ];
       }
 
-  pub kids-room : v ≤ count + 1 → Room w KID v u
+  pub kids-room : v ≤ nodes + 1 → Room w KID v u
   kids-room h =
       let f = F .numbered .few-nodes in
       record { within = omega (arith, F .only .same, F .numbered .room); small = omega (arith, F .inside) }
 
-  pub kids-all : count + 1 < v → KidsFilled s es n count w₀ w
+  pub kids-all : nodes + 1 < v → KidsFilled s es n nodes w₀ w
   kids-all h =
       let N = F .numbered in
       record {

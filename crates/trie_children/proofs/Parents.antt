@@ -18,7 +18,7 @@ use lib.Seq.{take-suc}
 use borrow.Author.Tests.{lt-ltb, le-ltb, le-leb, lt-leb}
 use Rattle.trays.specs.Slips.{slip, startOf}
 use Rattle.tables.specs.Tables.{Got}
-use Rattle.matching.specs.Nodes.{nodes, string, IsNode, Num}
+use Rattle.matching.specs.Nodes.{nodesOf, string, IsNode, Num}
 use Rattle.matching.proofs.NodeLaws.{nodes-numbered, is-root}
 use Rattle.matching.proofs.Numbered as T
 use Rattle.layout.specs.Layout.{AT, OWN, LEVEL, KID}
@@ -52,13 +52,13 @@ pub letter-got : (s w : List ℕ) (u p : ℕ) → Got w OWN u p → getD s p 0 �
 letter-got s w u p o = rw (o .is)
 
 -- the two ways of `hangs_below`
-pub hangs-past : (w : List ℕ) (count u v : ℕ) → count < u → false ≡ leb u count && ltb (parentOf w u) v
-hangs-past w count u v h = rw (lt-leb u count h)
+pub hangs-past : (w : List ℕ) (nodes u v : ℕ) → nodes < u → false ≡ leb u nodes && ltb (parentOf w u) v
+hangs-past w nodes u v h = rw (lt-leb u nodes h)
 
-pub hangs-here : (w : List ℕ) (count u v r : ℕ) → u ≤ count → r ≡ parentOf w u → ltb r v ≡ leb u count && ltb (parentOf w u) v
-hangs-here w count u v r h e = rw (le-leb u count h, e)
+pub hangs-here : (w : List ℕ) (nodes u v r : ℕ) → u ≤ nodes → r ≡ parentOf w u → ltb r v ≡ leb u nodes && ltb (parentOf w u) v
+hangs-here w nodes u v r h e = rw (le-leb u nodes h, e)
 
-module _ {s es : List ℕ} {n count : ℕ} {w : List ℕ} (N : Numbered s es n count w) where
+module _ {s es : List ℕ} {n nodes : ℕ} {w : List ℕ} (N : Numbered s es n nodes w) where
   open AreaSlips (areaSlips s es n w) using (ss, ps)
 
   -- a node where it stands: its string, its letter, its place
@@ -92,7 +92,7 @@ module _ {s es : List ℕ} {n count : ℕ} {w : List ℕ} (N : Numbered s es n c
               rw (parent-longer w v (omega arith)) (rw (e, f) at (N .at (o .member) d (o .among) (omega (arith, o .within))))
         ]
 
-  pub placed : {v : ℕ} → 1 ≤ v → v ≤ count → ParentCells w v
+  pub placed : {v : ℕ} → 1 ≤ v → v ≤ nodes → ParentCells w v
   placed {v} h l =
       let m : Num ps v = record { some = h; inside = omega (arith, N .all-nodes) } in
       let r = N .room in
@@ -104,13 +104,13 @@ module _ {s es : List ℕ} {n count : ℕ} {w : List ℕ} (N : Numbered s es n c
         before = λ k. (omega (arith, N .level .back 2 v (omega arith) (omega arith) m k, owned-length N v m, N .own v m .place), omega (arith, p .1));
       }
 
-  pub lettered : {v : ℕ} → 1 ≤ v → v ≤ count → Lettered s w v
+  pub lettered : {v : ℕ} → 1 ≤ v → v ≤ nodes → Lettered s w v
   lettered {v} h l =
       let m : Num ps v = record { some = h; inside = omega (arith, N .all-nodes) } in
       record { own = placed h l .own; within = owned-place N v m .0 }
 
   -- cells above those of the numbering do not tell
-  pub parent-kept : (w′ : List ℕ) (v : ℕ) → SameBelow KID w w′ → 1 ≤ v → v ≤ count → parentOf w′ v ≡ parentOf w v
+  pub parent-kept : (w′ : List ℕ) (v : ℕ) → SameBelow KID w w′ → 1 ≤ v → v ≤ nodes → parentOf w′ v ≡ parentOf w v
   parent-kept w′ v k h l =
       let m : Num ps v = record { some = h; inside = omega (arith, N .all-nodes) } in
       let a : cell w′ LEVEL 2 ≡ cell w LEVEL 2 = k .cells (LEVEL + 2) (omega arith) in
@@ -119,7 +119,7 @@ module _ {s es : List ℕ} {n count : ℕ} {w : List ℕ} (N : Numbered s es n c
       k .cells (AT + (cell w OWN v - 1)) (omega (arith, owned-place N v m .1)) in
       rw (a, b, c)
 
-  pub parents-tree : T.Tree (nodes ps) (parentOf w) (letterOf s w)
+  pub parents-tree : T.Tree (nodesOf ps) (parentOf w) (letterOf s w)
   parents-tree =
       record {
         par-in = λ v m. parent-is v (record { some = m .0; inside = m .1 }) .inside;
@@ -130,12 +130,12 @@ module _ {s es : List ℕ} {n count : ℕ} {w : List ℕ} (N : Numbered s es n c
 
   -- what any numbering and tree have
   pub parent-below : {v : ℕ} → Num ps v → parentOf w v < v
-  parent-below {v} m = T.par-below ps (nodes ps) (nodes-numbered ps) (parentOf w) (letterOf s w) parents-tree v (m .some, m .inside)
+  parent-below {v} m = T.par-below ps (nodesOf ps) (nodes-numbered ps) (parentOf w) (letterOf s w) parents-tree v (m .some, m .inside)
 
   pub parents-ascend : {u v : ℕ} → Num ps u → Num ps v → u < v →
       (parentOf w u < parentOf w v) ⊎ ((parentOf w u ≡ parentOf w v) × (letterOf s w u < letterOf s w v))
   parents-ascend {u} {v} m k h =
-      T.par-last ps (nodes ps) (nodes-numbered ps) (parentOf w) (letterOf s w) parents-tree u v (m .some, m .inside) (k .some, k .inside) h
+      T.par-last ps (nodesOf ps) (nodes-numbered ps) (parentOf w) (letterOf s w) parents-tree u v (m .some, m .inside) (k .some, k .inside) h
 
-  pub child-parent : {u : ℕ} (v c : ℕ) → Num ps u → v < length (nodes ps) → string ps u ≡ string ps v ++ (c ∷ []) → (parentOf w u ≡ v) × (letterOf s w u ≡ c)
-  child-parent {u} v c m h e = T.is-child ps (nodes ps) (nodes-numbered ps) (parentOf w) (letterOf s w) parents-tree v c u (m .some, m .inside) h e
+  pub child-parent : {u : ℕ} (v c : ℕ) → Num ps u → v < length (nodesOf ps) → string ps u ≡ string ps v ++ (c ∷ []) → (parentOf w u ≡ v) × (letterOf s w u ≡ c)
+  child-parent {u} v c m h e = T.is-child ps (nodesOf ps) (nodes-numbered ps) (parentOf w) (letterOf s w) parents-tree v c u (m .some, m .inside) h e

@@ -34,28 +34,28 @@ pub record Lettered (s w : List ℕ) (u : ℕ) : Type 0 where
   pub own : OWN + u < length w
   pub within : cell w OWN u < length s
 
-pub record Near (s es : List ℕ) (n count : ℕ) (w : List ℕ) : Type 0 where
-  pub branched : Branched s es n count w
+pub record Near (s es : List ℕ) (n nodes : ℕ) (w : List ℕ) : Type 0 where
+  pub branched : Branched s es n nodes w
   pub near : NearIs (patternsIn s es n w) (cell w NEAR)
 
-pub record CanFill (s es : List ℕ) (n count : ℕ) (w : List ℕ) (v : ℕ) : Type 0 where
-  pub branched : Branched s es n count w
-  pub node : v ≤ count
+pub record CanFill (s es : List ℕ) (n nodes : ℕ) (w : List ℕ) (v : ℕ) : Type 0 where
+  pub branched : Branched s es n nodes w
+  pub node : v ≤ nodes
   pub close : v < nearNodes
 
-pub record CanLook (s es : List ℕ) (n count : ℕ) (w : List ℕ) (v : ℕ) : Type 0 where
-  pub branched : Branched s es n count w
+pub record CanLook (s es : List ℕ) (n nodes : ℕ) (w : List ℕ) (v : ℕ) : Type 0 where
+  pub branched : Branched s es n nodes w
   pub near : NearIs (patternsIn s es n w) (cell w NEAR)
-  pub node : v ≤ count
+  pub node : v ≤ nodes
 
-pub record KidsFilled (s es : List ℕ) (n count : ℕ) (w w′ : List ℕ) : Type 0 where
-  pub branched : Branched s es n count w′
+pub record KidsFilled (s es : List ℕ) (n nodes : ℕ) (w w′ : List ℕ) : Type 0 where
+  pub branched : Branched s es n nodes w′
   pub only : Only (Cells KID 2002) w w′
 
-pub record RowFilled (s es : List ℕ) (n count v : ℕ) (w w′ : List ℕ) : Type 0 where
+pub record RowFilled (s es : List ℕ) (n nodes v : ℕ) (w w′ : List ℕ) : Type 0 where
   pub row : (c : ℕ) → firstSign ≤ c → c ≤ lastSign → Child (patternsIn s es n w) v c (cell w′ NEAR (nearLetters * v + (c - firstSign)))
   pub only : Only (Cells (NEAR + nearLetters * v) nearLetters) w w′
 
-pub record NearFilled (s es : List ℕ) (n count : ℕ) (w w′ : List ℕ) : Type 0 where
-  pub known : Near s es n count w′
+pub record NearFilled (s es : List ℕ) (n nodes : ℕ) (w w′ : List ℕ) : Type 0 where
+  pub known : Near s es n nodes w′
   pub only : Only (Cells NEAR 1260) w w′

@@ -1,5 +1,5 @@
 // Parents and children of the nodes of the prefix automaton, in tables of the lent work area.
-// A tray has `letters` and `ends`; its `n` members stand in the work area, and the nodes of their beginnings have the numbers up to `count`.
+// A tray has `letters` and `ends`; its `n` members stand in the work area, and the nodes of their beginnings have the numbers up to `nodes`.
 ghost use mathlib.Core.Path.{_≡_};
 ghost use mathlib.Core.Bool.{_&&_};
 ghost use Prim.Native.Nat.{ℕ, _+_, _*_, _-_, _≤_, _<_};
@@ -32,25 +32,25 @@ pub fn letter(letters: &[u8], work: &[u16], u: usize) -> u8
 }
 
 // Whether `u` is a node whose parent has a lower number than `v`.
-fn hangs_below(work: &[u16], count: usize, u: usize, v: usize) -> bool
-    requires { ⌜ (u ≤ count → C.ParentCells (now work) u) ⌝ }
-    ensures { λ r. ⌜ r ≡ leb u count && ltb (C.parentOf (now (work .entry)) u) v ⌝ }
+fn hangs_below(work: &[u16], nodes: usize, u: usize, v: usize) -> bool
+    requires { ⌜ (u ≤ nodes → C.ParentCells (now work) u) ⌝ }
+    ensures { λ r. ⌜ r ≡ leb u nodes && ltb (C.parentOf (now (work .entry)) u) v ⌝ }
 {
-    if count < u {
+    if nodes < u {
         return false;
     }
     parent(work, u) < v
 }
 
 // Fills KID: parents ascend with their children, so the children of `v` begin at the first node whose parent is not below `v`.
-pub fn fill_kids(letters: &[u8], ends: &[u16], work: &mut [u16], n: usize, count: usize)
-    requires { ⌜ Numbered (now letters) (now ends) n count (now work) ⌝ }
-    ensures { λ _. ⌜ C.KidsFilled (now (letters .entry)) (now (ends .entry)) n count (now (work .entry)) (now (work .exit)) ⌝ }
+pub fn fill_kids(letters: &[u8], ends: &[u16], work: &mut [u16], n: usize, nodes: usize)
+    requires { ⌜ Numbered (now letters) (now ends) n nodes (now work) ⌝ }
+    ensures { λ _. ⌜ C.KidsFilled (now (letters .entry)) (now (ends .entry)) n nodes (now (work .entry)) (now (work .exit)) ⌝ }
 {
     let mut v: usize = 0;
     let mut u: usize = 1;
-    while v <= count + 1 {
-        let below = hangs_below(work, count, u, v);
+    while v <= nodes + 1 {
+        let below = hangs_below(work, nodes, u, v);
         if below {
             u += 1;
         } else {
@@ -66,12 +66,12 @@ fn scan_child(
     ends: &[u16],
     work: &[u16],
     n: usize,
-    count: usize,
+    nodes: usize,
     v: usize,
     c: u8,
 ) -> usize
-    requires { ⌜ Branched (now letters) (now ends) n count (now work) ⌝ }
-    requires { ⌜ v ≤ count ⌝ }
+    requires { ⌜ Branched (now letters) (now ends) n nodes (now work) ⌝ }
+    requires { ⌜ v ≤ nodes ⌝ }
     ensures { λ r. ⌜ Child (patternsIn (now (letters .entry)) (now (ends .entry)) n (now (work .entry))) v c r ⌝ }
 {
     let end = tables::at(work, layout::KID, v + 1);
@@ -100,13 +100,13 @@ fn near_cell(v: usize, c: u8) -> usize
 }
 
 // The row of NEAR for node `v`, filled by scans.
-fn fill_row(letters: &[u8], ends: &[u16], work: &mut [u16], n: usize, count: usize, v: usize)
-    requires { ⌜ C.CanFill (now letters) (now ends) n count (now work) v ⌝ }
-    ensures { λ _. ⌜ C.RowFilled (now (letters .entry)) (now (ends .entry)) n count v (now (work .entry)) (now (work .exit)) ⌝ }
+fn fill_row(letters: &[u8], ends: &[u16], work: &mut [u16], n: usize, nodes: usize, v: usize)
+    requires { ⌜ C.CanFill (now letters) (now ends) n nodes (now work) v ⌝ }
+    ensures { λ _. ⌜ C.RowFilled (now (letters .entry)) (now (ends .entry)) n nodes v (now (work .entry)) (now (work .exit)) ⌝ }
 {
     let mut c: u8 = layout::FIRST_SIGN;
     while c <= layout::LAST_SIGN {
-        let u = scan_child(letters, ends, work, n, count, v, c);
+        let u = scan_child(letters, ends, work, n, nodes, v, c);
         let cell = near_cell(v, c);
         tables::put(work, layout::NEAR, cell, u);
         c += 1;
@@ -114,16 +114,16 @@ fn fill_row(letters: &[u8], ends: &[u16], work: &mut [u16], n: usize, count: usi
 }
 
 // Fills NEAR, for the root and the nodes next to it: most steps look at these.
-pub fn fill_near(letters: &[u8], ends: &[u16], work: &mut [u16], n: usize, count: usize)
-    requires { ⌜ Branched (now letters) (now ends) n count (now work) ⌝ }
-    ensures { λ _. ⌜ C.NearFilled (now (letters .entry)) (now (ends .entry)) n count (now (work .entry)) (now (work .exit)) ⌝ }
+pub fn fill_near(letters: &[u8], ends: &[u16], work: &mut [u16], n: usize, nodes: usize)
+    requires { ⌜ Branched (now letters) (now ends) n nodes (now work) ⌝ }
+    ensures { λ _. ⌜ C.NearFilled (now (letters .entry)) (now (ends .entry)) n nodes (now (work .entry)) (now (work .exit)) ⌝ }
 {
     let mut v: usize = 0;
     while v < layout::NEAR_NODES {
-        if count < v {
+        if nodes < v {
             return;
         }
-        fill_row(letters, ends, work, n, count, v);
+        fill_row(letters, ends, work, n, nodes, v);
         v += 1;
     }
 }
@@ -134,11 +134,11 @@ pub fn child(
     ends: &[u16],
     work: &[u16],
     n: usize,
-    count: usize,
+    nodes: usize,
     v: usize,
     c: u8,
 ) -> usize
-    requires { ⌜ C.CanLook (now letters) (now ends) n count (now work) v ⌝ }
+    requires { ⌜ C.CanLook (now letters) (now ends) n nodes (now work) v ⌝ }
     ensures { λ r. ⌜ Child (patternsIn (now (letters .entry)) (now (ends .entry)) n (now (work .entry))) v c r ⌝ }
 {
     if v < layout::NEAR_NODES {
@@ -149,5 +149,5 @@ pub fn child(
             }
         }
     }
-    scan_child(letters, ends, work, n, count, v, c)
+    scan_child(letters, ends, work, n, nodes, v, c)
 }

@@ -29,17 +29,17 @@ use Rattle.trie_heads.proofs.Threading.{drop-here, drop-later, push-lis
 use Rattle.trie_heads.proofs.Keeping.{kept-trans, kept-filled, kept-pushed, cleared}
 use Rattle.trie_heads.proofs.MemberNodes.{Member, got-member, node-num, node-most}
 
-pub record Heading (s es : List ℕ) (n count : ℕ) (w : List ℕ) (j : ℕ) : Type 0 where
-  pub automaton : Automaton s es n count w
+pub record Heading (s es : List ℕ) (n nodes : ℕ) (w : List ℕ) (j : ℕ) : Type 0 where
+  pub automaton : Automaton s es n nodes w
   pub upto : j ≤ n
   pub lists : Lists (Num (patternsIn s es n w)) (λ v r. r) (cell w HEAD) (cell w TWIN)
       (λ v. owners (slipsOf s es) (drop j (members w n)) (string (patternsIn s es n w) v))
 
-module _ {s es : List ℕ} {n count : ℕ} {w : List ℕ} where
-  pub heading-room : Automaton s es n count w → HEAD + (count + 1) ≤ length w
+module _ {s es : List ℕ} {n nodes : ℕ} {w : List ℕ} where
+  pub heading-room : Automaton s es n nodes w → HEAD + (nodes + 1) ≤ length w
   heading-room A = omega (arith, A .branched .numbered .room, A .branched .numbered .few-nodes)
 
-  pub heading-start : {w′ : List ℕ} → Automaton s es n count w → Filled HEAD (count + 1) (replicate (count + 1) 0) w w′ → Heading s es n count w′ n
+  pub heading-start : {w′ : List ℕ} → Automaton s es n nodes w → Filled HEAD (nodes + 1) (replicate (nodes + 1) 0) w w′ → Heading s es n nodes w′ n
   heading-start {w′} A f =
       let B = automaton-kept (kept-filled f) A in
       let N = B .branched .numbered in
@@ -50,11 +50,11 @@ module _ {s es : List ℕ} {n count : ℕ} {w : List ℕ} where
             rw (drop-of-length-le (members w′ n) {i = n} (rw (members-length N) (omega arith))) (λ v m. cleared f (omega (arith, num-most N v m)));
       }
 
-  pub heading-place : {j : ℕ} → Heading s es n count w j → 0 < j → MEMBERS + (j - 1) < length w
+  pub heading-place : {j : ℕ} → Heading s es n nodes w j → 0 < j → MEMBERS + (j - 1) < length w
   heading-place {j} H h = omega (arith, H .upto, H .automaton .branched .numbered .few-members, H .automaton .branched .numbered .room)
 
-  pub heading-all : {a w′ : List ℕ} {j : ℕ} → Filled HEAD (count + 1) (replicate (count + 1) 0) w a → SameBelow HEAD a w′ → Heading s es n count w′ j →
-      j ≤ 0 → HeadsFilled s es n count w w′
+  pub heading-all : {a w′ : List ℕ} {j : ℕ} → Filled HEAD (nodes + 1) (replicate (nodes + 1) 0) w a → SameBelow HEAD a w′ → Heading s es n nodes w′ j →
+      j ≤ 0 → HeadsFilled s es n nodes w w′
   heading-all {w′ = w′} {j = j} f k H l =
       let e : j ≡ 0 = omega arith in
       record {
@@ -62,11 +62,11 @@ module _ {s es : List ℕ} {n count : ℕ} {w : List ℕ} where
         below = kept-trans (kept-filled f) k;
       }
 
-  module _ {j i : ℕ} (H : Heading s es n count w j) (h : 0 < j) (g : Got w MEMBERS (j - 1) i) where
+  module _ {j i : ℕ} (H : Heading s es n nodes w j) (h : 0 < j) (g : Got w MEMBERS (j - 1) i) where
     heading-member : Member s es n w i
     heading-member = got-member (H .automaton .branched .numbered) g (omega (arith, H .upto))
 
-    pub heading-among : Among s es n count w i
+    pub heading-among : Among s es n nodes w i
     heading-among = record { automaton = H .automaton; member = heading-member .among }
 
     module _ {v : ℕ} (m : IsNode (patternsIn s es n w) v (slip (slipsOf s es) i)) where
@@ -84,7 +84,7 @@ module _ {s es : List ℕ} {n count : ℕ} {w : List ℕ} where
       pub heading-kept : {w′ : List ℕ} → Pushed w HEAD v TWIN i i w′ → SameBelow HEAD w w′
       heading-kept x = kept-pushed (omega arith) x
 
-      pub heading-more : {w′ : List ℕ} → Pushed w HEAD v TWIN i i w′ → Heading s es n count w′ (j - 1)
+      pub heading-more : {w′ : List ℕ} → Pushed w HEAD v TWIN i i w′ → Heading s es n nodes w′ (j - 1)
       heading-more {w′} x =
           let k = heading-kept x in
           let N = H .automaton .branched .numbered in

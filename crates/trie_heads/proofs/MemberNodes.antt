@@ -44,7 +44,7 @@ pub record Member (s es : List ℕ) (n : ℕ) (w : List ℕ) (i : ℕ) : Type 0 
   pub size : startOf es i + length (slip (slipsOf s es) i) ≡ endOf es i
   pub fits : endOf es i ≤ maxLetters
 
-module _ {s es : List ℕ} {n count : ℕ} {w : List ℕ} (N : Numbered s es n count w) where
+module _ {s es : List ℕ} {n nodes : ℕ} {w : List ℕ} (N : Numbered s es n nodes w) where
   pub in-member : (i : ℕ) → In i (members w n) → Member s es n w i
   in-member i m =
       let (h, l) = N .real i m in
@@ -73,11 +73,11 @@ module _ {s es : List ℕ} {n count : ℕ} {w : List ℕ} (N : Numbered s es n c
       let f : suc c ≡ length x = omega (arith, m .letters) in
       rw (e, f, take-all (length x) x (omega arith)) at (N .at i c (m .among) (omega (arith, m .letters)))
 
-  pub node-most : {v : ℕ} {x : List ℕ} → IsNode (patternsIn s es n w) v x → v ≤ count
+  pub node-most : {v : ℕ} {x : List ℕ} → IsNode (patternsIn s es n w) v x → v ≤ nodes
   node-most v = omega (arith, v .inside, N .all-nodes)
 
 -- what `node_of` asks and gives
-module _ {s es : List ℕ} {n count : ℕ} {w : List ℕ} {i : ℕ} (a : Among s es n count w i) where
+module _ {s es : List ℕ} {n nodes : ℕ} {w : List ℕ} {i : ℕ} (a : Among s es n nodes w i) where
   pub among-member : Member s es n w i
   among-member = in-member (a .automaton .branched .numbered) i (a .member)
 

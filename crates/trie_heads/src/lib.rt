@@ -12,10 +12,10 @@ pub fn node_of(
     ends: &[u16],
     work: &[u16],
     n: usize,
-    count: usize,
+    nodes: usize,
     i: usize,
 ) -> usize
-    requires { ⌜ N.Among (now letters) (now ends) n count (now work) i ⌝ }
+    requires { ⌜ N.Among (now letters) (now ends) n nodes (now work) i ⌝ }
     ensures { λ r. ⌜ IsNode (patternsIn (now (letters .entry)) (now (ends .entry)) n (now (work .entry))) r
         (slip (slipsOf (now (letters .entry)) (now (ends .entry))) i) ⌝ }
 {
@@ -35,16 +35,16 @@ pub fn push(work: &mut [u16], heads: usize, u: usize, nexts: usize, p: usize, i:
 }
 
 // Fills HEAD and TWIN: from the last member on, each goes before those of its node, so that these ascend.
-pub fn fill_heads(letters: &[u8], ends: &[u16], work: &mut [u16], n: usize, count: usize)
-    requires { ⌜ Automaton (now letters) (now ends) n count (now work) ⌝ }
-    ensures { λ _. ⌜ N.HeadsFilled (now (letters .entry)) (now (ends .entry)) n count (now (work .entry)) (now (work .exit)) ⌝ }
+pub fn fill_heads(letters: &[u8], ends: &[u16], work: &mut [u16], n: usize, nodes: usize)
+    requires { ⌜ Automaton (now letters) (now ends) n nodes (now work) ⌝ }
+    ensures { λ _. ⌜ N.HeadsFilled (now (letters .entry)) (now (ends .entry)) n nodes (now (work .entry)) (now (work .exit)) ⌝ }
 {
-    tables::clear(work, layout::HEAD, count + 1);
+    tables::clear(work, layout::HEAD, nodes + 1);
     let mut j = n;
     while 0 < j {
         j -= 1;
         let i = tables::at(work, layout::MEMBERS, j);
-        let v = node_of(letters, ends, work, n, count, i);
+        let v = node_of(letters, ends, work, n, nodes, i);
         push(work, layout::HEAD, v, layout::TWIN, i, i);
     }
 }

@@ -11,7 +11,7 @@ use native.Mathlib.Omega.{arith}
 use lib.ListN.{length}
 use Rattle.tables.specs.Tables.{Got, Cells, Only, Put, Room}
 use Rattle.tables.proofs.Tables.{only-refl, only-trans, only-wider, cells-put, put-here, put-other}
-use Rattle.matching.specs.Nodes.{nodes, string, IsNode, Num}
+use Rattle.matching.specs.Nodes.{nodesOf, string, IsNode, Num}
 use Rattle.matching.proofs.States.{fail, step-state}
 use Rattle.matching.proofs.NodeLaws.{nodes-numbered, is-root, node-fails}
 use Rattle.matching.proofs.Paths.{fail-root, fail-from}
@@ -23,16 +23,16 @@ use Rattle.trie_children.specs.Children.{parentOf, letterOf, Near, KidsFilled, 
 use Rattle.trie_links.specs.Links.{StepIs, LinkIs, CanStep, CanLink, FailsFilled, LinksFilled}
 use Rattle.trie_children.proofs.Parents.{parents-tree, parent-below}
 
-module _ {s es : List ℕ} {n count : ℕ} {w : List ℕ} {v p : ℕ} (C : CanLink s es n count w v) (e : p ≡ parentOf w v) where
+module _ {s es : List ℕ} {n nodes : ℕ} {w : List ℕ} {v p : ℕ} (C : CanLink s es n nodes w v) (e : p ≡ parentOf w v) where
   abbrev ps : List (List ℕ)
   ps = patternsIn s es n w
 
-  inside : v < length (nodes ps)
+  inside : v < length (nodesOf ps)
   inside = omega (arith, C .node, C .branched .numbered .all-nodes)
 
   pub link-root : p ≡ 0 → LinkIs ps v 0
   link-root z =
-      rw (fail-root ps (nodes ps) (nodes-numbered ps) (parentOf w) (letterOf s w) (parents-tree (C .branched .numbered)) v (C .some, inside)
+      rw (fail-root ps (nodesOf ps) (nodes-numbered ps) (parentOf w) (letterOf s w) (parents-tree (C .branched .numbered)) v (C .some, inside)
       (sym e ∙ z)) (is-root ps)
 
   above : p < v
@@ -48,7 +48,7 @@ module _ {s es : List ℕ} {n count : ℕ} {w : List ℕ} {v p : ℕ} (C : CanLi
     from : IsNode ps f (fail ps (string ps p))
     from = rw (g .is) (C .links p above p parent (omega arith))
 
-    pub link-can : CanStep s es n count w f
+    pub link-can : CanStep s es n nodes w f
     link-can =
         let l = node-fails ps p parent from in
         record {
@@ -65,18 +65,18 @@ module _ {s es : List ℕ} {n count : ℕ} {w : List ℕ} {v p : ℕ} (C : CanLi
         record {
           inside = i .state .inside;
           is = i .state .is ∙ step-state ps (suc (length x)) x c 0 (omega arith)
-              ∙ sym (rw q (fail-from ps (nodes ps) (nodes-numbered ps) (parentOf w) (letterOf s w) t v f (C .some, inside) (rw e at (parent .some))
+              ∙ sym (rw q (fail-from ps (nodesOf ps) (nodes-numbered ps) (parentOf w) (letterOf s w) t v f (C .some, inside) (rw e at (parent .some))
               (rw e at (from .is))));
         }
 
-pub record FillingFails (s es : List ℕ) (n count : ℕ) (w₀ w : List ℕ) (v : ℕ) : Type 0 where
-  pub known : Near s es n count w₀
+pub record FillingFails (s es : List ℕ) (n nodes : ℕ) (w₀ w : List ℕ) (v : ℕ) : Type 0 where
+  pub known : Near s es n nodes w₀
   pub only : Only (Cells FAIL 2001) w₀ w
   pub some : 1 ≤ v
-  pub upto : v ≤ count + 1
+  pub upto : v ≤ nodes + 1
   pub links : (k : ℕ) → k < v → FailUpTo (patternsIn s es n w₀) k (cell w FAIL)
 
-pub fails-start : {s es : List ℕ} {n count : ℕ} {w : List ℕ} → Near s es n count w → FillingFails s es n count w w 1
+pub fails-start : {s es : List ℕ} {n nodes : ℕ} {w : List ℕ} → Near s es n nodes w → FillingFails s es n nodes w w 1
 fails-start K =
     record {
       known = K;
@@ -86,33 +86,33 @@ fails-start K =
       links = λ k h x m l. absurd (omega (arith, m .some));
     }
 
-module _ {s es : List ℕ} {n count : ℕ} {w₀ w : List ℕ} {v : ℕ} (F : FillingFails s es n count w₀ w v) where
+module _ {s es : List ℕ} {n nodes : ℕ} {w₀ w : List ℕ} {v : ℕ} (F : FillingFails s es n nodes w₀ w v) where
   kept : SameBelow FAIL w₀ w
   kept = only-kept FAIL (F .only) (λ p q. q .from)
 
   same-patterns : patternsIn s es n w ≡ patternsIn s es n w₀
   same-patterns = patterns-kept (F .known .branched .numbered) (omega arith) kept
 
-  known : Near s es n count w
+  known : Near s es n nodes w
   known =
       let B = F .known .branched in
       record { branched = branched-kept (kept-lower NEAR (omega arith) kept) B; near = near-kept kept (B .numbered) (F .known .near) }
 
-  pub fails-can : v ≤ count → CanLink s es n count w v
+  pub fails-can : v ≤ nodes → CanLink s es n nodes w v
   fails-can h =
       record { branched = known .branched; near = known .near; some = F .some; node = h; links = rw same-patterns (F .links) }
 
-  module _ {r : ℕ} (h : v ≤ count) (i : LinkIs (patternsIn s es n w) v r) where
+  module _ {r : ℕ} (h : v ≤ nodes) (i : LinkIs (patternsIn s es n w) v r) where
     pub fails-room : Room w FAIL v r
     fails-room =
         let N = F .known .branched .numbered in
         let f = N .few-nodes in
         record {
           within = omega (arith, F .only .same, N .room);
-          small = omega (arith, i .inside, ap (λ q. length (nodes q)) same-patterns, N .all-nodes);
+          small = omega (arith, i .inside, ap (λ q. length (nodesOf q)) same-patterns, N .all-nodes);
         }
 
-    pub fails-put : {w′ : List ℕ} (v′ : ℕ) → Put w FAIL v r w′ → v′ ≡ v + 1 → FillingFails s es n count w₀ w′ v′
+    pub fails-put : {w′ : List ℕ} (v′ : ℕ) → Put w FAIL v r w′ → v′ ≡ v + 1 → FillingFails s es n nodes w₀ w′ v′
     fails-put v′ p e =
         let here : FAIL + v < length w = fails-room .within in
         record {
@@ -126,7 +126,7 @@ module _ {s es : List ℕ} {n count : ℕ} {w₀ w : List ℕ} {v : ℕ} (F : Fi
           ];
         }
 
-  pub fails-all : count < v → FailsFilled s es n count w₀ w
+  pub fails-all : nodes < v → FailsFilled s es n nodes w₀ w
   fails-all h =
       record {
         automaton = record {
@@ -137,9 +137,9 @@ module _ {s es : List ℕ} {n count : ℕ} {w₀ w : List ℕ} {v : ℕ} (F : Fi
         only = F .only;
       }
 
-pub links-filled : {s es : List ℕ} {n count : ℕ} {w w₁ w₂ w₃ : List ℕ} → KidsFilled s es n count w w₁ → NearFilled s es n count w₁ w₂ →
-    FailsFilled s es n count w₂ w₃
-    → LinksFilled s es n count w w₃
+pub links-filled : {s es : List ℕ} {n nodes : ℕ} {w w₁ w₂ w₃ : List ℕ} → KidsFilled s es n nodes w w₁ → NearFilled s es n nodes w₁ w₂ →
+    FailsFilled s es n nodes w₂ w₃
+    → LinksFilled s es n nodes w w₃
 links-filled k g f =
     record {
       automaton = f .automaton;

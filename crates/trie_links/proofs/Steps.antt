@@ -32,26 +32,26 @@ step-fall ps (a ∷ x) c d h e =
     step-drop ps (suc (length x)) a x c d e
     ∙ step-enough ps (suc (length x)) (suc (length (longestEnding x ps))) (longestEnding x ps) c (suc d) (omega arith) (omega arith)
 
-pub record Dropping (s es : List ℕ) (n count : ℕ) (w : List ℕ) (v c u d : ℕ) : Type 0 where
-  pub can : CanStep s es n count w v
+pub record Dropping (s es : List ℕ) (n nodes : ℕ) (w : List ℕ) (v c u d : ℕ) : Type 0 where
+  pub can : CanStep s es n nodes w v
   pub low : u + d ≤ v
   pub goes : step (patternsIn s es n w) (string (patternsIn s es n w) v) c
       ≡ stepFrom (suc (length (string (patternsIn s es n w) u))) (patternsIn s es n w) (string (patternsIn s es n w) u) c d
 
-pub dropping-start : {s es : List ℕ} {n count : ℕ} {w : List ℕ} {v : ℕ} (c : ℕ) → CanStep s es n count w v → Dropping s es n count w v c v 0
+pub dropping-start : {s es : List ℕ} {n nodes : ℕ} {w : List ℕ} {v : ℕ} (c : ℕ) → CanStep s es n nodes w v → Dropping s es n nodes w v c v 0
 dropping-start c can = record { can = can; low = omega arith; goes = refl }
 
-module _ {s es : List ℕ} {n count : ℕ} {w : List ℕ} {v c u d : ℕ} (D : Dropping s es n count w v c u d) where
+module _ {s es : List ℕ} {n nodes : ℕ} {w : List ℕ} {v c u d : ℕ} (D : Dropping s es n nodes w v c u d) where
   abbrev ps : List (List ℕ)
   ps = patternsIn s es n w
 
   reached : {r : ℕ} {x : List ℕ} → step ps (string ps v) c ≡ stepped x d → IsNode ps r x → StepIs ps v c r d
   reached e m = record { state = record { inside = m .inside; is = m .is ∙ sym (ap (λ y. y .state) e) }; drops = sym (ap (λ y. y .drops) e) }
 
-  dropping-inside : u ≤ count
+  dropping-inside : u ≤ nodes
   dropping-inside = omega (arith, D .low, D .can .node)
 
-  pub dropping-looks : CanLook s es n count w u
+  pub dropping-looks : CanLook s es n nodes w u
   dropping-looks = record { branched = D .can .branched; near = D .can .near; node = dropping-inside }
 
   pub dropping-extends : {r : ℕ} → Child ps u c r → (r ≡ 0 → ⊥) → StepIs ps v c r d
@@ -76,7 +76,7 @@ module _ {s es : List ℕ} {n count : ℕ} {w : List ℕ} {v c u d : ℕ} (D : D
     pub dropping-falls : f < u
     dropping-falls = node-fails ps u here link
 
-    pub dropping-more : {r : ℕ} (d′ : ℕ) → Child ps u c r → r ≡ 0 → d′ ≡ d + 1 → Dropping s es n count w v c f d′
+    pub dropping-more : {r : ℕ} (d′ : ℕ) → Child ps u c r → r ≡ 0 → d′ ≡ d + 1 → Dropping s es n nodes w v c f d′
     dropping-more d′ k h e =
         let q : d′ ≡ suc d = omega arith in
         record {
@@ -86,10 +86,10 @@ module _ {s es : List ℕ} {n count : ℕ} {w : List ℕ} {v c u d : ℕ} (D : D
         }
 
 -- where all links are known a step is made from any node
-pub automaton-steps : {s es : List ℕ} {n count : ℕ} {w : List ℕ} (v : ℕ) → Automaton s es n count w → v ≤ count → CanStep s es n count w v
+pub automaton-steps : {s es : List ℕ} {n nodes : ℕ} {w : List ℕ} (v : ℕ) → Automaton s es n nodes w → v ≤ nodes → CanStep s es n nodes w v
 automaton-steps v A h = record { branched = A .branched; near = A .near; node = h; links = λ x m l. A .fails x m }
 
-pub node-within : {s es : List ℕ} {n count : ℕ} {w : List ℕ} {u : ℕ} {x : List ℕ} → Numbered s es n count w → IsNode (patternsIn s es n w) u x → u ≤ count
+pub node-within : {s es : List ℕ} {n nodes : ℕ} {w : List ℕ} {u : ℕ} {x : List ℕ} → Numbered s es n nodes w → IsNode (patternsIn s es n w) u x → u ≤ nodes
 node-within N m = omega (arith, m .inside, N .all-nodes)
 
 -- the state after a text, letter by letter

@@ -22,23 +22,23 @@ pub record StepIs (ps : List (List ℕ)) (v c u d : ℕ) : Type 0 where
 abbrev pub LinkIs : List (List ℕ) → ℕ → ℕ → Type 0
 LinkIs ps v r = IsNode ps r (longestEnding (tailOf (string ps v)) ps)
 
-pub record CanStep (s es : List ℕ) (n count : ℕ) (w : List ℕ) (v : ℕ) : Type 0 where
-  pub branched : Branched s es n count w
+pub record CanStep (s es : List ℕ) (n nodes : ℕ) (w : List ℕ) (v : ℕ) : Type 0 where
+  pub branched : Branched s es n nodes w
   pub near : NearIs (patternsIn s es n w) (cell w NEAR)
-  pub node : v ≤ count
+  pub node : v ≤ nodes
   pub links : FailUpTo (patternsIn s es n w) v (cell w FAIL)
 
-pub record CanLink (s es : List ℕ) (n count : ℕ) (w : List ℕ) (v : ℕ) : Type 0 where
-  pub branched : Branched s es n count w
+pub record CanLink (s es : List ℕ) (n nodes : ℕ) (w : List ℕ) (v : ℕ) : Type 0 where
+  pub branched : Branched s es n nodes w
   pub near : NearIs (patternsIn s es n w) (cell w NEAR)
   pub some : 1 ≤ v
-  pub node : v ≤ count
+  pub node : v ≤ nodes
   pub links : (k : ℕ) → k < v → FailUpTo (patternsIn s es n w) k (cell w FAIL)
 
-pub record FailsFilled (s es : List ℕ) (n count : ℕ) (w w′ : List ℕ) : Type 0 where
-  pub automaton : Automaton s es n count w′
+pub record FailsFilled (s es : List ℕ) (n nodes : ℕ) (w w′ : List ℕ) : Type 0 where
+  pub automaton : Automaton s es n nodes w′
   pub only : Only (Cells FAIL 2001) w w′
 
-pub record LinksFilled (s es : List ℕ) (n count : ℕ) (w w′ : List ℕ) : Type 0 where
-  pub automaton : Automaton s es n count w′
+pub record LinksFilled (s es : List ℕ) (n nodes : ℕ) (w w′ : List ℕ) : Type 0 where
+  pub automaton : Automaton s es n nodes w′
   pub only : Only (Cells KID 5263) w w′

@@ -1,5 +1,5 @@
 // The step and failure links of the prefix automaton, in tables of the lent work area.
-// A tray has `letters` and `ends`; its `n` members stand in the work area, and the nodes of their beginnings have the numbers up to `count`.
+// A tray has `letters` and `ends`; its `n` members stand in the work area, and the nodes of their beginnings have the numbers up to `nodes`.
 ghost use Rattle.layout.specs.Numbered.{patternsIn, Numbered};
 ghost use Rattle.trie_children.specs.Children as C;
 ghost use Rattle.trie_links.specs.Links as L;
@@ -16,17 +16,17 @@ pub fn step(
     ends: &[u16],
     work: &[u16],
     n: usize,
-    count: usize,
+    nodes: usize,
     v: usize,
     c: u8,
 ) -> StepEnd
-    requires { ⌜ L.CanStep (now letters) (now ends) n count (now work) v ⌝ }
+    requires { ⌜ L.CanStep (now letters) (now ends) n nodes (now work) v ⌝ }
     ensures { λ r. ⌜ L.StepIs (patternsIn (now (letters .entry)) (now (ends .entry)) n (now (work .entry))) v c (r .state) (r .drops) ⌝ }
 {
     let mut state = v;
     let mut drops: usize = 0;
     loop {
-        let u = trie_children::child(letters, ends, work, n, count, state, c);
+        let u = trie_children::child(letters, ends, work, n, nodes, state, c);
         if u != 0 {
             return StepEnd {
                 state: u,
@@ -45,8 +45,8 @@ pub fn step(
 }
 
 // The failure link of node `v`, where those of lower nodes are known: one step on its letter from its parent's link.
-fn failure(letters: &[u8], ends: &[u16], work: &[u16], n: usize, count: usize, v: usize) -> usize
-    requires { ⌜ L.CanLink (now letters) (now ends) n count (now work) v ⌝ }
+fn failure(letters: &[u8], ends: &[u16], work: &[u16], n: usize, nodes: usize, v: usize) -> usize
+    requires { ⌜ L.CanLink (now letters) (now ends) n nodes (now work) v ⌝ }
     ensures { λ r. ⌜ L.LinkIs (patternsIn (now (letters .entry)) (now (ends .entry)) n (now (work .entry))) v r ⌝ }
 {
     let above = trie_children::parent(work, v);
@@ -55,29 +55,29 @@ fn failure(letters: &[u8], ends: &[u16], work: &[u16], n: usize, count: usize, v
     }
     let from = tables::at(work, layout::FAIL, above);
     let c = trie_children::letter(letters, work, v);
-    let next = step(letters, ends, work, n, count, from, c);
+    let next = step(letters, ends, work, n, nodes, from, c);
     next.state
 }
 
 // Fills FAIL, node by node: a node's parent and its link have lower numbers.
-fn fill_fails(letters: &[u8], ends: &[u16], work: &mut [u16], n: usize, count: usize)
-    requires { ⌜ C.Near (now letters) (now ends) n count (now work) ⌝ }
-    ensures { λ _. ⌜ L.FailsFilled (now (letters .entry)) (now (ends .entry)) n count (now (work .entry)) (now (work .exit)) ⌝ }
+fn fill_fails(letters: &[u8], ends: &[u16], work: &mut [u16], n: usize, nodes: usize)
+    requires { ⌜ C.Near (now letters) (now ends) n nodes (now work) ⌝ }
+    ensures { λ _. ⌜ L.FailsFilled (now (letters .entry)) (now (ends .entry)) n nodes (now (work .entry)) (now (work .exit)) ⌝ }
 {
     let mut v: usize = 1;
-    while v <= count {
-        let link = failure(letters, ends, work, n, count, v);
+    while v <= nodes {
+        let link = failure(letters, ends, work, n, nodes, v);
         tables::put(work, layout::FAIL, v, link);
         v += 1;
     }
 }
 
 // Fills KID, NEAR and FAIL.
-pub fn fill_links(letters: &[u8], ends: &[u16], work: &mut [u16], n: usize, count: usize)
-    requires { ⌜ Numbered (now letters) (now ends) n count (now work) ⌝ }
-    ensures { λ _. ⌜ L.LinksFilled (now (letters .entry)) (now (ends .entry)) n count (now (work .entry)) (now (work .exit)) ⌝ }
+pub fn fill_links(letters: &[u8], ends: &[u16], work: &mut [u16], n: usize, nodes: usize)
+    requires { ⌜ Numbered (now letters) (now ends) n nodes (now work) ⌝ }
+    ensures { λ _. ⌜ L.LinksFilled (now (letters .entry)) (now (ends .entry)) n nodes (now (work .entry)) (now (work .exit)) ⌝ }
 {
-    trie_children::fill_kids(letters, ends, work, n, count);
-    trie_children::fill_near(letters, ends, work, n, count);
-    fill_fails(letters, ends, work, n, count);
+    trie_children::fill_kids(letters, ends, work, n, nodes);
+    trie_children::fill_near(letters, ends, work, n, nodes);
+    fill_fails(letters, ends, work, n, nodes);
 }

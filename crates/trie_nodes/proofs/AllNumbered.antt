@@ -8,7 +8,7 @@ use lib.ListN.{length, getD, take, length-map}
 use Rattle.words.proofs.Picks.{in-getD}
 use Rattle.trays.specs.Limits.{maxSlip, maxLetters}
 use Rattle.trays.specs.Slips.{slip, startOf}
-use Rattle.matching.specs.Nodes.{nodes}
+use Rattle.matching.specs.Nodes.{nodesOf}
 use Rattle.matching.proofs.Numbering.{levelsUp, nodeAt, nodeAt-is}
 use Rattle.layout.specs.Layout.{LEVEL, AT, OWN}
 use Rattle.layout.specs.Tables.{cell, patterns, AtIs, OwnIs, LevelIs}
@@ -21,7 +21,7 @@ module _ {ss : List (List ℕ)} {es M O : List ℕ} (R : Ranked ss es M O) (k : 
   k-is : length (levelsUp maxSlip (patterns ss O)) ≡ k
   k-is = omega (arith, t .count)
 
-  pub all-count : length (nodes (patterns ss M)) ≡ suc k
+  pub all-count : length (nodesOf (patterns ss M)) ≡ suc k
   all-count = ap length (nodes-are R) ∙ ap suc k-is
 
   pub all-few : k ≤ maxLetters

@@ -13,7 +13,7 @@ use lib.ListN.{length, getD, length-append, List·getD-append}
 use lib.Seq.{getD-append-add}
 use Rattle.words.proofs.Members.{In}
 use Rattle.words.proofs.Picks.{getD-in}
-use Rattle.matching.specs.Nodes.{nodes, string, Num}
+use Rattle.matching.specs.Nodes.{nodesOf, string, Num}
 use Rattle.matching.proofs.Levels.{level, level-length}
 use Rattle.matching.proofs.Ranks.{rank-fits}
 use Rattle.matching.proofs.Numbering.{levelsUp, nodeAt, in-levelsUp}
@@ -68,13 +68,13 @@ module _ (zs : List (List ℕ)) where
   nodeAt-fits D c r h =
       omega (arith, rank-fits (suc c) zs (suc r), levels-grow (suc c) D h, length-append (levelsUp c zs) (level (suc c) [] zs))
 
-module _ (ps zs : List (List ℕ)) (D : ℕ) (first : ℕ → ℕ) (is : nodes ps ≡ [] ∷ levelsUp D zs) (done : LevelDone zs D first) where
+module _ (ps zs : List (List ℕ)) (D : ℕ) (first : ℕ → ℕ) (is : nodesOf ps ≡ [] ∷ levelsUp D zs) (done : LevelDone zs D first) where
   -- a node with a letter, among the levels
   node : (v : ℕ) → Num ps v → (u : ℕ) × (v ≡ suc u) × (u < length (levelsUp D zs)) × (string ps v ≡ getD (levelsUp D zs) u [])
   node zero n = absurd (omega (arith, n .some))
   node (suc u) n = (u, refl, omega (arith, n .inside, ap length is), ap (λ ns. getD ns (suc u) []) is)
 
-  some : (d : ℕ) → 1 ≤ d → d ≤ suc D → (1 ≤ first d) × (first d ≤ length (nodes ps))
+  some : (d : ℕ) → 1 ≤ d → d ≤ suc D → (1 ≤ first d) × (first d ≤ length (nodesOf ps))
   some zero h l = absurd (omega arith)
   some (suc d) h l = omega (arith, done d (omega arith), levels-grow zs d D (omega arith), ap length is)
 

@@ -19,7 +19,7 @@ use Rattle.words.proofs.Sums.{sum}
 use Rattle.words.proofs.Runs.{length-upFrom}
 use Rattle.trays.specs.Limits.{maxSlip, maxLetters}
 use Rattle.trays.specs.Slips.{slip}
-use Rattle.matching.specs.Nodes.{lower, prefixes, nodes}
+use Rattle.matching.specs.Nodes.{lower, prefixes, nodesOf}
 use Rattle.matching.proofs.Numbering.{levelsUp, lower-irr, lower-tr}
 use Rattle.matching.proofs.Numbered.{str, Numbered}
 use Rattle.matching.proofs.NodeLaws.{nodes-numbered}
@@ -48,8 +48,8 @@ numbered-one : {ps ns ms : List (List ℕ)} → Numbered ps ns → Numbered ps m
 numbered-one {ns = ns} {ms = ms} N K i j =
     asc-one (Less lower) lower-irr lower-tr ns ms (N .asc) (K .asc) (numbered-in N K j) (numbered-in K N i)
 
-nodes-root : (ps : List (List ℕ)) → In [] (nodes ps)
-unfolding nodes
+nodes-root : (ps : List (List ℕ)) → In [] (nodesOf ps)
+unfolding nodesOf
 nodes-root ps = List·Memᴰ·head refl
 
 insert-length : {A : Type 0} (lt : A → A → Bool) (x : A) (ys : List A) → length (insert lt x ys) ≤ suc (length ys)
@@ -87,13 +87,13 @@ module _ {ss : List (List ℕ)} {es M O : List ℕ} (R : Ranked ss es M O) where
   rank-one j r h l e =
       asc-differ 0 (Less (precedes ss)) (λ i x. not-both (precedes ss i i) x (precedes-irr ss i)) O j r (R .sorts .asc) h l e
 
-  pub nodes-are : nodes (patterns ss M) ≡ [] ∷ levelsUp maxSlip (patterns ss O)
+  pub nodes-are : nodesOf (patterns ss M) ≡ [] ∷ levelsUp maxSlip (patterns ss O)
   nodes-are =
       numbered-one (nodes-numbered (patterns ss M)) (levels-numbered (patterns ss M) (patterns ss O) maxSlip sorted)
       (nodes-root (patterns ss M)) (List·Memᴰ·head refl)
 
   pub nodes-few : length (levelsUp maxSlip (patterns ss O)) ≤ maxLetters
-  unfolding nodes
+  unfolding nodesOf
   nodes-few =
       omega (
         arith,

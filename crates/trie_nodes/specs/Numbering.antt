@@ -3,7 +3,7 @@
 --   Sorted s es n w               == the tray is accepted, and w has the members, ascending, their order, and what each has in common with
 --                                    the one before it there
 --   NodeCells                     == the places of the tables LEVEL, AT, OWN, which stand side by side
---   NodesFilled s es n w count w′ == only these tables were written, and they are right: count nodes have a letter
+--   NodesFilled s es n w nodes w′ == only these tables were written, and they are right: this many nodes have a letter
 use mathlib.Core.Path.{_≡_}
 use mathlib.Core.List.{List}
 use Prim.Native.Nat.{ℕ, _-_, _≤_, _<_}
@@ -31,6 +31,6 @@ pub record Sorted (s es : List ℕ) (n : ℕ) (w : List ℕ) : Type 0 where
 abbrev pub NodeCells : ℕ → Type 0
 NodeCells = Cells LEVEL (KID - LEVEL)
 
-pub record NodesFilled (s es : List ℕ) (n : ℕ) (w : List ℕ) (count : ℕ) (w′ : List ℕ) : Type 0 where
-  pub numbered : Numbered s es n count w′
+pub record NodesFilled (s es : List ℕ) (n : ℕ) (w : List ℕ) (nodes : ℕ) (w′ : List ℕ) : Type 0 where
+  pub numbered : Numbered s es n nodes w′
   pub only : Only NodeCells w w′

@@ -14,7 +14,7 @@ use Rattle.words.proofs.Members.{In, in-those}
 use Rattle.trays.specs.Slips.{slipsOf, slip}
 use Rattle.tables.specs.Tables.{Got, Put, Room}
 use Rattle.tables.proofs.Tables.{put-only, put-here, put-other}
-use Rattle.matching.specs.Nodes.{nodes, string, IsNode, Num}
+use Rattle.matching.specs.Nodes.{nodesOf, string, IsNode, Num}
 use Rattle.matching.proofs.States.{fail}
 use Rattle.matching.proofs.NodeLaws.{node-fails}
 use Rattle.matching.proofs.Finds.{endingOf}
@@ -28,13 +28,13 @@ use Rattle.layout.proofs.Heads.{threaded-head, member-some, member-letters, mem
 use Rattle.layout.proofs.AreaSlips.{AreaSlips, areaSlips}
 
 -- one node
-module _ {s es : List ℕ} {n count : ℕ} {w : List ℕ} {v : ℕ} (T : Telling s es n count w v) where
+module _ {s es : List ℕ} {n nodes : ℕ} {w : List ℕ} {v : ℕ} (T : Telling s es n nodes w v) where
   open AreaSlips (areaSlips s es n w) using (ss, M, ps)
 
   node : Num ps v
   node = T .owning .node
 
-  numbered : Numbered s es n count w
+  numbered : Numbered s es n nodes w
   numbered = T .owning .headed .automaton .branched .numbered
 
   pub telling-fail : FAIL + v < length w
@@ -108,22 +108,22 @@ module _ {s es : List ℕ} {n count : ℕ} {w : List ℕ} {v : ℕ} (T : Telling
       telling-tallied = record { is = tally-sum; small = omega (arith, tally-few) }
 
 -- node by node
-pub record Filling (s es : List ℕ) (n count : ℕ) (w₀ w : List ℕ) (v : ℕ) : Type 0 where
-  pub headed : Headed s es n count w₀
+pub record Filling (s es : List ℕ) (n nodes : ℕ) (w₀ w : List ℕ) (v : ℕ) : Type 0 where
+  pub headed : Headed s es n nodes w₀
   pub kept : SameBelow OUT w₀ w
   pub some : 1 ≤ v
-  pub upto : v ≤ count + 1
+  pub upto : v ≤ nodes + 1
   pub outs : (u : ℕ) → Num (patternsIn s es n w₀) u → u < v → OutOf (slipsOf s es) (members w₀ n) u (cell w OUT u)
   pub tallies : (u : ℕ) → u < v → TallyOf (slipsOf s es) (members w₀ n) u (cell w TALLY u)
 
-module _ {s es : List ℕ} {n count : ℕ} {w : List ℕ} (H : Headed s es n count w) where
+module _ {s es : List ℕ} {n nodes : ℕ} {w : List ℕ} (H : Headed s es n nodes w) where
   pub filling-root : Room w TALLY 0 0
   filling-root = record { within = omega (arith, H .automaton .branched .numbered .room); small = omega arith }
 
   root-kept : {w′ : List ℕ} → Put w TALLY 0 0 w′ → SameBelow OUT w w′
   root-kept p = only-kept OUT (put-only p) (λ q e. omega arith)
 
-  pub filling-start : {w′ : List ℕ} → Put w TALLY 0 0 w′ → Filling s es n count w′ w′ 1
+  pub filling-start : {w′ : List ℕ} → Put w TALLY 0 0 w′ → Filling s es n nodes w′ w′ 1
   filling-start {w′} p =
       let G = headed-kept (kept-lower MARK (omega arith) (root-kept p)) H in
       let N = G .automaton .branched .numbered in
@@ -138,7 +138,7 @@ module _ {s es : List ℕ} {n count : ℕ} {w : List ℕ} (H : Headed s es n cou
             rw z (put-here p (filling-root .within) ∙ sym (ap length (ending-root (slipsOf s es) (members w′ n) (N .ascending) (member-letters N))));
       }
 
-  pub filling-all : {a w′ : List ℕ} {v : ℕ} → Put w TALLY 0 0 a → Filling s es n count a w′ v → count < v → OutputsFilled s es n count w w′
+  pub filling-all : {a w′ : List ℕ} {v : ℕ} → Put w TALLY 0 0 a → Filling s es n nodes a w′ v → nodes < v → OutputsFilled s es n nodes w w′
   filling-all {a} {w′} p F h =
       let N = F .headed .automaton .branched .numbered in
       let e : members w′ n ≡ members a n = members-kept n (omega (arith, N .few-members)) (F .kept) in
@@ -152,14 +152,14 @@ module _ {s es : List ℕ} {n count : ℕ} {w : List ℕ} (H : Headed s es n cou
         below = record { same = F .kept .same ∙ k .same; cells = λ x l. F .kept .cells x l ∙ k .cells x l };
       }
 
-module _ {s es : List ℕ} {n count : ℕ} {w₀ w : List ℕ} {v : ℕ} (F : Filling s es n count w₀ w v) where
+module _ {s es : List ℕ} {n nodes : ℕ} {w₀ w : List ℕ} {v : ℕ} (F : Filling s es n nodes w₀ w v) where
   same-members : members w n ≡ members w₀ n
   same-members = members-kept n (omega (arith, F .headed .automaton .branched .numbered .few-members)) (F .kept)
 
-  at-node : v ≤ count → Num (patternsIn s es n w₀) v
+  at-node : v ≤ nodes → Num (patternsIn s es n w₀) v
   at-node h = record { some = F .some; inside = omega (arith, F .headed .automaton .branched .numbered .all-nodes) }
 
-  pub filling-telling : v ≤ count → Telling s es n count w v
+  pub filling-telling : v ≤ nodes → Telling s es n nodes w v
   filling-telling h =
       record {
         owning = record { headed = headed-kept (kept-lower MARK (omega arith) (F .kept)) (F .headed); node = rw same-members (at-node h) };
@@ -167,13 +167,13 @@ module _ {s es : List ℕ} {n count : ℕ} {w₀ w : List ℕ} {v : ℕ} (F : Fi
         tallies = rw same-members (F .tallies);
       }
 
-  module _ {o : ℕ} (h : v ≤ count) (i : OutOf (slipsOf s es) (members w n) v o) where
+  module _ {o : ℕ} (h : v ≤ nodes) (i : OutOf (slipsOf s es) (members w n) v o) where
     pub filling-out : Room w OUT v o
     filling-out =
         let N = F .headed .automaton .branched .numbered in
         record {
           within = omega (arith, F .kept .same, N .room, N .few-nodes);
-          small = omega (arith, i .inside, ap (λ M. length (nodes (patterns (slipsOf s es) M))) same-members, N .all-nodes, N .few-nodes);
+          small = omega (arith, i .inside, ap (λ M. length (nodesOf (patterns (slipsOf s es) M))) same-members, N .all-nodes, N .few-nodes);
         }
 
     module _ {t : ℕ} {a : List ℕ} (y : Tallied (slipsOf s es) (members w n) v t) (p : Put w OUT v o a) where
@@ -182,7 +182,7 @@ module _ {s es : List ℕ} {n count : ℕ} {w₀ w : List ℕ} {v : ℕ} (F : Fi
           let N = F .headed .automaton .branched .numbered in
           record { within = omega (arith, p .same, F .kept .same, N .room, N .few-nodes); small = y .small }
 
-      pub filling-more : {w′ : List ℕ} (v′ : ℕ) → Put a TALLY v t w′ → v′ ≡ v + 1 → Filling s es n count w₀ w′ v′
+      pub filling-more : {w′ : List ℕ} (v′ : ℕ) → Put a TALLY v t w′ → v′ ≡ v + 1 → Filling s es n nodes w₀ w′ v′
       filling-more {w′} v′ q e =
           let N = F .headed .automaton .branched .numbered in
           let few : v ≤ 2000 = omega (arith, N .few-nodes) in

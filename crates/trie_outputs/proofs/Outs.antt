@@ -26,7 +26,7 @@ use Rattle.words.proofs.Strings.{begins-refl}
 use Rattle.trays.specs.Slips.{slip}
 use Rattle.matching.specs.Moves.{beginsSome, longestEnding}
 use Rattle.matching.specs.Occurrences.{firstHere}
-use Rattle.matching.specs.Nodes.{nodes, string, IsNode, Num}
+use Rattle.matching.specs.Nodes.{nodesOf, string, IsNode, Num}
 use Rattle.matching.proofs.Endings.{slip-some}
 use Rattle.matching.proofs.States.{fail, longest-whole, longest-skip}
 use Rattle.matching.proofs.Finds.{endingOf, ending-cons, ending-none, ending-longest}
@@ -150,7 +150,7 @@ module _ (ss : List (List ℕ)) (M : List ℕ) where
           node-lower ps (out v) v (m .inside) (n .inside)
           (lower-shorter (string ps (out v)) (string ps v) (rw (m .is) (tail-shorter (string ps v) (node-some ps v n .0))))
 
-      pub ending-outs : (n v : ℕ) → v < length (nodes ps) → v ≤ n → endingOf ss M (string ps v) ≡ each (λ u. owners ss M (string ps u)) (path out n v)
+      pub ending-outs : (n v : ℕ) → v < length (nodesOf ps) → v ≤ n → endingOf ss M (string ps v) ≡ each (λ u. owners ss M (string ps u)) (path out n v)
       ending-outs zero v h l = let e : v ≡ 0 = omega arith in rw e (ending-root some)
       ending-outs (suc n) v h l =
           elim (ℕ-discrete v 0) [

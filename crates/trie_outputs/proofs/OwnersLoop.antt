@@ -17,21 +17,21 @@ use Rattle.trie_outputs.specs.steps.Outputs.{Owning}
 use Rattle.trie_outputs.proofs.Outs.{by-list, length-those}
 use Rattle.layout.proofs.Heads.{member-few, member-some, members-length, num-most}
 
-pub record Counting (s es : List ℕ) (n count : ℕ) (w : List ℕ) (v i k : ℕ) : Type 0 where
-  pub owning : Owning s es n count w v
+pub record Counting (s es : List ℕ) (n nodes : ℕ) (w : List ℕ) (v i k : ℕ) : Type 0 where
+  pub owning : Owning s es n nodes w v
   pub rest : List ℕ
   pub threaded : Threaded (cell w TWIN) i rest
   pub among : (x : ℕ) → In x rest → In x (members w n)
   pub few : k ≤ n
   pub all : k + length rest ≡ length (owners (slipsOf s es) (members w n) (string (patternsIn s es n w) v))
 
-module _ {s es : List ℕ} {n count : ℕ} {w : List ℕ} {v : ℕ} (O : Owning s es n count w v) where
+module _ {s es : List ℕ} {n nodes : ℕ} {w : List ℕ} {v : ℕ} (O : Owning s es n nodes w v) where
   pub owners-head : HEAD + v < length w
   owners-head =
       let N = O .headed .automaton .branched .numbered in
       omega (arith, num-most N v (O .node), N .few-nodes, N .room)
 
-  pub counting-start : {i : ℕ} → Got w HEAD v i → Counting s es n count w v i 0
+  pub counting-start : {i : ℕ} → Got w HEAD v i → Counting s es n nodes w v i 0
   counting-start g =
       let M = members w n in
       let x = string (patternsIn s es n w) v in
@@ -44,7 +44,7 @@ module _ {s es : List ℕ} {n count : ℕ} {w : List ℕ} {v : ℕ} (O : Owning 
         all = omega arith;
       }
 
-module _ {s es : List ℕ} {n count : ℕ} {w : List ℕ} {v i k : ℕ} (C : Counting s es n count w v i k) where
+module _ {s es : List ℕ} {n nodes : ℕ} {w : List ℕ} {v i k : ℕ} (C : Counting s es n nodes w v i k) where
   most : k + length (C .rest) ≤ n
   most =
       let N = C .owning .headed .automaton .branched .numbered in
@@ -70,7 +70,7 @@ module _ {s es : List ℕ} {n count : ℕ} {w : List ℕ} {v i k : ℕ} (C : Cou
     pub counting-less : (k′ : ℕ) → k′ ≡ k + 1 → n - k′ < n - k
     counting-less k′ e = omega (arith, most, ap length (first .2))
 
-    pub counting-more : {j : ℕ} (k′ : ℕ) → Got w TWIN i j → k′ ≡ k + 1 → Counting s es n count w v j k′
+    pub counting-more : {j : ℕ} (k′ : ℕ) → Got w TWIN i j → k′ ≡ k + 1 → Counting s es n nodes w v j k′
     counting-more k′ g e =
         record {
           owning = C .owning;

@@ -10,7 +10,7 @@ use Rattle.trays.specs.Limits.{maxText}
 use Rattle.trays.specs.Slips.{slipsOf, slip}
 use Rattle.tables.specs.Tables.{Got}
 use Rattle.matching.specs.Moves as Moves
-use Rattle.matching.specs.Nodes.{nodes, string, IsNode}
+use Rattle.matching.specs.Nodes.{nodesOf, string, IsNode}
 use Rattle.matching.specs.Occurrences as Occurrences
 use Rattle.matching.specs.Occurrences.{endingAt, occurrences}
 use Rattle.matching.proofs.States.{few-from}
@@ -24,18 +24,18 @@ use Rattle.trie_scan.specs.steps.Scanning.{occursFrom, Able, TextCountsA
 use Rattle.trie_scan.proofs.Occurs.{slips-all, occurs-all, occurs-next, occurs-none}
 use Rattle.trie_scan.proofs.Scans.{able-endings, able-few, able-steps}
 
-pub record Counting (s es t : List ℕ) (n count : ℕ) (w : List ℕ) (state moves found read : ℕ) : Type 0 where
-  pub able : Able s es t n count w
+pub record Counting (s es t : List ℕ) (n nodes : ℕ) (w : List ℕ) (state moves found read : ℕ) : Type 0 where
+  pub able : Able s es t n nodes w
   pub upto : read ≤ length t
   pub state-is : IsNode (patternsIn s es n w) state (Moves.longestEnding (take read t) (patternsIn s es n w))
   pub moves-are : Moves.movesFrom (patternsIn s es n w) (string (patternsIn s es n w) state) (drop read t) moves ≡ Moves.moves (slipsOf s es) t
   pub found-are : found + length (occursFrom (slipsOf s es) t read) ≡ length (occurrences (slipsOf s es) t)
 
-module _ {s es t : List ℕ} {n count : ℕ} {w : List ℕ} where
-  patterns-all : Able s es t n count w → patternsIn s es n w ≡ slipsOf s es
+module _ {s es t : List ℕ} {n nodes : ℕ} {w : List ℕ} where
+  patterns-all : Able s es t n nodes w → patternsIn s es n w ≡ slipsOf s es
   patterns-all A = ap (λ N. map (slip (slipsOf s es)) N) (A .all-slips) ∙ slips-all (slipsOf s es)
 
-  pub counting-start : Able s es t n count w → Counting s es t n count w 0 0 0 0
+  pub counting-start : Able s es t n nodes w → Counting s es t n nodes w 0 0 0 0
   counting-start A =
       let ps = patternsIn s es n w in
       record {
@@ -46,8 +46,8 @@ module _ {s es t : List ℕ} {n count : ℕ} {w : List ℕ} where
         found-are = omega (arith, ap length (occurs-all (slipsOf s es) t));
       }
 
-  module _ {state moves found read : ℕ} (C : Counting s es t n count w state moves found read) where
-    pub counting-steps : CanStep s es n count w state
+  module _ {state moves found read : ℕ} (C : Counting s es t n nodes w state moves found read) where
+    pub counting-steps : CanStep s es n nodes w state
     counting-steps = able-steps (C .able) (C .state-is)
 
     -- counted so far is no more than the whole
@@ -101,7 +101,7 @@ module _ {s es t : List ℕ} {n count : ℕ} {w : List ℕ} where
         pub counting-found : found + k < 18446744073709551616
         counting-found = omega (arith, next-found, able-few (C .able))
 
-        pub counting-more : (read′ : ℕ) → read′ ≡ read + 1 → Counting s es t n count w u (moves + (1 + d)) (found + k) read′
+        pub counting-more : (read′ : ℕ) → read′ ≡ read + 1 → Counting s es t n nodes w u (moves + (1 + d)) (found + k) read′
         counting-more read′ e =
             rw e (record {
               able = C .able;

@@ -83,10 +83,10 @@ module _ {w a b c d w′ : List ℕ} {x : Scan} (C : CanKeep w x) (p₁ : Put w 
         };
       }
 
-pub scan-started : {w a w′ : List ℕ} {count : ℕ} → SCAN + 6 ≤ length w → Put w SCAN 0 count a → Keeps a fresh w′ → ScanStarted w count w′
+pub scan-started : {w a w′ : List ℕ} {nodes : ℕ} → SCAN + 6 ≤ length w → Put w SCAN 0 nodes a → Keeps a fresh w′ → ScanStarted w nodes w′
 scan-started h p k =
     record {
-      count-is = k .below .cells (SCAN + 0) (omega arith) ∙ put-here p (omega arith);
+      nodes-are = k .below .cells (SCAN + 0) (omega arith) ∙ put-here p (omega arith);
       scan-is = k .scan-is;
       below = record {
         same = k .below .same ∙ p .same;
@@ -95,7 +95,7 @@ scan-started h p k =
     }
 
 -- the tables below SCAN
-pub told-kept : {s es : List ℕ} {n count : ℕ} {w w′ : List ℕ} → SameBelow SCAN w w′ → Told s es n count w → Told s es n count w′
+pub told-kept : {s es : List ℕ} {n nodes : ℕ} {w w′ : List ℕ} → SameBelow SCAN w w′ → Told s es n nodes w → Told s es n nodes w′
 told-kept {n = n} {w = w} {w′} k T =
     let N = T .headed .automaton .branched .numbered in
     let f : members w′ n ≡ members w n = members-kept n (omega (arith, N .few-members)) k in
@@ -105,14 +105,14 @@ told-kept {n = n} {w = w} {w′} k T =
       tallies = rw f (λ v l. k .cells (TALLY + v) (omega (arith, N .all-nodes, N .few-nodes)) ∙ T .tallies v l);
     }
 
-module _ {s es t : List ℕ} {n count : ℕ} {w w′ : List ℕ} (k : SameBelow SCAN w w′) where
-  same-members : Able s es t n count w → members w′ n ≡ members w n
+module _ {s es t : List ℕ} {n nodes : ℕ} {w w′ : List ℕ} (k : SameBelow SCAN w w′) where
+  same-members : Able s es t n nodes w → members w′ n ≡ members w n
   same-members A = members-kept n (omega (arith, A .told .headed .automaton .branched .numbered .few-members)) k
 
-  pub able-kept : Able s es t n count w → Able s es t n count w′
+  pub able-kept : Able s es t n nodes w → Able s es t n nodes w′
   able-kept A = record { told = told-kept k (A .told); all-slips = same-members A ∙ A .all-slips; short = A .short }
 
-  pending-kept : Able s es t n count w → {node slip : ℕ} {xs : List ℕ}
+  pending-kept : Able s es t n nodes w → {node slip : ℕ} {xs : List ℕ}
       → Pending (slipsOf s es) (members w n) w node slip xs → Pending (slipsOf s es) (members w n) w′ node slip xs
   pending-kept A {node} {slip} P =
       let N = A .told .headed .automaton .branched .numbered in
@@ -133,7 +133,7 @@ module _ {s es t : List ℕ} {n count : ℕ} {w w′ : List ℕ} (k : SameBelow 
             };
       }
 
-  pub standing-kept : {x : Scan} → Standing s es t n count w x → Standing s es t n count w′ x
+  pub standing-kept : {x : Scan} → Standing s es t n nodes w x → Standing s es t n nodes w′ x
   standing-kept S =
       let e = same-members (S .able) in
       record {
@@ -146,8 +146,8 @@ module _ {s es t : List ℕ} {n count : ℕ} {w w′ : List ℕ} (k : SameBelow 
       }
 
 -- the scan that has read nothing stands before the first occurrence
-pub fresh-standing : {s es t : List ℕ} {n count : ℕ} {w : List ℕ} → Able s es t n count w → Standing s es t n count w fresh
-fresh-standing {s} {es} {t} {n} {count} {w} A =
+pub fresh-standing : {s es t : List ℕ} {n nodes : ℕ} {w : List ℕ} → Able s es t n nodes w → Standing s es t n nodes w fresh
+fresh-standing {s} {es} {t} {n} {nodes} {w} A =
     record {
       able = A;
       upto = omega arith;
@@ -158,7 +158,7 @@ fresh-standing {s} {es} {t} {n} {count} {w} A =
     }
 
 -- a scan that stands can be kept
-pub standing-keeps : {s es t : List ℕ} {n count : ℕ} {w : List ℕ} {x : Scan} → Standing s es t n count w x → CanKeep w x
+pub standing-keeps : {s es t : List ℕ} {n nodes : ℕ} {w : List ℕ} {x : Scan} → Standing s es t n nodes w x → CanKeep w x
 standing-keeps {x = x} S =
     let N = S .able .told .headed .automaton .branched .numbered in
     record {

@@ -33,13 +33,13 @@ owned-owned ss M (a ∷ t) h =
     (λ e. let q = owned-past ss M (a ∷ t) e in rw q (owned-owned ss M t (rw q at h)))
     (λ i is e. rw (owned-here ss M (a ∷ t) i is e) (i, is, e))
 
-module _ {s es : List ℕ} {n count : ℕ} {w : List ℕ} (T : Told s es n count w) where
+module _ {s es : List ℕ} {n nodes : ℕ} {w : List ℕ} (T : Told s es n nodes w) where
   open AreaSlips (areaSlips s es n w) using (ss, M, ps)
 
-  numbered : Numbered s es n count w
+  numbered : Numbered s es n nodes w
   numbered = T .headed .automaton .branched .numbered
 
-  pub told-node : {v : ℕ} → v ≤ count → (v ≡ 0 → ⊥) → Num ps v
+  pub told-node : {v : ℕ} → v ≤ nodes → (v ≡ 0 → ⊥) → Num ps v
   told-node h z = record { some = omega arith; inside = omega (arith, numbered .all-nodes) }
 
   pub nothing : (v : ℕ) → v ≡ 0 → Pending ss M w 0 0 (endingOf ss M (string ps v))
@@ -80,12 +80,12 @@ module _ {s es : List ℕ} {n count : ℕ} {w : List ℕ} (T : Told s es n count
               };
         }
 
-  pub told-head : {v : ℕ} → v ≤ count → HEAD + v < length w
+  pub told-head : {v : ℕ} → v ≤ nodes → HEAD + v < length w
   told-head h = omega (arith, numbered .few-nodes, numbered .room)
 
   -- the output link of node v
   module _ {v u : ℕ} (m : Num ps v) (g : Got w OUT v u) where
-    pub behind-most : u ≤ count
+    pub behind-most : u ≤ nodes
     behind-most = omega (arith, rw (← g .is) at (T .outs v m .inside), numbered .all-nodes)
 
     pub behind-root : u ≡ 0 → Pending ss M w 0 0 (endingOf ss M (string ps (cell w OUT v)))
@@ -116,7 +116,7 @@ module _ {s es : List ℕ} {n count : ℕ} {w : List ℕ} (T : Told s es n count
   pub reporting-room : {node slip : ℕ} {xs : List ℕ} → Reporting ss M w node slip xs → TWIN + slip < length w
   reporting-room {slip = slip} R = omega (arith, member-few numbered slip (R .among slip (List·Memᴰ·head refl)), numbered .room)
 
-  pub reporting-node : {node slip : ℕ} {xs : List ℕ} → Reporting ss M w node slip xs → AtNode s es n count w node
+  pub reporting-node : {node slip : ℕ} {xs : List ℕ} → Reporting ss M w node slip xs → AtNode s es n nodes w node
   reporting-node {node} R = record { told = T; node = num-most numbered node (R .is-node) }
 
   -- the members behind one that is reported

@@ -50,8 +50,8 @@ getD-drop (suc i) (x ∷ xs) d = getD-drop i xs d
 map-first : {A B : Type 0} (f : A → B) (xs : List A) (x : A) (zs : List A) (k : List B) → xs ≡ x ∷ zs → map f xs ++ k ≡ f x ∷ (map f (tailOf xs) ++ k)
 map-first f xs x zs k e = rw e
 
-module _ {s es t : List ℕ} {n count : ℕ} {w : List ℕ} (A : Able s es t n count w) where
-  numbered : Numbered s es n count w
+module _ {s es t : List ℕ} {n nodes : ℕ} {w : List ℕ} (A : Able s es t n nodes w) where
+  numbered : Numbered s es n nodes w
   numbered = A .told .headed .automaton .branched .numbered
 
   -- the slips that end a text, read off the state
@@ -69,24 +69,24 @@ module _ {s es t : List ℕ} {n count : ℕ} {w : List ℕ} (A : Able s es t n c
       let f : length ss ≤ maxSlips = rw (slips-count s es) (accepted-tells s es (numbered .accepted) .few) in
       omega (arith, occurs-few ss t f, A .short)
 
-  pub able-steps : {v : ℕ} {x : List ℕ} → IsNode (patternsIn s es n w) v x → CanStep s es n count w v
+  pub able-steps : {v : ℕ} {x : List ℕ} → IsNode (patternsIn s es n w) v x → CanStep s es n nodes w v
   able-steps {v} m = automaton-steps v (A .told .headed .automaton) (node-within numbered m)
 
-  pub able-node : {v : ℕ} {x : List ℕ} → IsNode (patternsIn s es n w) v x → AtNode s es n count w v
+  pub able-node : {v : ℕ} {x : List ℕ} → IsNode (patternsIn s es n w) v x → AtNode s es n nodes w v
   able-node m = record { told = A .told; node = node-within numbered m }
 
 -- one letter more
-module _ {s es t : List ℕ} {n count : ℕ} {w : List ℕ} {x : Scan} (U : Unread s es t n count w x) where
-  pub unread-steps : CanStep s es n count w (x .state)
+module _ {s es t : List ℕ} {n nodes : ℕ} {w : List ℕ} {x : Scan} (U : Unread s es t n nodes w x) where
+  pub unread-steps : CanStep s es n nodes w (x .state)
   unread-steps = able-steps (U .standing .able) (U .standing .state-is)
 
   module _ {c u d : ℕ} (b : c ≡ getD t (x .read) 0) (i : StepIs (patternsIn s es n w) (x .state) c u d) where
-    pub unread-node : AtNode s es n count w u
+    pub unread-node : AtNode s es n nodes w u
     unread-node = able-node (U .standing .able) (i .state)
 
     pub unread-read : {node slip : ℕ} →
         Pending (slipsOf s es) (members w n) w node slip (endingOf (slipsOf s es) (members w n) (string (patternsIn s es n w) u))
-        → ReadOn s es t n count w x (record { done = x .done; read = x .read + 1; state = u; node = node; slip = slip })
+        → ReadOn s es t n nodes w x (record { done = x .done; read = x .read + 1; state = u; node = node; slip = slip })
     unread-read p =
         let S = U .standing in
         let ss = slipsOf s es in
@@ -111,16 +111,16 @@ module _ {s es t : List ℕ} {n count : ℕ} {w : List ℕ} {x : Scan} (U : Unre
         }
 
 -- letters until there is something to report
-pub record Reaching (s es t : List ℕ) (n count : ℕ) (w : List ℕ) (x y : Scan) : Type 0 where
-  pub standing : Standing s es t n count w y
+pub record Reaching (s es t : List ℕ) (n nodes : ℕ) (w : List ℕ) (x y : Scan) : Type 0 where
+  pub standing : Standing s es t n nodes w y
   pub done : y .done ≡ x .done
   pub more : x .done < length (occurrences (slipsOf s es) t)
 
-pub reaching-start : {s es t : List ℕ} {n count : ℕ} {w : List ℕ} {x : Scan} → Ahead s es t n count w x → Reaching s es t n count w x x
+pub reaching-start : {s es t : List ℕ} {n nodes : ℕ} {w : List ℕ} {x : Scan} → Ahead s es t n nodes w x → Reaching s es t n nodes w x x
 reaching-start a = record { standing = a .standing; done = refl; more = a .more }
 
-module _ {s es t : List ℕ} {n count : ℕ} {w : List ℕ} {x y : Scan} (R : Reaching s es t n count w x y) where
-  pub reaching-unread : y .slip ≡ 0 → Unread s es t n count w y
+module _ {s es t : List ℕ} {n nodes : ℕ} {w : List ℕ} {x y : Scan} (R : Reaching s es t n nodes w x y) where
+  pub reaching-unread : y .slip ≡ 0 → Unread s es t n nodes w y
   reaching-unread z =
       let S = R .standing in
       let ss = slipsOf s es in
@@ -136,17 +136,17 @@ module _ {s es t : List ℕ} {n count : ℕ} {w : List ℕ} {x y : Scan} (R : Re
         ];
       }
 
-  pub reaching-more : {z : Scan} → ReadOn s es t n count w y z → Reaching s es t n count w x z
+  pub reaching-more : {z : Scan} → ReadOn s es t n nodes w y z → Reaching s es t n nodes w x z
   reaching-more r = record { standing = r .standing; done = r .done ∙ R .done; more = R .more }
 
-  pub reaching-less : {z : Scan} → y .slip ≡ 0 → ReadOn s es t n count w y z → length t - z .read < length t - y .read
+  pub reaching-less : {z : Scan} → y .slip ≡ 0 → ReadOn s es t n nodes w y z → length t - z .read < length t - y .read
   reaching-less q r = omega (arith, r .read, reaching-unread q .more)
 
-  pub reaching-all : (y .slip ≡ 0 → ⊥) → Reached s es t n count w x y
+  pub reaching-all : (y .slip ≡ 0 → ⊥) → Reached s es t n nodes w x y
   reaching-all h = record { standing = R .standing; done = R .done; some = h }
 
 -- the occurrence that is reported
-module _ {s es t : List ℕ} {n count : ℕ} {w : List ℕ} {x : Scan} (P : Reportable s es t n count w x) where
+module _ {s es t : List ℕ} {n nodes : ℕ} {w : List ℕ} {x : Scan} (P : Reportable s es t n nodes w x) where
   here : Reporting (slipsOf s es) (members w n) w (x .node) (x .slip) (P .standing .rest)
   here = P .standing .pending .some (P .some)
 
@@ -166,7 +166,7 @@ module _ {s es t : List ℕ} {n count : ℕ} {w : List ℕ} {x : Scan} (P : Repo
   pub reportable-room : TWIN + x .slip < length w
   reportable-room = reporting-room (P .standing .able .told) here
 
-  pub reportable-node : AtNode s es n count w (x .node)
+  pub reportable-node : AtNode s es n nodes w (x .node)
   reportable-node = reporting-node (P .standing .able .told) here
 
   pub reportable-num : Num (patternsIn s es n w) (x .node)
@@ -174,7 +174,7 @@ module _ {s es t : List ℕ} {n count : ℕ} {w : List ℕ} {x : Scan} (P : Repo
 
   module _ {twin : ℕ} (g : Got w TWIN (x .slip) twin) where
     passed : {node i : ℕ} → Pending (slipsOf s es) (members w n) w node i (tailOf (P .standing .rest))
-        → Passed s es t n count w x (record { done = x .done + 1; read = x .read; state = x .state; node = node; slip = i })
+        → Passed s es t n nodes w x (record { done = x .done + 1; read = x .read; state = x .state; node = node; slip = i })
     passed p =
         let S = P .standing in
         record {
@@ -190,10 +190,10 @@ module _ {s es t : List ℕ} {n count : ℕ} {w : List ℕ} {x : Scan} (P : Repo
         }
 
     pub reportable-twin : (twin ≡ 0 → ⊥) →
-        Passed s es t n count w x (record { done = x .done + 1; read = x .read; state = x .state; node = x .node; slip = twin })
+        Passed s es t n nodes w x (record { done = x .done + 1; read = x .read; state = x .state; node = x .node; slip = twin })
     reportable-twin z = passed (twin-next (P .standing .able .told) here g z)
 
     pub reportable-behind : {node i : ℕ} → twin ≡ 0
         → Pending (slipsOf s es) (members w n) w node i (endingOf (slipsOf s es) (members w n) (string (patternsIn s es n w) (cell w OUT (x .node))))
-        → Passed s es t n count w x (record { done = x .done + 1; read = x .read; state = x .state; node = node; slip = i })
+        → Passed s es t n nodes w x (record { done = x .done + 1; read = x .read; state = x .state; node = node; slip = i })
     reportable-behind z p = passed (twin-behind (P .standing .able .told) here g z p)

@@ -38,9 +38,9 @@ pub fn count_text(
     text: &[u8],
     work: &[u16],
     n: usize,
-    count: usize,
+    nodes: usize,
 ) -> TextCounts
-    requires { ⌜ S.Able (now letters) (now ends) (now text) n count (now work) ⌝ }
+    requires { ⌜ S.Able (now letters) (now ends) (now text) n nodes (now work) ⌝ }
     ensures { λ r. ⌜ S.TextCountsAre (now (letters .entry)) (now (ends .entry)) (now (text .entry)) r ⌝ }
 {
     let mut state: usize = 0;
@@ -48,7 +48,7 @@ pub fn count_text(
     let mut found: usize = 0;
     let mut read: usize = 0;
     while read < text.len() {
-        let next = trie_links::step(letters, ends, work, n, count, state, text[read]);
+        let next = trie_links::step(letters, ends, work, n, nodes, state, text[read]);
         state = next.state;
         moves += 1 + next.drops;
         found += tables::at(work, layout::TALLY, state);
@@ -63,10 +63,10 @@ fn report_behind(
     ends: &[u16],
     work: &[u16],
     n: usize,
-    count: usize,
+    nodes: usize,
     v: usize,
 ) -> Report
-    requires { ⌜ S.AtNode (now letters) (now ends) n count (now work) v ⌝ }
+    requires { ⌜ S.AtNode (now letters) (now ends) n nodes (now work) v ⌝ }
     requires { ⌜ Num (patternsIn (now letters) (now ends) n (now work)) v ⌝ }
     ensures { λ r. ⌜ S.Reports (now (letters .entry)) (now (ends .entry)) n (now (work .entry)) (cell (now (work .entry)) L.OUT v) r ⌝ }
 {
@@ -79,8 +79,8 @@ fn report_behind(
 }
 
 // What ends the string of node `v`: the members of its letters first.
-fn report_at(letters: &[u8], ends: &[u16], work: &[u16], n: usize, count: usize, v: usize) -> Report
-    requires { ⌜ S.AtNode (now letters) (now ends) n count (now work) v ⌝ }
+fn report_at(letters: &[u8], ends: &[u16], work: &[u16], n: usize, nodes: usize, v: usize) -> Report
+    requires { ⌜ S.AtNode (now letters) (now ends) n nodes (now work) v ⌝ }
     ensures { λ r. ⌜ S.Reports (now (letters .entry)) (now (ends .entry)) n (now (work .entry)) v r ⌝ }
 {
     if v == 0 {
@@ -90,7 +90,7 @@ fn report_at(letters: &[u8], ends: &[u16], work: &[u16], n: usize, count: usize,
     if slip != 0 {
         return Report { node: v, slip };
     }
-    report_behind(letters, ends, work, n, count, v)
+    report_behind(letters, ends, work, n, nodes, v)
 }
 
 // One letter more, where nothing is left to be reported.
@@ -100,16 +100,16 @@ fn read_letter(
     text: &[u8],
     work: &[u16],
     n: usize,
-    count: usize,
+    nodes: usize,
     x: Scan,
 ) -> Scan
-    requires { ⌜ S.Unread (now letters) (now ends) (now text) n count (now work) x ⌝ }
-    ensures { λ y. ⌜ S.ReadOn (now (letters .entry)) (now (ends .entry)) (now (text .entry)) n count (now (work .entry)) x y ⌝ }
+    requires { ⌜ S.Unread (now letters) (now ends) (now text) n nodes (now work) x ⌝ }
+    ensures { λ y. ⌜ S.ReadOn (now (letters .entry)) (now (ends .entry)) (now (text .entry)) n nodes (now (work .entry)) x y ⌝ }
 {
     let read = x.read;
-    let next = trie_links::step(letters, ends, work, n, count, x.state, text[read]);
+    let next = trie_links::step(letters, ends, work, n, nodes, x.state, text[read]);
     let state = next.state;
-    let report = report_at(letters, ends, work, n, count, state);
+    let report = report_at(letters, ends, work, n, nodes, state);
     Scan {
         done: x.done,
         read: read + 1,
@@ -126,15 +126,15 @@ pub fn advance(
     text: &[u8],
     work: &[u16],
     n: usize,
-    count: usize,
+    nodes: usize,
     x: Scan,
 ) -> Scan
-    requires { ⌜ S.Ahead (now letters) (now ends) (now text) n count (now work) x ⌝ }
-    ensures { λ y. ⌜ S.Reached (now (letters .entry)) (now (ends .entry)) (now (text .entry)) n count (now (work .entry)) x y ⌝ }
+    requires { ⌜ S.Ahead (now letters) (now ends) (now text) n nodes (now work) x ⌝ }
+    ensures { λ y. ⌜ S.Reached (now (letters .entry)) (now (ends .entry)) (now (text .entry)) n nodes (now (work .entry)) x y ⌝ }
 {
     let mut y = x;
     while y.slip == 0 {
-        y = read_letter(letters, ends, text, work, n, count, y);
+        y = read_letter(letters, ends, text, work, n, nodes, y);
     }
     y
 }
@@ -146,11 +146,11 @@ pub fn pass(
     text: &[u8],
     work: &[u16],
     n: usize,
-    count: usize,
+    nodes: usize,
     x: Scan,
 ) -> Scan
-    requires { ⌜ S.Reportable (now letters) (now ends) (now text) n count (now work) x ⌝ }
-    ensures { λ y. ⌜ S.Passed (now (letters .entry)) (now (ends .entry)) (now (text .entry)) n count (now (work .entry)) x y ⌝ }
+    requires { ⌜ S.Reportable (now letters) (now ends) (now text) n nodes (now work) x ⌝ }
+    ensures { λ y. ⌜ S.Passed (now (letters .entry)) (now (ends .entry)) (now (text .entry)) n nodes (now (work .entry)) x y ⌝ }
 {
     let twin = tables::at(work, layout::TWIN, x.slip);
     if twin != 0 {
@@ -162,7 +162,7 @@ pub fn pass(
             slip: twin,
         };
     }
-    let report = report_behind(letters, ends, work, n, count, x.node);
+    let report = report_behind(letters, ends, work, n, nodes, x.node);
     Scan {
         done: x.done + 1,
         read: x.read,
@@ -200,12 +200,12 @@ pub fn keep(work: &mut [u16], x: Scan)
     tables::put(work, SCAN, 5, x.slip);
 }
 
-// Keeps the scan that has read nothing, of an automaton with `count` nodes that have a letter.
-pub fn start(work: &mut [u16], count: usize)
-    requires { ⌜ S.Loadable (now work) × (count < 65536) ⌝ }
-    ensures { λ _. ⌜ S.ScanStarted (now (work .entry)) count (now (work .exit)) ⌝ }
+// Keeps the scan that has read nothing, of an automaton in which `nodes` nodes have a letter.
+pub fn start(work: &mut [u16], nodes: usize)
+    requires { ⌜ S.Loadable (now work) × (nodes < 65536) ⌝ }
+    ensures { λ _. ⌜ S.ScanStarted (now (work .entry)) nodes (now (work .exit)) ⌝ }
 {
-    tables::put(work, SCAN, 0, count);
+    tables::put(work, SCAN, 0, nodes);
     keep(
         work,
         Scan {

@@ -26,10 +26,10 @@ use Rattle.layout.proofs.RowLaws.{row-num, row-before}
 use Rattle.layout.proofs.AreaSlips.{AreaSlips, areaSlips}
 use Rattle.walk.specs.steps.Walking.{RowEnds, CountedFrom}
 
-module _ {s es : List ℕ} {n count : ℕ} {w : List ℕ} {d end v : ℕ} (R : RowEnds s es n count w d end) (a : Got w LEVEL d v) where
+module _ {s es : List ℕ} {n nodes : ℕ} {w : List ℕ} {d end v : ℕ} (R : RowEnds s es n nodes w d end) (a : Got w LEVEL d v) where
   open AreaSlips (areaSlips s es n w) using (ps)
 
-  abbrev N : Numbered s es n count w
+  abbrev N : Numbered s es n nodes w
   N = R .numbered
 
   row-is : nodesAt ps (cell w LEVEL) d ≡ map (string ps) (upFrom v (end - v))

@@ -26,9 +26,9 @@ use Rattle.layout.proofs.RowLaws.{row-num}
 use Rattle.layout.proofs.AreaSlips.{AreaSlips, areaSlips}
 use Rattle.walk.proofs.WalkableLaws.{kept-rises, here-sized, node-starts, node-ends, patterns-same, kept-same, walkable-kept}
 
-pub record RowWalking (s es : List ℕ) (n k count : ℕ) (w₀ : List ℕ) (d made₀ : ℕ) (w : List ℕ) (made v end : ℕ)
+pub record RowWalking (s es : List ℕ) (n k nodes : ℕ) (w₀ : List ℕ) (d made₀ : ℕ) (w : List ℕ) (made v end : ℕ)
     (left right overs first last : List ℕ) : Type 0 where
-  pub walkable : Walkable s es n k count w₀
+  pub walkable : Walkable s es n k nodes w₀
   pub some : 1 ≤ d
   pub most : d ≤ maxSlip
   pub only : Only (Cells JOINS 600) w₀ w
@@ -38,12 +38,12 @@ pub record RowWalking (s es : List ℕ) (n k count : ℕ) (w₀ : List ℕ) (d m
   pub rest : walkFrom (slipsOf s es) (keptIn w₀ k) (map (string (patternsIn s es n w₀)) (upFrom v (end - v))) (joinsIn w made)
       ≡ rowWalked s es n k w₀ d made₀
 
-module _ {s es : List ℕ} {n k count : ℕ} {w : List ℕ} {d made end : ℕ} {left right overs first last : List ℕ}
-    (A : RowAsks s es n k count w d made left right overs first last) (b : Got w LEVEL (d + 1) end) where
-  pub row-ends : RowEnds s es n count w d end
+module _ {s es : List ℕ} {n k nodes : ℕ} {w : List ℕ} {d made end : ℕ} {left right overs first last : List ℕ}
+    (A : RowAsks s es n k nodes w d made left right overs first last) (b : Got w LEVEL (d + 1) end) where
+  pub row-ends : RowEnds s es n nodes w d end
   row-ends = record { numbered = A .walkable .numbered; some = A .some; most = A .most; upto = b .is ∙ ap (cell w LEVEL) (add-one d) }
 
-  pub row-start : {v : ℕ} → CountedFrom s es n w d end v → RowWalking s es n k count w d made w made v end left right overs first last
+  pub row-start : {v : ℕ} → CountedFrom s es n w d end v → RowWalking s es n k nodes w d made w made v end left right overs first last
   row-start F =
       record {
         walkable = A .walkable;
@@ -56,8 +56,8 @@ module _ {s es : List ℕ} {n k count : ℕ} {w : List ℕ} {d made end : ℕ} {
         rest = ap (λ xs. walkFrom (slipsOf s es) (keptIn w k) xs (joinsIn w made)) (sym (F .those-are));
       }
 
-module _ {s es : List ℕ} {n k count : ℕ} {w₀ : List ℕ} {d made₀ : ℕ} {w : List ℕ} {made v end : ℕ} {left right overs first last : List ℕ}
-    (T : RowWalking s es n k count w₀ d made₀ w made v end left right overs first last) where
+module _ {s es : List ℕ} {n k nodes : ℕ} {w₀ : List ℕ} {d made₀ : ℕ} {w : List ℕ} {made v end : ℕ} {left right overs first last : List ℕ}
+    (T : RowWalking s es n k nodes w₀ d made₀ w made v end left right overs first last) where
   open AreaSlips (areaSlips s es n w₀) using (ss, ps)
 
   abbrev K : List ℕ
@@ -69,7 +69,7 @@ module _ {s es : List ℕ} {n k count : ℕ} {w₀ : List ℕ} {d made₀ : ℕ}
       let e : rowWalked s es n k w₀ d made₀ ≡ joinsIn w made = sym (T .rest) ∙ rw z in
       record { joins-are = sym e; marks = rw e (T .marks); only = T .only }
 
-  here : Walkable s es n k count w
+  here : Walkable s es n k nodes w
   here = walkable-kept (T .walkable) (T .only)
 
   module _ (h : v < end) where
@@ -110,7 +110,7 @@ module _ {s es : List ℕ} {n k count : ℕ} {w₀ : List ℕ} {d made₀ : ℕ}
 
     pub row-turn : {w′ left′ right′ overs′ first′ last′ : List ℕ} {made′ : ℕ} (v′ : ℕ)
         → JoinsMade w (S.scan (endersAt w es d v) d (startersAt w es d v) (joinsIn w made)) w′ left′ right′ overs′ first′ last′ made′ → v′ ≡ v + 1
-        → RowWalking s es n k count w₀ d made₀ w′ made′ v′ end left′ right′ overs′ first′ last′
+        → RowWalking s es n k nodes w₀ d made₀ w′ made′ v′ end left′ right′ overs′ first′ last′
     row-turn v′ m q =
         let e : v′ ≡ suc v = q ∙ add-one v in
         record {

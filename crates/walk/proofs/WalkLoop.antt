@@ -45,8 +45,8 @@ few-joins counts ss K a p =
 pub fresh-length : (xs ys : List ℕ) → length xs ≡ maxSlips → ys ≡ replicate maxSlips 0 → length xs ≡ length ys
 fresh-length xs ys h e = h ∙ sym (ap length e ∙ length-replicate {A = ℕ} maxSlips 0)
 
-pub record Walking (m : ℕ) (s es : List ℕ) (n k count : ℕ) (w₀ w : List ℕ) (made d : ℕ) (left right overs first last : List ℕ) : Type 0 where
-  pub walkable : Walkable s es n k count w₀
+pub record Walking (m : ℕ) (s es : List ℕ) (n k nodes : ℕ) (w₀ w : List ℕ) (made d : ℕ) (left right overs first last : List ℕ) : Type 0 where
+  pub walkable : Walkable s es n k nodes w₀
   pub only : Only (Cells JOINS 600) w₀ w
   pub some : 1 ≤ m
   pub upto : d ≤ maxSlip
@@ -54,10 +54,10 @@ pub record Walking (m : ℕ) (s es : List ℕ) (n k count : ℕ) (w₀ w : List 
   pub rest : walkFrom (slipsOf s es) (keptIn w₀ k) (those (counted m) (rows (patternsIn s es n w₀) (cell w₀ LEVEL) d)) (joinsIn w made)
       ≡ walkFor (counted m) (slipsOf s es) (keptIn w₀ k)
 
-pub walk-start : {m : ℕ} {s es : List ℕ} {n k count : ℕ} {w left right overs first last first′ last′ : List ℕ}
-    → Walkable s es n k count w → Fresh left right overs first last → 1 ≤ m → first′ ≡ upFrom 1 maxSlips → last′ ≡ upFrom 1 maxSlips
-    → Walking m s es n k count w w 0 maxSlip left right overs first′ last′
-walk-start {m} {s} {es} {n} {k} {count} {w} W F h f l =
+pub walk-start : {m : ℕ} {s es : List ℕ} {n k nodes : ℕ} {w left right overs first last first′ last′ : List ℕ}
+    → Walkable s es n k nodes w → Fresh left right overs first last → 1 ≤ m → first′ ≡ upFrom 1 maxSlips → last′ ≡ upFrom 1 maxSlips
+    → Walking m s es n k nodes w w 0 maxSlip left right overs first′ last′
+walk-start {m} {s} {es} {n} {k} {nodes} {w} W F h f l =
     record {
       walkable = W;
       only = only-refl;
@@ -69,8 +69,8 @@ walk-start {m} {s} {es} {n} {k} {count} {w} W F h f l =
           (rows-nodes (slipsOf s es) (members w n) (keptIn w k) (kept-member W) (cell w LEVEL) maxSlip (W .numbered .level));
     }
 
-module _ {m : ℕ} {s es : List ℕ} {n k count : ℕ} {w₀ w : List ℕ} {made d : ℕ} {left right overs first last : List ℕ}
-    (T : Walking m s es n k count w₀ w made d left right overs first last) where
+module _ {m : ℕ} {s es : List ℕ} {n k nodes : ℕ} {w₀ w : List ℕ} {made d : ℕ} {left right overs first last : List ℕ}
+    (T : Walking m s es n k nodes w₀ w made d left right overs first last) where
   open AreaSlips (areaSlips s es n w₀) using (ss, ps)
 
   abbrev K : List ℕ
@@ -83,7 +83,7 @@ module _ {m : ℕ} {s es : List ℕ} {n k count : ℕ} {w₀ w : List ℕ} {made
     pub walk-some : 1 ≤ d
     walk-some = omega (arith, T .some)
 
-    pub walk-asks : RowAsks s es n k count w d made left right overs first last
+    pub walk-asks : RowAsks s es n k nodes w d made left right overs first last
     walk-asks = record { walkable = walkable-kept (T .walkable) (T .only); some = walk-some; most = T .upto; marks = T .marks }
 
     level-same : (i : ℕ) → i ≤ suc maxSlip → cell w LEVEL i ≡ cell w₀ LEVEL i
@@ -107,7 +107,7 @@ module _ {m : ℕ} {s es : List ℕ} {n k count : ℕ} {w₀ w : List ℕ} {made
 
     pub walk-turn : {w′ left′ right′ overs′ first′ last′ : List ℕ} {made′ : ℕ} (d′ : ℕ)
         → JoinsMade w (rowWalked s es n k w d made) w′ left′ right′ overs′ first′ last′ made′ → d′ ≡ d - 1
-        → Walking m s es n k count w₀ w′ made′ d′ left′ right′ overs′ first′ last′
+        → Walking m s es n k nodes w₀ w′ made′ d′ left′ right′ overs′ first′ last′
     walk-turn d′ j q =
         let e : d ≡ suc d′ = omega (arith, walk-some) in
         let here = nodesAt ps (cell w₀ LEVEL) d in

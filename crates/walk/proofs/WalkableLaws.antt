@@ -45,11 +45,11 @@ those-few t (x ∷ xs) =
       | inr e ↦ omega (arith, ap length (those-no t x xs e), those-few t xs)
     ]
 
-module _ {s es : List ℕ} {n k count : ℕ} {w : List ℕ} (W : Walkable s es n k count w) where
+module _ {s es : List ℕ} {n k nodes : ℕ} {w : List ℕ} (W : Walkable s es n k nodes w) where
   abbrev ss : List (List ℕ)
   ss = slipsOf s es
 
-  abbrev N : Numbered s es n count w
+  abbrev N : Numbered s es n nodes w
   N = W .numbered
 
   abbrev K : List ℕ
@@ -155,7 +155,7 @@ module _ {s es : List ℕ} {n k count : ℕ} {w : List ℕ} (W : Walkable s es n
         threaded-kept below ENDS v ENDS-NEXT (λ l. endOf es l - length (string ps v)) (enders ss (string ps v) K) (omega (arith, node-small v m))
         (λ l i. omega (arith, ends-short l, node-some ps v m .0)) (W .ends v m)
 
-    pub walkable-kept : Walkable s es n k count w′
+    pub walkable-kept : Walkable s es n k nodes w′
     walkable-kept =
         record {
           numbered = numbered-kept (only-kept KID f (λ p q. omega (arith, q .from))) N;

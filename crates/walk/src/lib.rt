@@ -57,7 +57,7 @@ fn first_counted(
     }
     let after = tables::at(work, layout::OWN, v) + 1;
     let start = after - d;
-    if trays::counts(&letters[start..after]) {
+    if trays::not_stops(&letters[start..after]) {
         return v;
     }
     v + 1

@@ -169,10 +169,10 @@ marks-none left right overs first last l r o f e =
       neighbours = record {
         lefts = ap length l ∙ length-replicate {A = ℕ} maxSlips 0;
         rights = ap length r ∙ length-replicate {A = ℕ} maxSlips 0;
-        over-all = ap length o ∙ length-replicate {A = ℕ} maxSlips 0;
+        overlaps = ap length o ∙ length-replicate {A = ℕ} maxSlips 0;
         left-is = λ i h. rw (l, getD-replicate {A = ℕ} maxSlips i 0 0 h);
         right-is = λ i h. rw (r, getD-replicate {A = ℕ} maxSlips i 0 0 h);
-        over-is = λ i h. rw (o, getD-replicate {A = ℕ} maxSlips i 0 0 h);
+        overlap-is = λ i h. rw (o, getD-replicate {A = ℕ} maxSlips i 0 0 h);
       };
       firsts = ap length f ∙ length-upFrom 1 maxSlips;
       lasts = ap length e ∙ length-upFrom 1 maxSlips;
@@ -257,15 +257,15 @@ module _ {js : List Join} {left right overs first last : List ℕ} (M : Marks js
           neighbours = record {
             lefts = ap length a ∙ length-set left (r - 1) l ∙ N .lefts;
             rights = ap length b ∙ length-set right (l - 1) r ∙ N .rights;
-            over-all = ap length o ∙ length-set overs (l - 1) d ∙ N .over-all;
+            overlaps = ap length o ∙ length-set overs (l - 1) d ∙ N .overlaps;
             left-is =
                 rw a (tells-set left (λ i. leftOf i js) (N .left-is) (N .lefts) (λ i. leftOf i more) r l hr
                 (L.left-joined js (M .linked) l r d (hl .0) (hr .0) right-none left-none)
                 (L.left-other js (M .linked) l r d (hl .0) (hr .0) right-none left-none));
             right-is =
                 rw b (tells-set right (λ i. rightOf i js) (N .right-is) (N .rights) (λ i. rightOf i more) l r hl right-now right-others);
-            over-is =
-                rw o (tells-set overs (λ i. overlapAfter i js) (N .over-is) (N .over-all) (λ i. overlapAfter i more) l d hl
+            overlap-is =
+                rw o (tells-set overs (λ i. overlapAfter i js) (N .overlap-is) (N .overlaps) (λ i. overlapAfter i more) l d hl
                 (over-joined js (M .linked .real) l r d right-none) (λ i n. over-other i js (join l r d) n));
           };
           firsts = e .firsts;

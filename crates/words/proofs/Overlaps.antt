@@ -43,9 +43,6 @@ overlap-max (suc k) (x ∷ xs) b h =
       | inr e ↦ omega (arith, overlap-less x xs b e, overlap-max k xs b h)
     ]
 
-pub overlap-most : (a b : List ℕ) (k : ℕ) → begins (drop k a) b ≡ true → length (drop k a) ≤ overlap a b
-overlap-most a b k e = omega (arith, length-drop k a, overlap-max k a b e)
-
 pub overlap-at-most : (a b : List ℕ) → overlap a b ≤ length a
 overlap-at-most a b = omega (arith, overlap-cut a b .1)
 

@@ -121,13 +121,6 @@ ends-split x y e = let k = length y - length x in (take k y, sym (take-append-dr
 pub drop-ends : (k : ℕ) (y : List ℕ) → ends (drop k y) y ≡ true
 drop-ends k y = rw (take-append-drop k y) at (ends-here (drop k y) (take k y))
 
-pub ends-trans : (x y z : List ℕ) → ends x y ≡ true → ends y z ≡ true → ends x z ≡ true
-ends-trans x y z e f =
-    let p = ends-split x y e in
-    let q = ends-split y z f in
-    let h : z ≡ (q .0 ++ p .0) ++ x = q .1 ∙ (ap (λ s. q .0 ++ s) (p .1) ∙ sym (append-assoc (q .0) (p .0) x)) in
-    rw h (ends-here x (q .0 ++ p .0))
-
 -- suffixes that are shorter
 pub endsProperly-ends : (x y : List ℕ) → endsProperly x y ≡ true → (length x < length y) × (ends x y ≡ true)
 endsProperly-ends x y e =
@@ -152,9 +145,6 @@ pub stands-drop : (k : ℕ) (x y : List ℕ) → begins x (drop k y) ≡ true �
 stands-drop zero x y e = begins-stands x y e
 stands-drop (suc k) x [] e = e
 stands-drop (suc k) x (y ∷ ys) e = or-right (begins x (y ∷ ys)) (standsIn x ys) (stands-drop k x ys e)
-
-pub stands-here : (x u v : List ℕ) → standsIn x (u ++ (x ++ v)) ≡ true
-stands-here x u v = stands-drop (length u) x (u ++ (x ++ v)) (rw (drop-at u (x ++ v) (length u) refl) (begins-here x v))
 
 pub stands-split : (x y : List ℕ) → standsIn x y ≡ true → (u : List ℕ) × (v : List ℕ) × (y ≡ u ++ (x ++ v))
 stands-split x [] e = ([], drop (length x) [], sym (begins-split x [] e))

@@ -1,10 +1,10 @@
 -- What the steps of finding ask and leave, for a tray with letters s and ends es, a text t and a work area w.
 --   Clear s es t w           == no row before place C turns the call back
---   Prepared s es w count w′ == the automaton of all slips stands in w′ with its output links and tallies, and count nodes that have a letter
+--   Prepared s es w nodes w′ == the automaton of all slips stands in w′ with its output links and tallies, and this many nodes have a letter
 --   scanAt s es t i w        == the scan that w keeps stands before occurrence i
 --   foundAt s es t i         == the record of occurrence i
 --   Ready, Next              == what telling occurrence i asks, and leaves
---   Enough .. count w        == so many occurrences can be told
+--   Enough .. count w        == this many occurrences can be told
 --   Left .. n w w′           == n occurrences were told: w′ is as long as w, and is w where n is 0
 --   turnedBack f             == the answer to a call that f turns back: nothing is stored
 --   CoreSays                 == finding up to where occurrences are stored: the answer, how many there are to store, and a scan before the first
@@ -28,8 +28,8 @@ use Rattle.answers.specs.Finding.{searchRefused, foundRecord}
 pub record Clear (s es t w : List ℕ) : Type 0 where
   pub silent : findBefore s es t (length w) .number ≡ 0
 
-pub record Prepared (s es w : List ℕ) (count : ℕ) (w′ : List ℕ) : Type 0 where
-  pub told : Told s es (length es) count w′
+pub record Prepared (s es w : List ℕ) (nodes : ℕ) (w′ : List ℕ) : Type 0 where
+  pub told : Told s es (length es) nodes w′
   pub all-slips : members w′ (length es) ≡ numbers (slipsOf s es)
   pub same : length w′ ≡ length w
 

@@ -2,7 +2,7 @@
 -- and the nodes on its failure path.
 use Rattle.kept_lists.proofs.EndLoop.{Falling, falling-end, falling-place, falling-letters, falling-letter, falling-fail, falling-start}
 use Rattle.kept_lists.proofs.EndLoop.{falling-left, falling-level, falling-skip, falling-deep, falling-can, falling-next, falling-more, falling-all}
-use Rattle.kept_lists.proofs.SideLoop.{added-some, added-most}
+use Rattle.kept_lists.proofs.AffixLoop.{added-some, added-most}
 use mathlib.Core.Path.{refl}
 use native.Mathlib.Omega.{arith}
 use borrow.Author.Needs.{needs}
@@ -10,10 +10,10 @@ use Rattle.kept_lists.proofs.add_ends.Statement.{statement}
 use Rattle.kept_lists.proofs.add_ends.Tie as tie
 
 abbrev Inv-loop : tie.InvT-loop
-Inv-loop letters ends work₀ n k count j i start end last whole u₀ d₀ work u d = Falling letters ends n k count work₀ j i end work u d
+Inv-loop letters ends work₀ n k nodes j i start end last whole u₀ d₀ work u d = Falling letters ends n k nodes work₀ j i end work u d
 
 abbrev μ-loop : tie.MeasureT-loop
-μ-loop letters ends work₀ n k count j i start end last whole u₀ d₀ work u d = d
+μ-loop letters ends work₀ n k nodes j i start end last whole u₀ d₀ work u d = d
 
 slip-span-requires : tie.Need-slip-span-requires Inv-loop μ-loop
 slip-span-requires c κs = (search added-some, search added-most)

@@ -2,16 +2,16 @@
 -- behind the j-th that begin with the node.
 use Prim.Native.Nat.{_-_}
 use Rattle.kept_lists.proofs.StartLoop.{Beginning, beginning-start, beginning-place, beginning-can, beginning-more, beginning-all}
-use Rattle.kept_lists.proofs.SideLoop.{added-some, added-most}
+use Rattle.kept_lists.proofs.AffixLoop.{added-some, added-most}
 use borrow.Author.Needs.{needs}
 use Rattle.kept_lists.proofs.add_starts.Statement.{statement}
 use Rattle.kept_lists.proofs.add_starts.Tie as tie
 
 abbrev Inv-loop : tie.InvT-loop
-Inv-loop letters ends work₀ n k count j i end p₀ work p = Beginning letters ends n k work₀ j i end work p
+Inv-loop letters ends work₀ n k nodes j i end p₀ work p = Beginning letters ends n k work₀ j i end work p
 
 abbrev μ-loop : tie.MeasureT-loop
-μ-loop letters ends work₀ n k count j i end p₀ work p = end - p
+μ-loop letters ends work₀ n k nodes j i end p₀ work p = end - p
 
 slip-span-requires : tie.Need-slip-span-requires Inv-loop μ-loop
 slip-span-requires c κs = (search added-some, search added-most)

@@ -1,15 +1,15 @@
 -- Invariant: the list of each node in STARTS holds the kept members from the j-th on that begin with it, ascending; no cell below STARTS has changed.
 use Rattle.kept_lists.specs.steps.KeptLists.{beginnings, ListedTo}
-use Rattle.kept_lists.proofs.SideLoop.{listing-start, listing-before, listing-more, listing-all}
+use Rattle.kept_lists.proofs.AffixLoop.{listing-start, listing-before, listing-more, listing-all}
 use borrow.Author.Needs.{needs}
 use Rattle.kept_lists.proofs.fill_starts.Statement.{statement}
 use Rattle.kept_lists.proofs.fill_starts.Tie as tie
 
 abbrev Inv-loop : tie.InvT-loop
-Inv-loop letters ends work₀ n k count j₀ work j = ListedTo beginnings letters ends n k count work₀ j work
+Inv-loop letters ends work₀ n k nodes j₀ work j = ListedTo beginnings letters ends n k nodes work₀ j work
 
 abbrev μ-loop : tie.MeasureT-loop
-μ-loop letters ends work₀ n k count j₀ work j = j
+μ-loop letters ends work₀ n k nodes j₀ work j = j
 
 loop-holds : tie.Need-loop-holds Inv-loop μ-loop
 loop-holds c = search listing-start

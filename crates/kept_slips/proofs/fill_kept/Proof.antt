@@ -10,10 +10,10 @@ use Rattle.kept_slips.proofs.fill_kept.Statement.{statement}
 use Rattle.kept_slips.proofs.fill_kept.Tie as tie
 
 abbrev Inv-loop : tie.InvT-loop
-Inv-loop letters ends work₀ n count k₀ j₀ work k j = Sifting letters ends n count work j k × SameBelow KEPT work₀ work
+Inv-loop letters ends work₀ n nodes k₀ j₀ work k j = Sifting letters ends n nodes work j k × SameBelow KEPT work₀ work
 
 abbrev μ-loop : tie.MeasureT-loop
-μ-loop letters ends work₀ n count k₀ j₀ work k j = n - j
+μ-loop letters ends work₀ n nodes k₀ j₀ work k j = n - j
 
 loop-holds : tie.Need-loop-holds Inv-loop μ-loop
 loop-holds c = (search sifting-start, search kept-refl)

@@ -9,10 +9,10 @@ use Rattle.kept_slips.proofs.fill_marks.Statement.{statement}
 use Rattle.kept_slips.proofs.fill_marks.Tie as tie
 
 abbrev Inv-loop : tie.InvT-loop
-Inv-loop letters ends work₀ n count v₀ work v = Marking letters ends n count work v × SameBelow MARK work₀ work
+Inv-loop letters ends work₀ n nodes v₀ work v = Marking letters ends n nodes work v × SameBelow MARK work₀ work
 
 abbrev μ-loop : tie.MeasureT-loop
-μ-loop letters ends work₀ n count v₀ work v = count + 1 - v
+μ-loop letters ends work₀ n nodes v₀ work v = nodes + 1 - v
 
 clear-requires : tie.Need-clear-requires Inv-loop μ-loop
 clear-requires c κs = search marking-room

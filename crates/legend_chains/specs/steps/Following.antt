@@ -10,17 +10,17 @@ use Rattle.legend_chains.specs.Chains.{chainBy, chainOf}
 
 pub record ChainAsks (right overs : List ℕ) (n i o : ℕ) (xs : List ℕ) (m : ℕ) : Type 0 where
   pub rights : length right ≡ maxSlips
-  pub over-all : length overs ≡ maxSlips
+  pub overlaps : length overs ≡ maxSlips
   pub right-small : (k : ℕ) → k < maxSlips → getD right k 0 ≤ maxSlips
   pub small : i ≤ maxSlips
-  pub over-small : o < 65536
+  pub overlap-small : o < 65536
   pub cells : 2 * maxSlips ≤ length xs
   pub room : m + length (chainBy right overs n i o) ≤ maxSlips
 
 pub record AddAsks (left right overs : List ℕ) (n i : ℕ) (xs : List ℕ) (m : ℕ) : Type 0 where
   pub lefts : length left ≡ maxSlips
   pub rights : length right ≡ maxSlips
-  pub over-all : length overs ≡ maxSlips
+  pub overlaps : length overs ≡ maxSlips
   pub right-small : (k : ℕ) → k < maxSlips → getD right k 0 ≤ maxSlips
   pub some : 1 ≤ i
   pub small : i ≤ maxSlips

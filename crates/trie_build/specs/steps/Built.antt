@@ -1,7 +1,7 @@
 -- The automaton of all slips of a tray, built in the work area.
 --   Buildable s es w       == the tray is accepted, and the work area is large enough
 --   SortedAll s es w w′    == all slips are members, sorted by letters
---   Built s es w count w′  == and their automaton stands, with count nodes that have a letter
+--   Built s es w nodes w′  == and their automaton stands; this many nodes have a letter
 use mathlib.Core.Path.{_≡_}
 use mathlib.Core.List.{List}
 use Prim.Native.Nat.{ℕ, _≤_}
@@ -22,7 +22,7 @@ pub record SortedAll (s es w w′ : List ℕ) : Type 0 where
   pub all-slips : members w′ (length es) ≡ numbers (slipsOf s es)
   pub same : length w′ ≡ length w
 
-pub record Built (s es w : List ℕ) (count : ℕ) (w′ : List ℕ) : Type 0 where
-  pub automaton : Automaton s es (length es) count w′
+pub record Built (s es w : List ℕ) (nodes : ℕ) (w′ : List ℕ) : Type 0 where
+  pub automaton : Automaton s es (length es) nodes w′
   pub all-slips : members w′ (length es) ≡ numbers (slipsOf s es)
   pub same : length w′ ≡ length w

@@ -7,10 +7,10 @@ use Rattle.trie_children.proofs.fill_kids.Statement.{statement}
 use Rattle.trie_children.proofs.fill_kids.Tie as tie
 
 abbrev Inv-loop : tie.InvT-loop
-Inv-loop letters ends work₀ n count v₀ u₀ work v u = FillingKids letters ends n count work₀ work v u
+Inv-loop letters ends work₀ n nodes v₀ u₀ work v u = FillingKids letters ends n nodes work₀ work v u
 
 abbrev μ-loop : tie.MeasureT-loop
-μ-loop letters ends work₀ n count v₀ u₀ work v u = (count + 2 - v) + (count + 2 - u)
+μ-loop letters ends work₀ n nodes v₀ u₀ work v u = (nodes + 2 - v) + (nodes + 2 - u)
 
 loop-holds : tie.Need-loop-holds Inv-loop μ-loop
 loop-holds c = search kids-start

@@ -7,10 +7,10 @@ use Rattle.trie_children.proofs.fill_near.Statement.{statement}
 use Rattle.trie_children.proofs.fill_near.Tie as tie
 
 abbrev Inv-loop : tie.InvT-loop
-Inv-loop letters ends work₀ n count v₀ work v = FillingNear letters ends n count work₀ work v
+Inv-loop letters ends work₀ n nodes v₀ work v = FillingNear letters ends n nodes work₀ work v
 
 abbrev μ-loop : tie.MeasureT-loop
-μ-loop letters ends work₀ n count v₀ work v = nearNodes - v
+μ-loop letters ends work₀ n nodes v₀ work v = nearNodes - v
 
 loop-holds : tie.Need-loop-holds Inv-loop μ-loop
 loop-holds c = search near-start

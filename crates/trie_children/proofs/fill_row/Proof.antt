@@ -7,10 +7,10 @@ use Rattle.trie_children.proofs.fill_row.Statement.{statement}
 use Rattle.trie_children.proofs.fill_row.Tie as tie
 
 abbrev Inv-loop : tie.InvT-loop
-Inv-loop letters ends work₀ n count v c₀ work c = FillingRow letters ends n count work₀ work v c
+Inv-loop letters ends work₀ n nodes v c₀ work c = FillingRow letters ends n nodes work₀ work v c
 
 abbrev μ-loop : tie.MeasureT-loop
-μ-loop letters ends work₀ n count v c₀ work c = suc lastSign - c
+μ-loop letters ends work₀ n nodes v c₀ work c = suc lastSign - c
 
 loop-holds : tie.Need-loop-holds Inv-loop μ-loop
 loop-holds c = search row-start

@@ -7,10 +7,10 @@ use Rattle.trie_children.proofs.scan_child.Statement.{statement}
 use Rattle.trie_children.proofs.scan_child.Tie as tie
 
 abbrev Inv-loop : tie.InvT-loop
-Inv-loop letters ends work n count v c end u₀ u = Scanning letters ends n count work v c end u
+Inv-loop letters ends work n nodes v c end u₀ u = Scanning letters ends n nodes work v c end u
 
 abbrev μ-loop : tie.MeasureT-loop
-μ-loop letters ends work n count v c end u₀ u = end - u
+μ-loop letters ends work n nodes v c end u₀ u = end - u
 
 loop-holds : tie.Need-loop-holds Inv-loop μ-loop
 loop-holds c = search scan-start

@@ -9,10 +9,10 @@ use Rattle.trie_heads.proofs.fill_heads.Statement.{statement}
 use Rattle.trie_heads.proofs.fill_heads.Tie as tie
 
 abbrev Inv-loop : tie.InvT-loop
-Inv-loop letters ends work₀ n count j₀ work j = Heading letters ends n count work j × SameBelow HEAD work₀ work
+Inv-loop letters ends work₀ n nodes j₀ work j = Heading letters ends n nodes work j × SameBelow HEAD work₀ work
 
 abbrev μ-loop : tie.MeasureT-loop
-μ-loop letters ends work₀ n count j₀ work j = j
+μ-loop letters ends work₀ n nodes j₀ work j = j
 
 clear-requires : tie.Need-clear-requires Inv-loop μ-loop
 clear-requires c κs = search heading-room

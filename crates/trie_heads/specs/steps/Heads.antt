@@ -12,8 +12,8 @@ use Rattle.layout.specs.Tables.{cell, members, Threaded}
 use Rattle.layout.specs.Numbered.{Automaton, SameBelow, Headed}
 
 -- a member of the automaton
-pub record Among (s es : List ℕ) (n count : ℕ) (w : List ℕ) (i : ℕ) : Type 0 where
-  pub automaton : Automaton s es n count w
+pub record Among (s es : List ℕ) (n nodes : ℕ) (w : List ℕ) (i : ℕ) : Type 0 where
+  pub automaton : Automaton s es n nodes w
   pub member : In i (members w n)
 
 -- one more number before a list
@@ -33,6 +33,6 @@ abbrev pub Lists : (ℕ → Type 0) → (ℕ → ℕ → ℕ) → (ℕ → ℕ) 
 Lists P key head next list = (v : ℕ) → P v → Threaded (λ r. next (key v r)) (head v) (list v)
 
 -- HEAD, TWIN
-pub record HeadsFilled (s es : List ℕ) (n count : ℕ) (w w′ : List ℕ) : Type 0 where
-  pub headed : Headed s es n count w′
+pub record HeadsFilled (s es : List ℕ) (n nodes : ℕ) (w w′ : List ℕ) : Type 0 where
+  pub headed : Headed s es n nodes w′
   pub below : SameBelow HEAD w w′

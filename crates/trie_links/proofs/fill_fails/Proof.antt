@@ -6,10 +6,10 @@ use Rattle.trie_links.proofs.fill_fails.Statement.{statement}
 use Rattle.trie_links.proofs.fill_fails.Tie as tie
 
 abbrev Inv-loop : tie.InvT-loop
-Inv-loop letters ends work₀ n count v₀ work v = FillingFails letters ends n count work₀ work v
+Inv-loop letters ends work₀ n nodes v₀ work v = FillingFails letters ends n nodes work₀ work v
 
 abbrev μ-loop : tie.MeasureT-loop
-μ-loop letters ends work₀ n count v₀ work v = count + 1 - v
+μ-loop letters ends work₀ n nodes v₀ work v = nodes + 1 - v
 
 loop-holds : tie.Need-loop-holds Inv-loop μ-loop
 loop-holds c = search fails-start

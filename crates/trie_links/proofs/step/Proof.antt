@@ -6,10 +6,10 @@ use Rattle.trie_links.proofs.step.Statement.{statement}
 use Rattle.trie_links.proofs.step.Tie as tie
 
 abbrev Inv-loop : tie.InvT-loop
-Inv-loop letters ends work n count v c state₀ drops₀ state drops = Dropping letters ends n count work v c state drops
+Inv-loop letters ends work n nodes v c state₀ drops₀ state drops = Dropping letters ends n nodes work v c state drops
 
 abbrev μ-loop : tie.MeasureT-loop
-μ-loop letters ends work n count v c state₀ drops₀ state drops = state
+μ-loop letters ends work n nodes v c state₀ drops₀ state drops = state
 
 loop-holds : tie.Need-loop-holds Inv-loop μ-loop
 loop-holds c = search dropping-start

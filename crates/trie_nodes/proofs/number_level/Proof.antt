@@ -10,10 +10,10 @@ use Rattle.trie_nodes.proofs.number_level.Statement.{statement}
 use Rattle.trie_nodes.proofs.number_level.Tie as tie
 
 abbrev Inv-loop : tie.InvT-loop
-Inv-loop letters ends work₀ n c count k₀ r₀ work k r = (r ≤ n) × AtStage letters ends n c r work₀ k work
+Inv-loop letters ends work₀ n c nodes k₀ r₀ work k r = (r ≤ n) × AtStage letters ends n c r work₀ k work
 
 abbrev μ-loop : tie.MeasureT-loop
-μ-loop letters ends work₀ n c count k₀ r₀ work k r = n - r
+μ-loop letters ends work₀ n c nodes k₀ r₀ work k r = n - r
 
 slip-span-requires : tie.Need-slip-span-requires Inv-loop μ-loop
 slip-span-requires c κs =

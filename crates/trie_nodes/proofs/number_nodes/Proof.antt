@@ -1,4 +1,4 @@
--- Invariant: the `count` nodes of 1 to c letters have their numbers: LEVEL, AT and OWN say which, and no other cell has changed.
+-- Invariant: the nodes of 1 to c letters, `nodes` of them, have their numbers: LEVEL, AT and OWN say which, and no other cell has changed.
 use borrow.Author.Needs.{needs}
 use Prim.Native.Nat.{_≤_, _-_}
 use Rattle.trays.specs.Limits.{maxSlip}
@@ -8,10 +8,10 @@ use Rattle.trie_nodes.proofs.number_nodes.Statement.{statement}
 use Rattle.trie_nodes.proofs.number_nodes.Tie as tie
 
 abbrev Inv-loop : tie.InvT-loop
-Inv-loop letters ends work₀ n count₀ c₀ work count c = (c ≤ maxSlip) × AtStage letters ends n c 0 work₀ count work
+Inv-loop letters ends work₀ n nodes₀ c₀ work nodes c = (c ≤ maxSlip) × AtStage letters ends n c 0 work₀ nodes work
 
 abbrev μ-loop : tie.MeasureT-loop
-μ-loop letters ends work₀ n count₀ c₀ work count c = maxSlip - c
+μ-loop letters ends work₀ n nodes₀ c₀ work nodes c = maxSlip - c
 
 loop-holds : tie.Need-loop-holds Inv-loop μ-loop
 loop-holds c = (search needs, search nodes-begin)

@@ -6,10 +6,10 @@ use Rattle.trie_outputs.proofs.fill_outputs.Statement.{statement}
 use Rattle.trie_outputs.proofs.fill_outputs.Tie as tie
 
 abbrev Inv-loop : tie.InvT-loop
-Inv-loop letters ends work₀ n count v₀ work v = Filling letters ends n count work₀ work v
+Inv-loop letters ends work₀ n nodes v₀ work v = Filling letters ends n nodes work₀ work v
 
 abbrev μ-loop : tie.MeasureT-loop
-μ-loop letters ends work₀ n count v₀ work v = count + 1 - v
+μ-loop letters ends work₀ n nodes v₀ work v = nodes + 1 - v
 
 put-requires : tie.Need-put-requires Inv-loop μ-loop
 put-requires c κs = search filling-root

@@ -6,10 +6,10 @@ use Rattle.trie_outputs.proofs.owners_of.Statement.{statement}
 use Rattle.trie_outputs.proofs.owners_of.Tie as tie
 
 abbrev Inv-loop : tie.InvT-loop
-Inv-loop letters ends work n count v i₀ k₀ i k = Counting letters ends n count work v i k
+Inv-loop letters ends work n nodes v i₀ k₀ i k = Counting letters ends n nodes work v i k
 
 abbrev μ-loop : tie.MeasureT-loop
-μ-loop letters ends work n count v i₀ k₀ i k = n - k
+μ-loop letters ends work n nodes v i₀ k₀ i k = n - k
 
 at-requires : tie.Need-at-requires Inv-loop μ-loop
 at-requires c κs = search owners-head

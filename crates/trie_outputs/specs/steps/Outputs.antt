@@ -1,5 +1,5 @@
 -- Output links and tallies, in the work area w of a tray with letters s and ends es. Its n members stand in w, and the nodes of their letters
--- have the numbers up to count.
+-- have the numbers up to nodes.
 --   longestOwned ss M t      == the longest ending of t that is a member's whole string, empty if there is none
 --   OutOf ss M v r           == r is the output link of node v: the node of the longest proper ending of its string that is a member's whole
 --                               string, which is the next such node on its failure path; 0 for none
@@ -15,7 +15,7 @@ use Prim.Native.Nat.{ℕ, _<_}
 use lib.ListN.{length}
 use Rattle.words.specs.Lists.{tailOf}
 use Rattle.trays.specs.Slips.{slipsOf}
-use Rattle.matching.specs.Nodes.{nodes, string, IsNode, Num}
+use Rattle.matching.specs.Nodes.{nodesOf, string, IsNode, Num}
 use Rattle.matching.specs.Occurrences.{endingOf}
 use Rattle.layout.specs.Layout.{OUT, TALLY}
 use Rattle.layout.specs.Tables.{cell, members, patterns, owners}
@@ -36,14 +36,14 @@ abbrev pub OutIs : List (List ℕ) → List ℕ → (ℕ → ℕ) → Type 0
 OutIs ss M out = (v : ℕ) → Num (patterns ss M) v → OutOf ss M v (out v)
 
 abbrev pub TallyIs : List (List ℕ) → List ℕ → (ℕ → ℕ) → Type 0
-TallyIs ss M tally = (v : ℕ) → v < length (nodes (patterns ss M)) → TallyOf ss M v (tally v)
+TallyIs ss M tally = (v : ℕ) → v < length (nodesOf (patterns ss M)) → TallyOf ss M v (tally v)
 
-pub record Owning (s es : List ℕ) (n count : ℕ) (w : List ℕ) (v : ℕ) : Type 0 where
-  pub headed : Headed s es n count w
+pub record Owning (s es : List ℕ) (n nodes : ℕ) (w : List ℕ) (v : ℕ) : Type 0 where
+  pub headed : Headed s es n nodes w
   pub node : Num (patternsIn s es n w) v
 
-pub record Telling (s es : List ℕ) (n count : ℕ) (w : List ℕ) (v : ℕ) : Type 0 where
-  pub owning : Owning s es n count w v
+pub record Telling (s es : List ℕ) (n nodes : ℕ) (w : List ℕ) (v : ℕ) : Type 0 where
+  pub owning : Owning s es n nodes w v
   pub outs : (u : ℕ) → Num (patternsIn s es n w) u → u < v → OutOf (slipsOf s es) (members w n) u (cell w OUT u)
   pub tallies : (u : ℕ) → u < v → TallyOf (slipsOf s es) (members w n) u (cell w TALLY u)
 
@@ -51,11 +51,11 @@ pub record Tallied (ss : List (List ℕ)) (M : List ℕ) (v r : ℕ) : Type 0 wh
   pub is : TallyOf ss M v r
   pub small : r < 65536
 
-pub record Told (s es : List ℕ) (n count : ℕ) (w : List ℕ) : Type 0 where
-  pub headed : Headed s es n count w
+pub record Told (s es : List ℕ) (n nodes : ℕ) (w : List ℕ) : Type 0 where
+  pub headed : Headed s es n nodes w
   pub outs : OutIs (slipsOf s es) (members w n) (cell w OUT)
   pub tallies : TallyIs (slipsOf s es) (members w n) (cell w TALLY)
 
-pub record OutputsFilled (s es : List ℕ) (n count : ℕ) (w w′ : List ℕ) : Type 0 where
-  pub told : Told s es n count w′
+pub record OutputsFilled (s es : List ℕ) (n nodes : ℕ) (w w′ : List ℕ) : Type 0 where
+  pub told : Told s es n nodes w′
   pub below : SameBelow OUT w w′

@@ -7,10 +7,10 @@ use Rattle.trie_scan.proofs.advance.Statement.{statement}
 use Rattle.trie_scan.proofs.advance.Tie as tie
 
 abbrev Inv-loop : tie.InvT-loop
-Inv-loop letters ends text work n count y₀ y = Reaching letters ends text n count work y₀ y
+Inv-loop letters ends text work n nodes y₀ y = Reaching letters ends text n nodes work y₀ y
 
 abbrev μ-loop : tie.MeasureT-loop
-μ-loop letters ends text work n count y₀ y = length text - y .read
+μ-loop letters ends text work n nodes y₀ y = length text - y .read
 
 loop-holds : tie.Need-loop-holds Inv-loop μ-loop
 loop-holds c = search reaching-start

@@ -9,10 +9,10 @@ use Rattle.trie_scan.proofs.count_text.Statement.{statement}
 use Rattle.trie_scan.proofs.count_text.Tie as tie
 
 abbrev Inv-loop : tie.InvT-loop
-Inv-loop letters ends text work n count state₀ moves₀ found₀ read₀ state moves found read = Counting letters ends text n count work state moves found read
+Inv-loop letters ends text work n nodes state₀ moves₀ found₀ read₀ state moves found read = Counting letters ends text n nodes work state moves found read
 
 abbrev μ-loop : tie.MeasureT-loop
-μ-loop letters ends text work n count state₀ moves₀ found₀ read₀ state moves found read = length text - read
+μ-loop letters ends text work n nodes state₀ moves₀ found₀ read₀ state moves found read = length text - read
 
 loop-holds : tie.Need-loop-holds Inv-loop μ-loop
 loop-holds c = search counting-start

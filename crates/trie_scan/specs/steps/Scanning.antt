@@ -1,5 +1,5 @@
 -- A text t read by the automaton of all slips of a tray with letters s and ends es, which stands in the work area w: its n members are all
--- slips, and its nodes have the numbers up to count.
+-- slips, and its nodes have the numbers up to nodes.
 --   SCAN                      == where the cells stand that keep a scan: the count of nodes, then letters read in two cells, state, node, slip
 --   occursFrom ss t e         == the occurrences that end behind the first e letters
 --   Able .. t .. w            == the automaton of all slips and its tables stand, and the text is no longer than it may be
@@ -33,8 +33,8 @@ use Rattle.trie_scan.specs.declared.Scan.{Scan}
 abbrev pub occursFrom : List (List ℕ) → List ℕ → ℕ → List Occurrence
 occursFrom ss t e = each (λ p. map (occurrence p) (endingAt ss (take p t))) (upFrom (suc e) (length t - e))
 
-pub record Able (s es t : List ℕ) (n count : ℕ) (w : List ℕ) : Type 0 where
-  pub told : Told s es n count w
+pub record Able (s es t : List ℕ) (n nodes : ℕ) (w : List ℕ) : Type 0 where
+  pub told : Told s es n nodes w
   pub all-slips : members w n ≡ numbers (slipsOf s es)
   pub short : length t ≤ maxText
 
@@ -60,47 +60,47 @@ abbrev pub Reports : List ℕ → List ℕ → ℕ → List ℕ → ℕ → Repo
 Reports s es n w v r =
     Pending (slipsOf s es) (members w n) w (r .node) (r .slip) (endingOf (slipsOf s es) (members w n) (string (patternsIn s es n w) v))
 
-pub record AtNode (s es : List ℕ) (n count : ℕ) (w : List ℕ) (v : ℕ) : Type 0 where
-  pub told : Told s es n count w
-  pub node : v ≤ count
+pub record AtNode (s es : List ℕ) (n nodes : ℕ) (w : List ℕ) (v : ℕ) : Type 0 where
+  pub told : Told s es n nodes w
+  pub node : v ≤ nodes
 
 -- scans
-pub record Standing (s es t : List ℕ) (n count : ℕ) (w : List ℕ) (x : Scan) : Type 0 where
-  pub able : Able s es t n count w
+pub record Standing (s es t : List ℕ) (n nodes : ℕ) (w : List ℕ) (x : Scan) : Type 0 where
+  pub able : Able s es t n nodes w
   pub upto : x .read ≤ length t
   pub state-is : IsNode (patternsIn s es n w) (x .state) (longestEnding (take (x .read) t) (patternsIn s es n w))
   pub rest : List ℕ
   pub pending : Pending (slipsOf s es) (members w n) w (x .node) (x .slip) rest
   pub left : drop (x .done) (occurrences (slipsOf s es) t) ≡ map (occurrence (x .read)) rest ++ occursFrom (slipsOf s es) t (x .read)
 
-pub record Ahead (s es t : List ℕ) (n count : ℕ) (w : List ℕ) (x : Scan) : Type 0 where
-  pub standing : Standing s es t n count w x
+pub record Ahead (s es t : List ℕ) (n nodes : ℕ) (w : List ℕ) (x : Scan) : Type 0 where
+  pub standing : Standing s es t n nodes w x
   pub more : x .done < length (occurrences (slipsOf s es) t)
 
 -- one letter more
-pub record Unread (s es t : List ℕ) (n count : ℕ) (w : List ℕ) (x : Scan) : Type 0 where
-  pub standing : Standing s es t n count w x
+pub record Unread (s es t : List ℕ) (n nodes : ℕ) (w : List ℕ) (x : Scan) : Type 0 where
+  pub standing : Standing s es t n nodes w x
   pub none : x .slip ≡ 0
   pub more : x .read < length t
 
-pub record ReadOn (s es t : List ℕ) (n count : ℕ) (w : List ℕ) (x y : Scan) : Type 0 where
-  pub standing : Standing s es t n count w y
+pub record ReadOn (s es t : List ℕ) (n nodes : ℕ) (w : List ℕ) (x y : Scan) : Type 0 where
+  pub standing : Standing s es t n nodes w y
   pub done : y .done ≡ x .done
   pub read : y .read ≡ x .read + 1
 
 -- letters read until there is something to report
-pub record Reached (s es t : List ℕ) (n count : ℕ) (w : List ℕ) (x y : Scan) : Type 0 where
-  pub standing : Standing s es t n count w y
+pub record Reached (s es t : List ℕ) (n nodes : ℕ) (w : List ℕ) (x y : Scan) : Type 0 where
+  pub standing : Standing s es t n nodes w y
   pub done : y .done ≡ x .done
   pub some : y .slip ≡ 0 → ⊥
 
 -- something is to be reported, and is
-pub record Reportable (s es t : List ℕ) (n count : ℕ) (w : List ℕ) (x : Scan) : Type 0 where
-  pub standing : Standing s es t n count w x
+pub record Reportable (s es t : List ℕ) (n nodes : ℕ) (w : List ℕ) (x : Scan) : Type 0 where
+  pub standing : Standing s es t n nodes w x
   pub some : x .slip ≡ 0 → ⊥
 
-pub record Passed (s es t : List ℕ) (n count : ℕ) (w : List ℕ) (x y : Scan) : Type 0 where
-  pub standing : Standing s es t n count w y
+pub record Passed (s es t : List ℕ) (n nodes : ℕ) (w : List ℕ) (x y : Scan) : Type 0 where
+  pub standing : Standing s es t n nodes w y
   pub done : y .done ≡ x .done + 1
 
 -- a scan kept in the work area
@@ -132,7 +132,7 @@ pub record Keeps (w : List ℕ) (x : Scan) (w′ : List ℕ) : Type 0 where
 abbrev pub fresh : Scan
 fresh = record { done = 0; read = 0; state = 0; node = 0; slip = 0 }
 
-pub record ScanStarted (w : List ℕ) (count : ℕ) (w′ : List ℕ) : Type 0 where
-  pub count-is : cell w′ SCAN 0 ≡ count
+pub record ScanStarted (w : List ℕ) (nodes : ℕ) (w′ : List ℕ) : Type 0 where
+  pub nodes-are : cell w′ SCAN 0 ≡ nodes
   pub scan-is : scanIn w′ 0 ≡ fresh
   pub below : SameBelow SCAN w w′

@@ -12,8 +12,8 @@ at-requires-2 c κs = search own-read
 sub-start : tie.Need-sub-start
 sub-start c = search own-long
 
-part-counts-end : tie.Need-part-counts-end
-part-counts-end c = search own-inside
+part-not-stops-end : tie.Need-part-not-stops-end
+part-not-stops-end c = search own-inside
 
 returns-2 : tie.Need-returns-2
 returns-2 c = search first-counts
@@ -23,4 +23,4 @@ returns-3 c = search first-skips
 
 pub first-counted-spec : {M : Type 1} → statement M
 first-counted-spec = tie.close (tie.spec (λ c κs. search needs) returns at-requires-2 (λ c. search needs) sub-start (λ c. search needs)
-    (λ c. search needs) part-counts-end (λ c κs. search needs) returns-2 (λ c. search needs) returns-3)
+    (λ c. search needs) part-not-stops-end (λ c κs. search needs) returns-2 (λ c. search needs) returns-3)

@@ -31,23 +31,23 @@ pub record Visits (es w : List ℕ) (d v count : ℕ) (left right overs first la
   pub ends : ListedFrom es d (nextEnder w es d) (cell w ENDS v)
   pub marks : Marks (joinsIn w count) left right overs first last
 
-pub record Walkable (s es : List ℕ) (n k count : ℕ) (w : List ℕ) : Type 0 where
-  pub numbered : Numbered s es n count w
+pub record Walkable (s es : List ℕ) (n k nodes : ℕ) (w : List ℕ) : Type 0 where
+  pub numbered : Numbered s es n nodes w
   pub few-kept : k ≤ maxSlips
   pub kept-are : keptIn w k ≡ kept (slipsOf s es) (members w n)
   pub starts : StartsIs (slipsOf s es) es (members w n) (keptIn w k) (cell w STARTS) (cell w STARTS-NEXT)
   pub ends : EndsIs (slipsOf s es) es (members w n) (keptIn w k) (cell w ENDS) (cell w ENDS-NEXT)
 
 -- the visits of the nodes of d letters
-pub record RowAsks (s es : List ℕ) (n k count : ℕ) (w : List ℕ) (d made : ℕ) (left right overs first last : List ℕ) : Type 0 where
-  pub walkable : Walkable s es n k count w
+pub record RowAsks (s es : List ℕ) (n k nodes : ℕ) (w : List ℕ) (d made : ℕ) (left right overs first last : List ℕ) : Type 0 where
+  pub walkable : Walkable s es n k nodes w
   pub some : 1 ≤ d
   pub most : d ≤ maxSlip
   pub marks : Marks (joinsIn w made) left right overs first last
 
 -- the nodes of d letters end before `end`
-pub record RowEnds (s es : List ℕ) (n count : ℕ) (w : List ℕ) (d end : ℕ) : Type 0 where
-  pub numbered : Numbered s es n count w
+pub record RowEnds (s es : List ℕ) (n nodes : ℕ) (w : List ℕ) (d end : ℕ) : Type 0 where
+  pub numbered : Numbered s es n nodes w
   pub some : 1 ≤ d
   pub most : d ≤ maxSlip
   pub upto : end ≡ cell w LEVEL (suc d)

@@ -1,4 +1,4 @@
--- Demand 3, whole: the statement is Claims.Demand-3; it holds for every list of slips, accepted or not.
+-- What is claimed of greedy joining, whole: the statement is Claims.Greedy-legends. It holds for every list of slips, accepted or not.
 use mathlib.Core.List.{List}
 use Prim.Native.Nat.{ℕ, _≤_, _<_}
 use lib.ListN.{length}
@@ -7,7 +7,7 @@ use Rattle.trays.specs.declared.Settings.{Settings}
 use Rattle.trays.specs.Slips.{numbers, slipsOf}
 use Rattle.trays.specs.Aside.{kept, counted}
 use Rattle.greedy.specs.Composing.{whole}
-use Rattle.greedy.specs.Claims.{Greedy, Demand-3}
+use Rattle.greedy.specs.Claims.{Greedy, Greedy-legends}
 use Rattle.greedy.proofs.OneList.{walk-is-plain}
 use Rattle.greedy.proofs.Letters.{saving-of, holds-of}
 use Rattle.greedy.proofs.Bound.{kept-rep, kept-at-most-twice}
@@ -32,5 +32,5 @@ composed g ss =
           rw (plain-free ss (g .least) one (kept ss (numbers ss)) free) (kept-at-most-twice ss (numbers ss) (numbers-rise ss) (numbers-positive ss));
     }
 
-pub demand-3 : Demand-3
-demand-3 g s es accepted = composed g (slipsOf s es)
+pub greedy-legends : Greedy-legends
+greedy-legends g s es accepted = composed g (slipsOf s es)

@@ -1,5 +1,5 @@
--- The lists of a side of the slips: the kept members that have each node at that side, filled from the last kept member on.
---   has-.., place-..          == a slip has one string of each length at a side; its cells for them stand in it, apart
+-- The lists of beginnings, or of endings: the kept members that have each node as such an affix, filled from the last kept member on.
+--   has-.., place-..          == a slip has one affix of each length; its cells for them stand in it, apart
 --   OneMore d long long′      == long′ has the lengths of long, and d
 --   Adding a .. w₀ j i w long == as before the j-th kept member i was added, in w₀, but for the nodes whose lengths long has
 --   added-..                  == the member i, and its number
@@ -31,31 +31,31 @@ use Rattle.layout.proofs.Frames.{kept-lower, members-kept}
 use Rattle.layout.proofs.Heads.{num-most}
 use Rattle.layout.proofs.AreaSlips.{AreaSlips, areaSlips}
 use Rattle.kept_slips.specs.steps.Kept.{KeptFound}
-use Rattle.kept_lists.specs.steps.KeptLists.{Side, beginnings, endings, has, place, heads, nexts, atSide, Listing, ListedTo, SideFilled}
+use Rattle.kept_lists.specs.steps.KeptLists.{Affix, beginnings, endings, has, place, heads, nexts, withAffix, Listing, ListedTo, AffixFilled}
 use Rattle.trie_heads.specs.steps.Heads.{CanPush, Pushed, Lists}
 use Rattle.trie_heads.proofs.Threading.{front, those-front, in-front, push-lists}
 use Rattle.trie_heads.proofs.Keeping.{kept-refl, kept-trans, kept-filled, kept-pushed, cleared}
 use Rattle.trie_heads.proofs.MemberNodes.{Member}
 use Rattle.kept_lists.proofs.KeptMembers.{kept-length, got-kept, drop-got, kept-apart, kept-same, staged-kept}
 
-tables-fit : (a : Side) → (STARTS ≤ heads a) × (heads a + maxLetters < nexts a) × (nexts a + maxLetters ≤ workNeed)
+tables-fit : (a : Affix) → (STARTS ≤ heads a) × (heads a + maxLetters < nexts a) × (nexts a + maxLetters ≤ workNeed)
 tables-fit beginnings = (omega arith, omega arith, omega arith)
 tables-fit endings = (omega arith, omega arith, omega arith)
 
-has-one : (a : Side) (x y z : List ℕ) → has a x z ≡ true → has a y z ≡ true → length x ≡ length y → x ≡ y
+has-one : (a : Affix) (x y z : List ℕ) → has a x z ≡ true → has a y z ≡ true → length x ≡ length y → x ≡ y
 has-one beginnings x y z e f l = begins-one x y z e f l
 has-one endings x y z e f l = sym (endsProperly-drop x z e) ∙ ap (λ d. drop (length z - d) z) l ∙ endsProperly-drop y z f
 
-has-length : (a : Side) (x y : List ℕ) → has a x y ≡ true → length x ≤ length y
+has-length : (a : Affix) (x y : List ℕ) → has a x y ≡ true → length x ≤ length y
 has-length beginnings x y e = begins-length x y e
 has-length endings x y e = omega (arith, endsProperly-ends x y e .0)
 
 module _ (es : List ℕ) (r d : ℕ) (some : 1 ≤ d) (fits : startOf es r + d ≤ endOf es r) where
-  place-within : (a : Side) → (startOf es r ≤ place a es d r) × (place a es d r < endOf es r)
+  place-within : (a : Affix) → (startOf es r ≤ place a es d r) × (place a es d r < endOf es r)
   place-within beginnings = (omega arith, omega arith)
   place-within endings = (omega arith, omega arith)
 
-  place-apart : (a : Side) (c : ℕ) → 1 ≤ c → startOf es r + c ≤ endOf es r → place a es c r ≡ place a es d r → c ≡ d
+  place-apart : (a : Affix) (c : ℕ) → 1 ≤ c → startOf es r + c ≤ endOf es r → place a es c r ≡ place a es d r → c ≡ d
   place-apart beginnings c h l e = omega arith
   place-apart endings c h l e = omega arith
 
@@ -64,19 +64,19 @@ pub record OneMore (d : ℕ) (long long′ : ℕ → Bool) : Type 0 where
   pub before : long d ≡ false
   pub others : (m : ℕ) → (m ≡ d → ⊥) → long′ m ≡ long m
 
-abbrev seen : Side → (ℕ → Bool) → List ℕ → List ℕ → Bool
+abbrev seen : Affix → (ℕ → Bool) → List ℕ → List ℕ → Bool
 seen a long x y = has a x y && long (length x)
 
-pub record Adding (a : Side) (s es : List ℕ) (n k : ℕ) (w₀ : List ℕ) (j i : ℕ) (w : List ℕ) (long : ℕ → Bool) : Type 0 where
+pub record Adding (a : Affix) (s es : List ℕ) (n k : ℕ) (w₀ : List ℕ) (j i : ℕ) (w : List ℕ) (long : ℕ → Bool) : Type 0 where
   pub below : SameBelow (heads a) w₀ w
   pub lists :
       let ps = patternsIn s es n w₀ in
       Lists (Num ps) (λ v. place a es (length (string ps v))) (cell w (heads a)) (cell w (nexts a))
-      (λ v. front (seen a long (string ps v) (slip (slipsOf s es) i)) i (atSide a (slipsOf s es) (string ps v) (drop (j + 1) (keptIn w₀ k))))
+      (λ v. front (seen a long (string ps v) (slip (slipsOf s es) i)) i (withAffix a (slipsOf s es) (string ps v) (drop (j + 1) (keptIn w₀ k))))
 
 -- length by length
 module _
-    {a : Side} {s es : List ℕ} {n k count : ℕ} {w₀ : List ℕ} {j i : ℕ} (S : Listing a s es n k count w₀ (j + 1)) (g : Got w₀ KEPT j i) where
+    {a : Affix} {s es : List ℕ} {n k nodes : ℕ} {w₀ : List ℕ} {j i : ℕ} (S : Listing a s es n k nodes w₀ (j + 1)) (g : Got w₀ KEPT j i) where
   open AreaSlips (areaSlips s es n w₀) using (ss, ps)
 
   abbrev x : List ℕ
@@ -85,7 +85,7 @@ module _
   abbrev later : List ℕ
   later = drop (j + 1) (keptIn w₀ k)
 
-  N : Numbered s es n count w₀
+  N : Numbered s es n nodes w₀
   N = S .staged .automaton .branched .numbered
 
   pub added : Member s es n w₀ i
@@ -135,7 +135,7 @@ module _
             small = omega (arith, added .few);
           }
 
-      -- another node of as many letters is not at the side
+      -- another node of as many letters is not the affix
       other : (v : ℕ) → Num ps v → (v ≡ u → ⊥) → length (string ps v) ≡ d → has a (string ps v) x ≡ false
       other v q ne f =
           elim (tell (has a (string ps v) x)) [
@@ -146,12 +146,12 @@ module _
             | inr b ↦ b
           ]
 
-      unused : long d ≡ false → (v r : ℕ) → Num ps v → In r (front (seen a long (string ps v) x) i (atSide a ss (string ps v) later)) →
+      unused : long d ≡ false → (v r : ℕ) → Num ps v → In r (front (seen a long (string ps v) x) i (withAffix a ss (string ps v) later)) →
           place a es (length (string ps v)) r ≡ place a es d i → ⊥
       unused new v r q o f =
           let y = string ps v in
           let l = node-some ps v q .0 in
-          in-front (seen a long y x) i (atSide a ss y later) o
+          in-front (seen a long y x) i (withAffix a ss y later) o
           (λ b z.
           let (h, c) = both (has a y x) (long (length y)) b in
           not-both (long d) (rw (place-apart es i d some fits a (length y) l (inside added v h) (rw z at f)) at c) new)
@@ -167,8 +167,8 @@ module _
             below = kept-trans (B .below) (kept-pushed (omega (arith, tables-fit a .1)) y);
             lists =
                 push-lists (Num ps) (λ v. place a es (length (string ps v)))
-                (λ v. front (seen a long (string ps v) x) i (atSide a ss (string ps v) later))
-                (λ v. front (seen a long′ (string ps v) x) i (atSide a ss (string ps v) later))
+                (λ v. front (seen a long (string ps v) x) i (withAffix a ss (string ps v) later))
+                (λ v. front (seen a long′ (string ps v) x) i (withAffix a ss (string ps v) later))
                 w (heads a) u (nexts a) p i w′ y (rw e f)
                 (λ v q. omega (arith, num-most N v q, N .few-nodes, tables-fit a .1))
                 m
@@ -178,7 +178,7 @@ module _
                 (B .lists);
           }
 
-    pub adding-all : ((v : ℕ) → Num ps v → has a (string ps v) x ≡ true → long (length (string ps v)) ≡ true) → ListedTo a s es n k count w₀ j w
+    pub adding-all : ((v : ℕ) → Num ps v → has a (string ps v) x ≡ true → long (length (string ps v)) ≡ true) → ListedTo a s es n k nodes w₀ j w
     adding-all h =
         let low = kept-lower STARTS (tables-fit a .0) (B .below) in
         let whole : (v : ℕ) → Num ps v → seen a long (string ps v) x ≡ has a (string ps v) x =
@@ -200,9 +200,9 @@ module _
         }
 
 -- member by member
-module _ {a : Side} {s es : List ℕ} {n k count : ℕ} {w : List ℕ} where
-  pub listing-start : {w′ : List ℕ} → KeptFound s es n k count w → Filled (heads a) (count + 1) (replicate (count + 1) 0) w w′ →
-      ListedTo a s es n k count w′ k w′
+module _ {a : Affix} {s es : List ℕ} {n k nodes : ℕ} {w : List ℕ} where
+  pub listing-start : {w′ : List ℕ} → KeptFound s es n k nodes w → Filled (heads a) (nodes + 1) (replicate (nodes + 1) 0) w w′ →
+      ListedTo a s es n k nodes w′ k w′
   listing-start {w′} S f =
       let T = staged-kept (kept-lower STARTS (tables-fit a .0) (kept-filled f)) S in
       record {
@@ -217,14 +217,14 @@ module _ {a : Side} {s es : List ℕ} {n k count : ℕ} {w : List ℕ} where
         below = kept-refl;
       }
 
-  pub listing-before : {j : ℕ} → Listing a s es n k count w j → 0 < j → Listing a s es n k count w (j - 1 + 1)
+  pub listing-before : {j : ℕ} → Listing a s es n k nodes w j → 0 < j → Listing a s es n k nodes w (j - 1 + 1)
   listing-before {j} S h = let e : j - 1 + 1 ≡ j = omega arith in rw e S
 
-  module _ {w′ : List ℕ} {j : ℕ} (L : ListedTo a s es n k count w j w′) where
-    pub listing-more : {i : ℕ} {b : List ℕ} → ListedTo a s es n k count w′ i b → ListedTo a s es n k count w i b
+  module _ {w′ : List ℕ} {j : ℕ} (L : ListedTo a s es n k nodes w j w′) where
+    pub listing-more : {i : ℕ} {b : List ℕ} → ListedTo a s es n k nodes w′ i b → ListedTo a s es n k nodes w i b
     listing-more M = record { listing = M .listing; below = kept-trans (L .below) (M .below) }
 
-    pub listing-all : {b : List ℕ} → Filled (heads a) (count + 1) (replicate (count + 1) 0) b w → j ≤ 0 → SideFilled a s es n k count b w′
+    pub listing-all : {b : List ℕ} → Filled (heads a) (nodes + 1) (replicate (nodes + 1) 0) b w → j ≤ 0 → AffixFilled a s es n k nodes b w′
     listing-all f l =
         let e : j ≡ 0 = omega arith in
         record {

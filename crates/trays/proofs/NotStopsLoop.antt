@@ -23,18 +23,18 @@ take-letter [] i h ne = absurd (omega arith)
 take-letter (a ∷ x) zero h ne = rw (ne-eqb a stop ne)
 take-letter (a ∷ x) (suc i) h ne = or-right (not (eqb a stop)) (notStops (take (suc i) x)) (take-letter x i (omega arith) ne)
 
-pub counts-start : (x : List ℕ) → notStops x ≡ notStops (take (length x) x)
-counts-start x = rw (take-all (length x) x (omega arith))
+pub not-stops-start : (x : List ℕ) → notStops x ≡ notStops (take (length x) x)
+not-stops-start x = rw (take-all (length x) x (omega arith))
 
 module _ (x : List ℕ) (i : ℕ) (some : 0 < i) (l : i ≤ length x) (k : notStops x ≡ notStops (take i x)) where
   last : suc (i - 1) ≡ i
   last = omega arith
 
-  pub counts-here : (getD x (i - 1) 0 ≡ stop → ⊥) → true ≡ notStops x
-  counts-here ne = sym (k ∙ (rw last at (take-letter x (i - 1) (omega arith) ne)))
+  pub not-stops-here : (getD x (i - 1) 0 ≡ stop → ⊥) → true ≡ notStops x
+  not-stops-here ne = sym (k ∙ (rw last at (take-letter x (i - 1) (omega arith) ne)))
 
-  pub counts-next : getD x (i - 1) 0 ≡ stop → notStops x ≡ notStops (take (i - 1) x)
-  counts-next e = k ∙ (rw last at (take-stop x (i - 1) (omega arith) e))
+  pub not-stops-next : getD x (i - 1) 0 ≡ stop → notStops x ≡ notStops (take (i - 1) x)
+  not-stops-next e = k ∙ (rw last at (take-stop x (i - 1) (omega arith) e))
 
-pub counts-none : (x : List ℕ) (i : ℕ) → i ≤ 0 → notStops x ≡ notStops (take i x) → false ≡ notStops x
-counts-none x i h k = let z : i ≡ 0 = omega arith in sym (rw z at k)
+pub not-stops-none : (x : List ℕ) (i : ℕ) → i ≤ 0 → notStops x ≡ notStops (take i x) → false ≡ notStops x
+not-stops-none x i h k = let z : i ≡ 0 = omega arith in sym (rw z at k)
