@@ -7,7 +7,7 @@
  * the work area may differ, and only after 8, 9, 14 and 20. On success the first part of each buffer is the outcome, and the rest is unchanged.
  *
  * Three calls take the least overlap, from 1 to KOTSGHANE_MAX_LEAST: a shorter overlap counts as empty. With 1 none is too short. Any other number is
- * refused by 21, which is said first, before any fault of the tray. Which slips are kept, what is found and what is read do not go by it.
+ * refused by 21, which is reported first, before any fault of the tray. Which slips are kept, what is found and what is read do not go by it.
  *
  * Each pointer comes with a length in elements and must point to as many; one with length 0 is never followed. What is lent for writing must not
  * overlap anything else that is lent. No call keeps a pointer, allocates, or unwinds.
@@ -35,7 +35,7 @@ enum {
     KOTSGHANE_MAX_LEAST = 32       /* letters that a least overlap may ask for (21) */
 };
 
-/* So many numbers make a record of each list. */
+/* How many numbers make a record of each list. */
 enum {
     KOTSGHANE_JOIN = 3,       /* left slip, right slip, overlap */
     KOTSGHANE_PLACE = 3,      /* place from 1; 1 if kept, 0 if set aside; letters compared to find the place, 0 if kept. One record a slip, in slip order */
@@ -80,15 +80,15 @@ enum { KOTSGHANE_READ_LETTERS = 2, KOTSGHANE_READ_SLIPS, KOTSGHANE_READ_NUMBERS 
 /* The answer of kotsghane_merge. */
 enum { KOTSGHANE_MERGED_LETTERS = 2, KOTSGHANE_MERGED_SLIPS, KOTSGHANE_MERGED_NUMBERS };
 
-/* Composes a tray: slips are joined by overlaps of at least so many letters. Lend KOTSGHANE_WORK cells, and lists that suffice for any tray: MAX_LETTERS
- * letters, MAX_SLIPS joins and MAX_SLIPS places. Lengths of lists are counted in numbers. Refusals 1 to 9, and 21, which is said first. */
+/* Composes a tray: slips are joined by overlaps of at least `least` letters. Lend KOTSGHANE_WORK cells, and lists that suffice for any tray: MAX_LETTERS
+ * letters, MAX_SLIPS joins and MAX_SLIPS places. Lengths of lists are counted in numbers. Refusals 1 to 9, and 21, which is reported first. */
 void kotsghane_compose(const uint8_t *letters, size_t letters_len, const uint16_t *ends, size_t ends_len, uint32_t least, uint16_t *work,
                        size_t work_len, uint8_t *legend, size_t legend_len, uint16_t *joins, size_t joins_len, uint16_t *places,
                        size_t places_len, uint32_t answer[KOTSGHANE_COMPOSED_NUMBERS]);
 
 /* Seeks the order of the kept slips whose legend is shortest; of several, the one that is smallest as a list of slip numbers. The legend is laid as one
- * chain: each slip adds its letters beyond the overlap with the one before it, if that has at least so many letters. Lend KOTSGHANE_WORK cells;
- * MAX_SHORTEST * MAX_SLIP letters suffice for any tray. Refusals 1 to 8, 20, which is said before 8, and 21, which is said first. */
+ * chain: each slip adds its letters beyond the overlap with the one before it, if that has at least `least` letters. Lend KOTSGHANE_WORK cells;
+ * MAX_SHORTEST * MAX_SLIP letters suffice for any tray. Refusals 1 to 8, 20, which is reported before 8, and 21, which is reported first. */
 void kotsghane_shortest(const uint8_t *letters, size_t letters_len, const uint16_t *ends, size_t ends_len, uint32_t least, uint16_t *work,
                         size_t work_len, uint8_t *legend, size_t legend_len, uint32_t answer[KOTSGHANE_SHORTEST_NUMBERS]);
 
@@ -102,7 +102,7 @@ void kotsghane_slip(const uint8_t *letters, size_t letters_len, const uint16_t *
                     uint32_t answer[KOTSGHANE_SLIP_NUMBERS]);
 
 /* How many letters end the left slip and begin the right one; full stops alone do not count, nor do fewer letters than the least overlap. 0 if refused.
- * Refusals 1 to 6, 10, 11, and 21, which is said first. */
+ * Refusals 1 to 6, 10, 11, and 21, which is reported first. */
 void kotsghane_pair(const uint8_t *letters, size_t letters_len, const uint16_t *ends, size_t ends_len, uint32_t left, uint32_t right,
                     uint32_t least, uint32_t answer[KOTSGHANE_PAIR_NUMBERS]);
 
@@ -114,7 +114,7 @@ void kotsghane_read_tray(const uint8_t *file, size_t file_len, uint8_t *letters,
 
 /* Merges two trays into letters and ends: the first tray's slips, and then those of the second whose letters equal no slip written before, numbered anew
  * from 1. Equals within the first tray all stay; a slip that only stands in another is no equal. Lend at least KOTSGHANE_MAX_LETTERS letters and
- * KOTSGHANE_MAX_SLIPS ends. Refusal 15, which is said first; 1 to 6 of the first tray, then of the second, whose detail counts its own slips; then 1 and 4
+ * KOTSGHANE_MAX_SLIPS ends. Refusal 15, which is reported first; 1 to 6 of the first tray, then of the second, whose detail counts its own slips; then 1 and 4
  * of the outcome. Where the two trays, simply written one after the other, are accepted as one, that tray composes to the same legend. */
 void kotsghane_merge(const uint8_t *letters1, size_t letters1_len, const uint16_t *ends1, size_t ends1_len, const uint8_t *letters2,
                      size_t letters2_len, const uint16_t *ends2, size_t ends2_len, uint8_t *letters, size_t letters_len, uint16_t *ends,

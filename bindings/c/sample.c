@@ -8,7 +8,7 @@ static uint16_t ends[KOTSGHANE_FILE_ENDS], work[KOTSGHANE_WORK];
 static uint16_t joins[KOTSGHANE_JOIN * KOTSGHANE_MAX_SLIPS], places[KOTSGHANE_PLACE * KOTSGHANE_MAX_SLIPS];
 static uint32_t found[KOTSGHANE_OCCURRENCE * 8000];
 
-/* Says a refusal, if there is one. */
+/* Prints a refusal, if there is one. */
 static int refused(const char *call, const uint32_t *answer) {
     if (answer[KOTSGHANE_NUMBER] != 0) {
         printf("%s: refused by %u, detail %u\n", call, (unsigned)answer[KOTSGHANE_NUMBER], (unsigned)answer[KOTSGHANE_DETAIL]);
@@ -16,7 +16,7 @@ static int refused(const char *call, const uint32_t *answer) {
     return answer[KOTSGHANE_NUMBER] != 0;
 }
 
-/* Says the shortest legend of k slips with n letters, in a buffer of so many letters. */
+/* Prints the shortest legend of k slips with n letters, in a buffer of `room` letters. */
 static void say_shortest(size_t n, size_t k, size_t room) {
     uint32_t shortest[KOTSGHANE_SHORTEST_NUMBERS];
     kotsghane_shortest(letters, n, ends, k, 1, work, KOTSGHANE_WORK, legend, room, shortest);
@@ -30,7 +30,7 @@ static void say_shortest(size_t n, size_t k, size_t room) {
     printf("\n");
 }
 
-/* Says the legend of AB and BC with a least overlap. */
+/* Prints the legend of AB and BC with a least overlap. */
 static void say_least(uint32_t least) {
     static const uint8_t two[] = {'A', 'B', 'B', 'C'};
     static const uint16_t two_ends[] = {2, 4};
@@ -45,7 +45,7 @@ static void say_least(uint32_t least) {
            (unsigned)pair[KOTSGHANE_PAIR_OVERLAP]);
 }
 
-/* Merges the tray of k slips with n letters with AES, VGP, VGP and PIVSPP, where so many ends are lent, and says the slips and their legend. */
+/* Merges the tray of k slips with n letters with AES, VGP, VGP and PIVSPP, where `room` ends are lent, and prints the slips and their legend. */
 static void say_merged(size_t n, size_t k, size_t room) {
     static const uint8_t more[] = {'A', 'E', 'S', 'V', 'G', 'P', 'V', 'G', 'P', 'P', 'I', 'V', 'S', 'P', 'P'};
     static const uint16_t more_ends[] = {3, 6, 9, 15};
@@ -67,7 +67,7 @@ static void say_merged(size_t n, size_t k, size_t room) {
     printf(", legend %.*s\n", (int)composed[KOTSGHANE_COMPOSED_LEGEND], (const char *)legend);
 }
 
-/* Says every slip that is found in a text. */
+/* Prints every slip that is found in a text. */
 static void say_found(size_t n, size_t k, const uint8_t *text, size_t length) {
     uint32_t search[KOTSGHANE_FOUND_NUMBERS], slip[KOTSGHANE_SLIP_NUMBERS];
     kotsghane_find(letters, n, ends, k, text, length, work, KOTSGHANE_WORK, found, sizeof found / sizeof *found, search);

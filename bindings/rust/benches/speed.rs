@@ -13,7 +13,7 @@ use plain::{ONE_LETTER, SIGNS};
 use std::hint::black_box;
 use std::time::Instant;
 
-/// So many trays of each family, and so many calls on each, of which the fastest counts.
+/// How many trays of each family, and how many calls on each, of which the fastest counts.
 const TRAYS: usize = 8;
 const CALLS: usize = 100;
 
@@ -109,7 +109,7 @@ struct Timed {
     outcome: Buffers,
     ours: f64,
     plain: f64,
-    /// Ours, turned back by 9 for want of places: all but the writing of legend, joins and places.
+    /// Ours, refused by 9 for want of places: all but the writing of legend, joins and places.
     unwritten: f64,
     /// The trial of places alone, by the plain program's loop.
     trial: f64,
@@ -196,7 +196,7 @@ fn print_row(name: &str, trays: &[Timed]) {
 /// Composing full trays.
 fn full_trays(buffers: &mut Buffers) {
     println!("200 slips, 2,000 letters; microseconds a call, the mean of {TRAYS} trays");
-    println!("| family | set aside | ours | all pairs | ratio | ours, turned back by 9 | trial of places alone |");
+    println!("| family | set aside | ours | all pairs | ratio | ours, refused by 9 | trial of places alone |");
     println!("|---|---:|---:|---:|---:|---:|---:|");
     for (seed, family) in FAMILIES.iter().enumerate() {
         let mut chance = Chance::new(seed as u64);
@@ -209,7 +209,7 @@ fn full_trays(buffers: &mut Buffers) {
     }
 }
 
-/// Small die groups: so many slips of ten letters.
+/// Small die groups: how many slips of ten letters.
 struct Group {
     name: &'static str,
     make: fn(&mut Chance, usize) -> Slips,

@@ -25,7 +25,7 @@ pub struct Search {
 }
 
 impl Search {
-    /// The refusal, if the tray, the text or a buffer was turned back.
+    /// The refusal, if the tray, the text or a buffer was refused.
     pub fn refusal(&self) -> Option<Refusal> {
         Refusal::of(self.number, self.detail)
     }

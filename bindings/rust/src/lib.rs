@@ -50,7 +50,7 @@ pub use shortest::{shortest, shortest_legend, shortest_legend_with, Shortest, Sh
 pub use tray::{compose_tray, compose_tray_with, Legend, Tray};
 pub use written::{Read, Written};
 
-/// Two slips joined: the right one is laid behind the left one and shares `overlap` letters with it.
+/// Two slips joined: the right one is laid after the left one and shares `overlap` letters with it.
 #[repr(C)]
 #[derive(Clone, Copy, Debug, Default, PartialEq, Eq)]
 pub struct Join {
@@ -119,7 +119,7 @@ impl Composed {
         }
     }
 
-    /// The refusal, if the tray or a buffer was turned back.
+    /// The refusal, if the tray or a buffer was refused.
     pub fn refusal(&self) -> Option<Refusal> {
         Refusal::of(self.number, self.detail)
     }

@@ -1,4 +1,4 @@
-//! What turns a call back.
+//! Why a call is refused.
 use crate::{MAX_LEAST, MAX_SHORTEST, MAX_SLIP};
 use std::error::Error;
 use std::fmt;

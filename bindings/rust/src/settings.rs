@@ -20,7 +20,7 @@ pub struct Settings {
 }
 
 impl Settings {
-    /// So many letters as the least overlap, and all else by default.
+    /// This many letters as the least overlap, and all else by default.
     pub const fn least(least: u32) -> Settings {
         Settings { least }
     }

@@ -31,7 +31,7 @@ impl Shortest {
         }
     }
 
-    /// The refusal, if the tray or a buffer was turned back.
+    /// The refusal, if the tray or a buffer was refused.
     pub fn refusal(&self) -> Option<Refusal> {
         Refusal::of(self.number, self.detail)
     }
@@ -55,7 +55,7 @@ extern "C" {
 
 /// Seeks the shortest legend of any tray with at most [`MAX_SHORTEST`] kept slips, in lent buffers, or refuses it.
 ///
-/// The kept slips are laid as one chain, each behind the one before it with the overlap of the two, in the order whose
+/// The kept slips are laid as one chain, each after the one before it with the overlap of the two, in the order whose
 /// legend is shortest; of several, in the order that is smallest as a list of slip numbers. On success the first part of
 /// `legend` is the outcome, and the rest is unchanged. On a refusal it holds what it held; `work` may differ, but not after
 /// refusals 1 to 7 and 21. Of refusal 8 the detail is how many letters the legend has.

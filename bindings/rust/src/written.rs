@@ -29,7 +29,7 @@ impl Written {
         }
     }
 
-    /// The refusal, if what was given or a buffer was turned back.
+    /// The refusal, if what was given or a buffer was refused.
     pub fn refusal(&self) -> Option<Refusal> {
         Refusal::of(self.number, self.detail)
     }
