@@ -12,15 +12,15 @@ use Rattle.trays.specs.Slips.{numbers}
 use Rattle.greedy.specs.Joins.{Join, join}
 use Rattle.greedy.specs.Composing.{Composing}
 use Rattle.matching.specs.Occurrences.{Occurrence, occurrence}
-use Rattle.answers.specs.Composing.{joinNumbers, flatJoins, placeCells, placeNumbers, flatPlaces}
+use Rattle.answers.specs.Composing.{joinCells, joinNumbers, flatJoins, placeCells, placeNumbers, flatPlaces}
 use Rattle.answers.specs.Finding.{foundNumbers, flatFound}
 
-pub joins-length : (js : List Join) → length (flatJoins js) ≡ 3 * length js
-joins-length = flat-length 3 joinNumbers (λ j. refl)
+pub joins-length : (js : List Join) → length (flatJoins js) ≡ joinCells * length js
+joins-length = flat-length joinCells joinNumbers (λ j. refl)
 
-pub joins-at : (js : List Join) (i j at : ℕ) → i < length js → j < 3 → at ≡ 3 * i + j →
+pub joins-at : (js : List Join) (i j at : ℕ) → i < length js → j < joinCells → at ≡ joinCells * i + j →
     getD (flatJoins js) at 0 ≡ getD (joinNumbers (getD js i (join 0 0 0))) j 0
-joins-at = flat-at 3 joinNumbers (λ j. refl) (join 0 0 0)
+joins-at = flat-at joinCells joinNumbers (λ j. refl) (join 0 0 0)
 
 pub found-length : (fs : List Occurrence) → length (flatFound fs) ≡ 2 * length fs
 found-length = flat-length 2 foundNumbers (λ f. refl)

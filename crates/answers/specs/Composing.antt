@@ -3,8 +3,9 @@
 --   roomRows c l j p      == place C: legend room l, room for j joins and p places
 --   composeFault          == what turns composing back
 --   composedOf            == the answer
+--   joinCells             == how many numbers a join has
 --   joinNumbers j         == a join as numbers: left slip, right slip, overlap; flatJoins js == the joins as numbers
---   placeCells            == so many numbers a place has
+--   placeCells            == how many numbers a place has
 --   placeNumbers c i      == the place of slip i as numbers: its place, 1 if it is kept, and the letters compared to find it
 --   flatPlaces c          == the places of all slips as numbers
 use mathlib.Core.Bool.{cond, _||_}
@@ -59,6 +60,9 @@ composedBy f c = elim (f .number) [ zero ↦ outcomeOf c | suc n ↦ refusedBy f
 
 unfoldable pub composedOf : Settings → List ℕ → List ℕ → ℕ → ℕ → ℕ → ℕ → Composed
 composedOf g s es w l j p = composedBy (composeFault g s es w l j p) (whole g (slipsOf s es))
+
+abbrev pub joinCells : ℕ
+joinCells = 3
 
 abbrev pub joinNumbers : Join → List ℕ
 joinNumbers j = j .left ∷ (j .right ∷ (j .overlap ∷ []))

@@ -1,4 +1,4 @@
--- Composing over slices of numbers, for every input: three numbers a join, `placeCells` a place.
+-- Composing over slices of numbers, for every input: `joinCells` numbers a join, `placeCells` a place.
 --   flatFault  == what turns it back, given the lengths of what was lent
 --   ComposeFlat == the answer, and what each lent buffer holds afterwards
 use mathlib.Core.Path.{_≡_}
@@ -12,14 +12,14 @@ use Rattle.trays.specs.Faults.{written}
 use Rattle.greedy.specs.Composing.{whole, joinsOf, legendOf}
 use Rattle.answers.specs.WorkArea.{WorkKept}
 use Rattle.answers.specs.declared.Composed.{Composed}
-use Rattle.answers.specs.Composing.{beforeC, composeFault, composedOf, flatJoins, placeCells, flatPlaces}
+use Rattle.answers.specs.Composing.{beforeC, composeFault, composedOf, joinCells, flatJoins, placeCells, flatPlaces}
 
 -- so many records a list takes
 abbrev pub flatFault : Settings → List ℕ → List ℕ → List ℕ → List ℕ → List ℕ → List ℕ → Refusal
-flatFault g s es w l j p = composeFault g s es (length w) (length l) (length j / 3) (length p / placeCells)
+flatFault g s es w l j p = composeFault g s es (length w) (length l) (length j / joinCells) (length p / placeCells)
 
 pub record ComposeFlat (g : Settings) (s es w w′ l l′ j j′ p p′ : List ℕ) (r : Composed) : Type 0 where
-  pub answer-is : r ≡ composedOf g s es (length w) (length l) (length j / 3) (length p / placeCells)
+  pub answer-is : r ≡ composedOf g s es (length w) (length l) (length j / joinCells) (length p / placeCells)
   pub legend-is : l′ ≡ written (flatFault g s es w l j p) (legendOf (whole g (slipsOf s es))) l
   pub joins-are : j′ ≡ written (flatFault g s es w l j p) (flatJoins (joinsOf (whole g (slipsOf s es)))) j
   pub places-are : p′ ≡ written (flatFault g s es w l j p) (flatPlaces (whole g (slipsOf s es))) p

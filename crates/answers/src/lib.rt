@@ -27,7 +27,10 @@ pub struct Place {
     pub compared: u16,
 }
 
-// So many numbers a place has where it is told in numbers.
+// How many numbers a join has where it is told in numbers.
+pub const JOIN_CELLS: usize = 3;
+
+// How many numbers a place has where it is told in numbers.
 pub const PLACE_CELLS: usize = 3;
 
 // 12: a text has at most so many letters.

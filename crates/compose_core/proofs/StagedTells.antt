@@ -26,7 +26,7 @@ use Rattle.greedy.specs.Composing.{whole, joinsOf, legendOf}
 use Rattle.layout.specs.Layout.{JOINS}
 use Rattle.answers.specs.WorkArea.{workRow}
 use Rattle.answers.specs.declared.Composed.{Composed}
-use Rattle.answers.specs.Composing.{roomRows, composeFault, composedOf, outcomeOf, refusedBy, flatJoins}
+use Rattle.answers.specs.Composing.{roomRows, composeFault, composedOf, outcomeOf, refusedBy, joinCells, flatJoins}
 use Rattle.compose_core.specs.steps.Composing.{Staged}
 
 pub record Accepts (g : Settings) (s es w : List ℕ) (l j p : ℕ) (r : Composed) : Type 0 where
@@ -44,7 +44,7 @@ pub record Refuses (g : Settings) (s es w : List ℕ) (l j p : ℕ) (r : Compose
   pub speaks : composeFault g s es (length w) l j p .number ≡ suc row-above
   pub answer-is : r ≡ refusedBy (composeFault g s es (length w) l j p)
 
-flat-length : (js : List Join) → length (flatJoins js) ≡ 3 * length js
+flat-length : (js : List Join) → length (flatJoins js) ≡ joinCells * length js
 flat-length [] = refl
 flat-length (j ∷ js) = omega (arith, flat-length js)
 
@@ -96,15 +96,15 @@ module _ (g : Settings) (s es w : List ℕ) (l j p : ℕ) (r : Composed) where
 
 -- the staged joins stand within the work area
 pub staged-room : (g : Settings) (s es w w′ l l′ : List ℕ) (j p : ℕ) (r : Composed) → Staged g s es w w′ l l′ j p r → Accepts g s es w (length l) j p r →
-    JOINS + 3 * r .joins ≤ length w′
+    JOINS + joinCells * r .joins ≤ length w′
 unfolding table
 staged-room g s es w w′ l l′ j p r st a =
     let e = ap length (st .joins-are (ap (λ (c : Composed). c .number) (a .answer-is))) in
     let m = flat-length (joinsOf (whole g (slipsOf s es))) in
     let n = ap (λ (c : Composed). c .joins) (a .answer-is) in
-    by-test (leb (JOINS + 3 * r .joins) (length w′))
-    (λ h. leb-true (JOINS + 3 * r .joins) (length w′) h)
+    by-test (leb (JOINS + joinCells * r .joins) (length w′))
+    (λ h. leb-true (JOINS + joinCells * r .joins) (length w′) h)
     (λ h.
-    let u = leb-false (JOINS + 3 * r .joins) (length w′) h in
-    let t = ap length (take-all (3 * r .joins) (drop JOINS w′) (omega (arith, length-drop JOINS w′))) in
+    let u = leb-false (JOINS + joinCells * r .joins) (length w′) h in
+    let t = ap length (take-all (joinCells * r .joins) (drop JOINS w′) (omega (arith, length-drop JOINS w′))) in
     omega (arith, length-drop JOINS w′, a .room, st .work-is .same))

@@ -18,7 +18,7 @@ use Rattle.greedy.specs.Composing.{Composing, joinsOf, legendOf}
 use Rattle.layout.specs.Layout.{JOINS}
 use Rattle.layout.specs.Staging.{joinIn, joinsIn}
 use Rattle.answers.specs.declared.Composed.{Composed}
-use Rattle.answers.specs.Composing.{roomRows, composedBy, outcomeOf, refusedBy, flatJoins}
+use Rattle.answers.specs.Composing.{roomRows, composedBy, outcomeOf, refusedBy, joinCells, flatJoins}
 use Rattle.legend_counts.proofs.CountSteps.{joins-more}
 use Rattle.compose_finish.specs.steps.Finishing.{Finished}
 
@@ -67,21 +67,22 @@ flat-more : (js : List Join) (j : Join) → flatJoins (js ++ (j ∷ [])) ≡ fla
 flat-more [] j = refl
 flat-more (k ∷ js) j = ap (λ (l : List ℕ). k .left ∷ (k .right ∷ (k .overlap ∷ l))) (flat-more js j)
 
-table-three : (w : List ℕ) (base n : ℕ) → base + (3 * suc n) ≤ length w →
-    table w base (3 * suc n) ≡ table w base (3 * n) ++ (getD w (base + 3 * n) 0 ∷ (getD w (base + (3 * n + 1)) 0 ∷ (getD w (base + (3 * n + 2)) 0 ∷ [])))
+table-three : (w : List ℕ) (base n : ℕ) → base + (joinCells * suc n) ≤ length w →
+    table w base (joinCells * suc n) ≡ table w base (joinCells * n)
+    ++ (getD w (base + joinCells * n) 0 ∷ (getD w (base + (joinCells * n + 1)) 0 ∷ (getD w (base + (joinCells * n + 2)) 0 ∷ [])))
 table-three w base n h =
-    let a = table-more w base (3 * n + 2) (3 * suc n) (omega arith) (omega arith) in
-    let b = table-more w base (3 * n + 1) (3 * n + 2) (omega arith) (omega arith) in
-    let c = table-more w base (3 * n) (3 * n + 1) (omega arith) (omega arith) in
+    let a = table-more w base (joinCells * n + 2) (joinCells * suc n) (omega arith) (omega arith) in
+    let b = table-more w base (joinCells * n + 1) (joinCells * n + 2) (omega arith) (omega arith) in
+    let c = table-more w base (joinCells * n) (joinCells * n + 1) (omega arith) (omega arith) in
     a ∙ rw (b, c) (simp append-assoc)
 
 module _ (w : List ℕ) (room : workNeed ≤ length w) where
-  pub flat-table : (n : ℕ) → n ≤ maxSlips → table w JOINS (3 * n) ≡ flatJoins (joinsIn w n)
+  pub flat-table : (n : ℕ) → n ≤ maxSlips → table w JOINS (joinCells * n) ≡ flatJoins (joinsIn w n)
   unfolding table
   flat-table zero h = refl
   flat-table (suc n) h =
       let e : 0 + n ≡ n = omega arith in
       table-three w JOINS n (omega arith)
-      ∙ ap (λ (l : List ℕ). l ++ (getD w (JOINS + 3 * n) 0 ∷ (getD w (JOINS + (3 * n + 1)) 0 ∷ (getD w (JOINS + (3 * n + 2)) 0 ∷ []))))
+      ∙ ap (λ (l : List ℕ). l ++ (getD w (JOINS + joinCells * n) 0 ∷ (getD w (JOINS + (joinCells * n + 1)) 0 ∷ (getD w (JOINS + (joinCells * n + 2)) 0 ∷ []))))
       (flat-table n (omega arith))
       ∙ sym (ap flatJoins (joins-more w 0 n) ∙ flat-more (joinsIn w n) (joinIn w (0 + n)) ∙ rw e)

@@ -33,7 +33,7 @@ use Rattle.layout.specs.Layout.{KEPT, JOINS, PLACES}
 use Rattle.layout.specs.Tables.{cell}
 use Rattle.layout.specs.Staging.{keptIn, joinIn, joinsIn}
 use Rattle.answers.specs.declared.Composed.{Composed}
-use Rattle.answers.specs.Composing.{roomRows, refusedBy, placeCells, flatPlaces}
+use Rattle.answers.specs.Composing.{roomRows, refusedBy, joinCells, placeCells, flatPlaces}
 use Rattle.legend_counts.specs.declared.LetterCounts.{LetterCounts}
 use Rattle.legend_counts.specs.steps.Counting.{CountAsks, LetterCountsAre}
 use Rattle.legend_write.specs.steps.Writing.{piecesHere, StageAsks, PiecesStaged, WritingAsks, PlacesWritten, Written}
@@ -215,7 +215,7 @@ module _ (g : Settings) (s es w : List ℕ) (k j : ℕ) (left right overs : List
                 legend-is = d .legend-is ∙ rw pieces-are legend;
                 same = b .same;
                 joins-are = λ z. rw o
-                    (table-same w w′ JOINS (3 * j) (b .same) (λ i o. b .cells (JOINS + i) (omega (arith, walked .few-joins)))
+                    (table-same w w′ JOINS (joinCells * j) (b .same) (λ i o. b .cells (JOINS + i) (omega (arith, walked .few-joins)))
                     ∙ flat-table w (walked .room) j (walked .few-joins)
                     ∙ rw (walked .joins-are));
                 places-are = λ z. rw o (all-places w′ (d .placed));

@@ -18,7 +18,7 @@ use Rattle.tables.proofs.Tables.{table-at}
 use Rattle.layout.specs.Layout.{JOINS, PLACES}
 use Rattle.layout.specs.Tables.{cell}
 use Rattle.greedy.specs.Composing.{Composing}
-use Rattle.answers.specs.Composing.{joinNumbers, flatJoins, placeCells, placeNumbers, flatPlaces}
+use Rattle.answers.specs.Composing.{joinCells, joinNumbers, flatJoins, placeCells, placeNumbers, flatPlaces}
 use Rattle.answers.proofs.FlatLists.{joins-at, places-at}
 use Rattle.store_loops.specs.Firsts.{firsts}
 use Rattle.words.proofs.Runs.{length-upFrom}
@@ -50,13 +50,14 @@ map-at [] i h = absurd (omega arith)
 map-at (j ∷ js) zero h = refl
 map-at (j ∷ js) (suc i) h = map-at js i (omega arith)
 
-module _ (w : List ℕ) (js : List G.Join) (e : table w JOINS (3 * length js) ≡ flatJoins js) where
+module _ (w : List ℕ) (js : List G.Join) (e : table w JOINS (joinCells * length js) ≡ flatJoins js) where
   join-made : (i : ℕ) → i < length js → joinAt w i ≡ getD (map joinRecord js) i none
   join-made i h =
       let x = joinRecord (getD js i (G.join 0 0 0)) in
-      let is : (j at : ℕ) → j < 3 → at ≡ 3 * i + j → cell w JOINS at ≡ getD (joinNumbers (getD js i (G.join 0 0 0))) j 0 =
-      λ j at l q. cell-in w JOINS (3 * length js) (flatJoins js) e at (omega arith) ∙ joins-at js i j at h l q in
-      join-by _ _ _ x (is 0 (3 * i) (omega arith) (omega arith)) (is 1 (3 * i + 1) (omega arith) refl) (is 2 (3 * i + 2) (omega arith) refl)
+      let is : (j at : ℕ) → j < joinCells → at ≡ joinCells * i + j → cell w JOINS at ≡ getD (joinNumbers (getD js i (G.join 0 0 0))) j 0 =
+      λ j at l q. cell-in w JOINS (joinCells * length js) (flatJoins js) e at (omega arith) ∙ joins-at js i j at h l q in
+      join-by _ _ _ x (is 0 (joinCells * i) (omega arith) (omega arith)) (is 1 (joinCells * i + 1) (omega arith) refl)
+      (is 2 (joinCells * i + 2) (omega arith) refl)
       ∙ sym (map-at js i h)
 
   pub joins-made : firsts (joinAt w) (length js) ≡ map joinRecord js

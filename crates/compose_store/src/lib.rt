@@ -5,8 +5,9 @@ ghost use lib.ListN.{length};
 ghost use Rattle.words.specs.Lists.{over};
 ghost use Rattle.store_loops.specs.Firsts.{firsts};
 ghost use Rattle.layout.specs.Layout as L;
-ghost use Rattle.answers.specs.Composing.{placeCells};
+ghost use Rattle.answers.specs.Composing.{joinCells, placeCells};
 ghost use Rattle.compose_store.specs.steps.Made as M;
+use answers::JOIN_CELLS;
 use answers::Join;
 use answers::PLACE_CELLS;
 use answers::Place;
@@ -15,10 +16,10 @@ use layout::PLACES;
 
 // Join i of those staged in the work area.
 fn join_at(work: &[u16], i: usize) -> Join
-    requires { ⌜ 3 * (i + 1) ≤ length (now work) - L.JOINS ⌝ }
+    requires { ⌜ joinCells * (i + 1) ≤ length (now work) - L.JOINS ⌝ }
     ensures { λ r. ⌜ r ≡ M.joinAt (now (work .entry)) i ⌝ }
 {
-    let at = 3 * i;
+    let at = JOIN_CELLS * i;
     Join {
         left: work[JOINS + at],
         right: work[JOINS + (at + 1)],
@@ -43,7 +44,7 @@ fn place_at(work: &[u16], i: usize) -> Place
 
 // The first `count` staged joins, stored from the start of the list.
 pub fn store_joins(work: &[u16], joins: &mut [Join], count: usize)
-    requires { ⌜ (count ≤ length (now joins)) × (3 * count ≤ length (now work) - L.JOINS) ⌝ }
+    requires { ⌜ (count ≤ length (now joins)) × (joinCells * count ≤ length (now work) - L.JOINS) ⌝ }
     ensures { λ _. ⌜ now (joins .exit) ≡ over (firsts (M.joinAt (now (work .entry))) count) (now (joins .entry)) ⌝ }
 {
     let mut i = 0;

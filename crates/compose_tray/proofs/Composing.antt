@@ -17,7 +17,7 @@ use Rattle.greedy.specs.Composing.{whole, joinsOf}
 use Rattle.tables.specs.Tables.{table}
 use Rattle.layout.specs.Layout.{JOINS, PLACES}
 use Rattle.answers.specs.declared.Composed.{Composed}
-use Rattle.answers.specs.Composing.{flatJoins, placeCells, flatPlaces}
+use Rattle.answers.specs.Composing.{joinCells, flatJoins, placeCells, flatPlaces}
 use Rattle.compose_core.proofs.StagedTells.{Accepts, Refuses, staged-tells, staged-room}
 use Rattle.store_loops.specs.Firsts.{firsts}
 use Rattle.answers.specs.declared.Join.{Join}
@@ -49,8 +49,8 @@ module _ (g : Settings) (s es w w′ l l′ : List ℕ) (js : List Join) (ps : L
     all-places : r .answer .slips ≡ length ss
     all-places = ap (λ (x : Composed). x .slips) (a .answer-is)
 
-    joins-staged : table w′ JOINS (3 * length (joinsOf (whole g ss))) ≡ flatJoins (joinsOf (whole g ss))
-    joins-staged = ap (λ (n : ℕ). table w′ JOINS (3 * n)) (sym all-joins) ∙ c .stages .joins-are (ap (λ (x : Composed). x .number) (a .answer-is))
+    joins-staged : table w′ JOINS (joinCells * length (joinsOf (whole g ss))) ≡ flatJoins (joinsOf (whole g ss))
+    joins-staged = ap (λ (n : ℕ). table w′ JOINS (joinCells * n)) (sym all-joins) ∙ c .stages .joins-are (ap (λ (x : Composed). x .number) (a .answer-is))
 
     places-staged : table w′ PLACES (placeCells * length ss) ≡ flatPlaces (whole g ss)
     places-staged = ap (λ (n : ℕ). table w′ PLACES (placeCells * n)) (sym all-places) ∙ c .stages .places-are (ap (λ (x : Composed). x .number) (a .answer-is))
@@ -62,7 +62,7 @@ module _ (g : Settings) (s es w w′ l l′ : List ℕ) (js : List Join) (ps : L
     no-places : r .places ≡ 0
     no-places = c .places-is ∙ ap (λ (x : Composed). x .slips) (a .answer-is)
 
-  pub joins-can : (r .joins ≤ length js) × (3 * r .joins ≤ length w′ - JOINS)
+  pub joins-can : (r .joins ≤ length js) × (joinCells * r .joins ≤ length w′ - JOINS)
   joins-can =
       by-answer
       (λ a. (

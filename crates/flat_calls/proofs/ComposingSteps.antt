@@ -16,12 +16,12 @@ use Rattle.layout.specs.Layout.{JOINS, PLACES}
 use Rattle.answers.specs.declared.Composed.{Composed}
 use Rattle.compose_core.specs.steps.Composing.{Staged}
 use Rattle.compose_core.proofs.StagedTells.{staged-tells, staged-room}
-use Rattle.answers.specs.Composing.{placeCells}
+use Rattle.answers.specs.Composing.{joinCells, placeCells}
 use Rattle.answers.specs.Flat.{ComposeFlat}
 use Rattle.tables.specs.Copying.{CanCopy}
 
 module _ (g : Settings) (s es w w₁ l l′ : List ℕ) (jr pr : ℕ) (r : Composed) (st : Staged g s es w w₁ l l′ jr pr r) where
-  pub joins-can : (m : ℕ) (j : List ℕ) → m ≡ r .joins → jr ≡ length j / 3 → CanCopy w₁ JOINS (3 * m) j
+  pub joins-can : (m : ℕ) (j : List ℕ) → m ≡ r .joins → jr ≡ length j / joinCells → CanCopy w₁ JOINS (joinCells * m) j
   joins-can m j e q =
       staged-tells g s es w (length l) jr pr r (st .answer-is)
       (λ a. let d = staged-room g s es w w₁ l l′ jr pr r st a in record { there = omega (arith, d); room = omega (arith, a .joins-fit) })
@@ -37,8 +37,8 @@ module _ (g : Settings) (s es w w₁ l l′ : List ℕ) (jr pr : ℕ) (r : Compo
       (λ b. let z = ap (λ (c : Composed). c .slips) (b .answer-is) in record { there = omega arith; room = omega arith })
 
   pub flat-says :
-      (j j′ p p′ : List ℕ) (m n : ℕ) → jr ≡ length j / 3 → pr ≡ length p / placeCells → m ≡ r .joins → n ≡ r .slips
-      → j′ ≡ over (table w₁ JOINS (3 * m)) j → p′ ≡ over (table w₁ PLACES (placeCells * n)) p → ComposeFlat g s es w w₁ l l′ j j′ p p′ r
+      (j j′ p p′ : List ℕ) (m n : ℕ) → jr ≡ length j / joinCells → pr ≡ length p / placeCells → m ≡ r .joins → n ≡ r .slips
+      → j′ ≡ over (table w₁ JOINS (joinCells * m)) j → p′ ≡ over (table w₁ PLACES (placeCells * n)) p → ComposeFlat g s es w w₁ l l′ j j′ p p′ r
   unfolding table
   flat-says j j′ p p′ m n ej ep em en hj hp =
       staged-tells g s es w (length l) jr pr r (st .answer-is)

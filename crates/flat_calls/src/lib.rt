@@ -1,9 +1,10 @@
-// Composing and finding over slices of numbers: three numbers a join, `PLACE_CELLS` a place, two an occurrence.
+// Composing and finding over slices of numbers: `JOIN_CELLS` numbers a join, `PLACE_CELLS` a place, two an occurrence.
 ghost use Rattle.answers.specs.Flat.{ComposeFlat};
 ghost use Prim.Native.Nat.{_+_, _<_};
 ghost use Rattle.answers.specs.Finding as F;
 ghost use Rattle.flat_calls.specs.steps.Occurrences as N;
 use answers::Composed;
+use answers::JOIN_CELLS;
 use answers::PLACE_CELLS;
 use answers::Search;
 use layout::JOINS;
@@ -26,7 +27,7 @@ pub fn compose_flat(
     ensures { λ r. ⌜ ComposeFlat settings (now (letters .entry)) (now (ends .entry)) (now (work .entry)) (now (work .exit))
         (now (legend .entry)) (now (legend .exit)) (now (joins .entry)) (now (joins .exit)) (now (places .entry)) (now (places .exit)) r ⌝ }
 {
-    let joins_room = joins.len() / 3;
+    let joins_room = joins.len() / JOIN_CELLS;
     let places_room = places.len() / PLACE_CELLS;
     let answer = compose_core::compose_staged(
         letters,
@@ -37,7 +38,7 @@ pub fn compose_flat(
         joins_room,
         places_room,
     );
-    tables::copy_cells(work, JOINS, 3 * whole(answer.joins), joins);
+    tables::copy_cells(work, JOINS, JOIN_CELLS * whole(answer.joins), joins);
     tables::copy_cells(work, PLACES, PLACE_CELLS * whole(answer.slips), places);
     answer
 }

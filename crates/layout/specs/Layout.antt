@@ -1,5 +1,7 @@
 -- Where the tables stand in the work area, and how many cells each has.
-use Prim.Native.Nat.{ℕ}
+use Prim.Native.Nat.{ℕ, _*_}
+use Rattle.trays.specs.Limits.{maxSlips}
+use Rattle.answers.specs.Composing.{joinCells}
 
 -- 200 cells: the members, ascending
 abbrev pub MEMBERS : ℕ
@@ -82,9 +84,13 @@ ENDS = 18310
 abbrev pub ENDS-NEXT : ℕ
 ENDS-NEXT = 20311
 
--- 600 cells: the joins in the order made: left slip, right slip, overlap
+-- `allJoins` cells: the joins in the order made: left slip, right slip, overlap
 abbrev pub JOINS : ℕ
 JOINS = 22311
+
+-- how many numbers the joins have, at most one for each slip
+abbrev pub allJoins : ℕ
+allJoins = maxSlips * joinCells
 
 -- 600 cells: for each slip its place, 1 if it is kept, and the letters compared
 abbrev pub PLACES : ℕ

@@ -11,6 +11,7 @@ use Rattle.tables.specs.Tables.{table}
 use Rattle.trays.specs.Limits.{maxSlips}
 use Rattle.greedy.specs.Joins.{Join, join, leftOf, rightOf}
 use Rattle.greedy.specs.Legends.{overlapAfter}
+use Rattle.answers.specs.Composing.{joinCells}
 use Rattle.layout.specs.Layout.{KEPT, JOINS}
 use Rattle.layout.specs.Tables.{cell}
 
@@ -18,7 +19,7 @@ abbrev pub keptIn : List ℕ → ℕ → List ℕ
 keptIn w k = table w KEPT k
 
 abbrev pub joinIn : List ℕ → ℕ → Join
-joinIn w i = join (cell w JOINS (3 * i)) (cell w JOINS (3 * i + 1)) (cell w JOINS (3 * i + 2))
+joinIn w i = join (cell w JOINS (joinCells * i)) (cell w JOINS (joinCells * i + 1)) (cell w JOINS (joinCells * i + 2))
 
 abbrev pub joinsIn : List ℕ → ℕ → List Join
 joinsIn w k = map (joinIn w) (upFrom 0 k)

@@ -1,5 +1,8 @@
 // Where the tables of the automaton and of composing stand in the lent work area: specs/Layout.antt says what each holds.
-// 7: so many cells are asked for.
+use answers::JOIN_CELLS;
+use trays::MAX_SLIPS;
+
+// 7: this many cells are asked for.
 pub const WORK_NEED: usize = 32000;
 
 pub const MEMBERS: usize = 0;
@@ -45,6 +48,8 @@ pub const ENDS: usize = 18310;
 pub const ENDS_NEXT: usize = 20311;
 
 pub const JOINS: usize = 22311;
+
+pub const ALL_JOINS: usize = MAX_SLIPS * JOIN_CELLS;
 
 pub const PLACES: usize = 22911;
 

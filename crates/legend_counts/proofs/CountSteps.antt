@@ -10,7 +10,8 @@ use Rattle.tables.proofs.Tables.{table-length, table-at, table-take, part-table
 use Rattle.trays.specs.Limits.{maxSlips, workNeed}
 use Rattle.trays.specs.Slips.{slipsOf, total}
 use Rattle.greedy.specs.Joins.{Join, saved}
-use Rattle.layout.specs.Layout.{KEPT, JOINS}
+use Rattle.answers.specs.Composing.{joinCells}
+use Rattle.layout.specs.Layout.{KEPT, JOINS, allJoins}
 use Rattle.layout.specs.Tables.{cell}
 use Rattle.layout.specs.Staging.{keptIn, joinIn, joinsIn}
 use Rattle.legend_counts.specs.steps.Counting.{thirds, KeptReal, CountAsks, LetterCountsAre}
@@ -26,25 +27,26 @@ joins-more w m (suc n) =
     ap (λ (l : List Join). joinIn w m ∷ l) (joins-more w (suc m) n ∙ rw e)
 
 module _ (w : List ℕ) (room : workNeed ≤ length w) where
-  thirds-saved : (n : ℕ) → n ≤ maxSlips → thirds (table w JOINS 600) n ≡ saved (joinsIn w n)
+  thirds-saved : (n : ℕ) → n ≤ maxSlips → thirds (table w JOINS allJoins) n ≡ saved (joinsIn w n)
   thirds-saved zero h = refl
   thirds-saved (suc n) h =
       let e : 0 + n ≡ n = omega arith in
-      let c : getD (table w JOINS 600) (3 * n + 2) 0 ≡ cell w JOINS (3 * n + 2) = table-at w JOINS 600 (3 * n + 2) (omega arith) in
+      let c : getD (table w JOINS allJoins) (joinCells * n + 2) 0 ≡ cell w JOINS (joinCells * n + 2) =
+      table-at w JOINS allJoins (joinCells * n + 2) (omega arith) in
       rw (thirds-saved n (omega arith), c) (sym (ap saved (joins-more w 0 n) ∙ saved-more (joinsIn w n) (joinIn w (0 + n)) ∙ rw e))
 
 abbrev pub keptPart : List ℕ → List ℕ
-keptPart w = take (KEPT + 200 - KEPT) (drop KEPT w)
+keptPart w = take (KEPT + maxSlips - KEPT) (drop KEPT w)
 
 abbrev joinsPart : List ℕ → List ℕ
-joinsPart w = take (JOINS + 600 - JOINS) (drop JOINS w)
+joinsPart w = take (JOINS + allJoins - JOINS) (drop JOINS w)
 
 module _ (s es w : List ℕ) (k j : ℕ) (a : CountAsks s es w k j) where
   kept-part : keptPart w ≡ table w KEPT maxSlips
-  kept-part = part-table w KEPT maxSlips (KEPT + 200) refl
+  kept-part = part-table w KEPT maxSlips (KEPT + maxSlips) refl
 
-  joins-part : joinsPart w ≡ table w JOINS 600
-  joins-part = part-table w JOINS 600 (JOINS + 600) refl
+  joins-part : joinsPart w ≡ table w JOINS allJoins
+  joins-part = part-table w JOINS allJoins (JOINS + allJoins) refl
 
   first-kept : take k (keptPart w) ≡ keptIn w k
   first-kept = rw kept-part (table-take w KEPT k maxSlips (a .few-kept))
@@ -59,9 +61,9 @@ module _ (s es w : List ℕ) (k j : ℕ) (a : CountAsks s es w k j) where
         real = λ i h. rw (kept-part, table-at w KEPT maxSlips i (omega (arith, a .few-kept))) (a .real i h);
       }
 
-  pub joins-asks : (j ≤ 200) × (3 * j ≤ length (joinsPart w))
+  pub joins-asks : (j ≤ maxSlips) × (joinCells * j ≤ length (joinsPart w))
   joins-asks =
-      let l : length (joinsPart w) ≡ 600 = rw joins-part (table-length w JOINS 600 (omega (arith, a .room))) in
+      let l : length (joinsPart w) ≡ allJoins = rw joins-part (table-length w JOINS allJoins (omega (arith, a .room))) in
       (a .few-joins, omega (arith, a .few-joins))
 
   module _ (n m : ℕ) (e : n ≡ total (slipsOf s es) (take k (keptPart w))) (f : m ≡ thirds (joinsPart w) j) where

@@ -10,6 +10,7 @@ use Rattle.trays.specs.Limits.{maxSlip}
 use Rattle.trays.specs.Slips.{slipsOf, slip, total}
 use Rattle.trays.specs.Faults.{trayFault}
 use Rattle.trays.proofs.Spans.{accepted-spanned}
+use Rattle.answers.specs.Composing.{joinCells}
 use Rattle.legend_counts.specs.steps.Counting.{thirds, KeptReal}
 
 total-more : (ss : List (List ℕ)) (K : List ℕ) (i : ℕ) → total ss (K ++ (i ∷ [])) ≡ total ss K + length (slip ss i)
@@ -35,7 +36,7 @@ module _ (s es xs : List ℕ) (k i sum slip′ : ℕ) (part : List ℕ) (a : Kep
         let h : i < length xs = omega (arith, a .enough) in
         rw (add-one i, take-suc xs i 0 h, total-more, t, e, v .0)
 
-pub thirds-more : (xs : List ℕ) (i sum r : ℕ) → (r ≡ getD xs (3 * i + 2) 0) × (r < 65536) → sum ≡ thirds xs i → sum + r ≡ thirds xs (i + 1)
+pub thirds-more : (xs : List ℕ) (i sum r : ℕ) → (r ≡ getD xs (joinCells * i + 2) 0) × (r < 65536) → sum ≡ thirds xs i → sum + r ≡ thirds xs (i + 1)
 thirds-more xs i sum r v e = rw (add-one i, v .0, e)
 
 -- at the end of a loop that counts to k

@@ -2,10 +2,15 @@
 ghost use mathlib.Core.Path.{_≡_};
 ghost use Prim.Native.Nat.{_+_, _*_, _≤_};
 ghost use lib.ListN.{length, take};
+ghost use Rattle.trays.specs.Limits.{maxSlips};
 ghost use Rattle.trays.specs.Slips.{slipsOf, total};
+ghost use Rattle.answers.specs.Composing.{joinCells};
 ghost use Rattle.legend_counts.specs.steps.Counting.{thirds, KeptReal, CountAsks, LetterCountsAre};
+use answers::JOIN_CELLS;
+use layout::ALL_JOINS;
 use layout::JOINS;
 use layout::KEPT;
+use trays::MAX_SLIPS;
 
 // Kept letters, saved letters, and the letters that the legend needs.
 pub struct LetterCounts {
@@ -32,13 +37,13 @@ fn kept_letters(letters: &[u8], ends: &[u16], kept: &[u16], k: usize) -> usize
 
 // The overlaps of the first `n` joins, summed.
 fn saved_letters(joins: &[u16], n: usize) -> usize
-    requires { ⌜ (n ≤ 200) × (3 * n ≤ length (now joins)) ⌝ }
+    requires { ⌜ (n ≤ maxSlips) × (joinCells * n ≤ length (now joins)) ⌝ }
     ensures { λ r. ⌜ r ≡ thirds (now (joins .entry)) n ⌝ }
 {
     let mut sum: usize = 0;
     let mut i: usize = 0;
     while i < n {
-        sum += tables::wide(joins[3 * i + 2]);
+        sum += tables::wide(joins[JOIN_CELLS * i + 2]);
         i += 1;
     }
     sum
@@ -55,8 +60,8 @@ pub fn count_letters(
     requires { ⌜ CountAsks (now letters) (now ends) (now work) k joins ⌝ }
     ensures { λ r. ⌜ LetterCountsAre (now (letters .entry)) (now (ends .entry)) (now (work .entry)) k joins r ⌝ }
 {
-    let all = kept_letters(letters, ends, &work[KEPT..KEPT + 200], k);
-    let saved = saved_letters(&work[JOINS..JOINS + 600], joins);
+    let all = kept_letters(letters, ends, &work[KEPT..KEPT + MAX_SLIPS], k);
+    let saved = saved_letters(&work[JOINS..JOINS + ALL_JOINS], joins);
     LetterCounts {
         letters: all,
         saved,

@@ -12,7 +12,7 @@ use lib.ListN.{length, getD}
 use Rattle.words.specs.Lists.{each, upFrom}
 use Rattle.words.proofs.Members.{each-append}
 use Rattle.trays.specs.Slips.{endOf}
-use Rattle.answers.specs.Composing.{placeCells}
+use Rattle.answers.specs.Composing.{joinCells, placeCells}
 use Rattle.sheet_rule.specs.Sheets.{threeLine, slipLine, signOf, foundLine, lines}
 use Rattle.sheet_rule.specs.Sheets.{slipLineAt, joinLineAt, foundLineAt, placeWidth, slipSize, joinSize, foundSize}
 use Rattle.sheet_columns.specs.steps.Wrote.{Wrote}
@@ -63,17 +63,17 @@ slips-end es ps at i r o o₁ = lines-end (slipLineAt es ps) slipSize at i (leng
 
 -- joins
 module _ (js : List ℕ) (n i : ℕ) (F : JoinsFit js n) (h : i < n) where
-  pub join-left : (x : ℕ) → x ≡ getD js (3 * i) 0 → x < 10 ^ 4
-  join-left x e = rw e (F .small (3 * i) (omega arith))
+  pub join-left : (x : ℕ) → x ≡ getD js (joinCells * i) 0 → x < 10 ^ 4
+  join-left x e = rw e (F .small (joinCells * i) (omega arith))
 
-  pub join-right : (x : ℕ) → x ≡ getD js (3 * i + 1) 0 → x < 10 ^ 4
-  join-right x e = rw e (F .small (3 * i + 1) (omega arith))
+  pub join-right : (x : ℕ) → x ≡ getD js (joinCells * i + 1) 0 → x < 10 ^ 4
+  join-right x e = rw e (F .small (joinCells * i + 1) (omega arith))
 
-  pub join-shared : (x : ℕ) → x ≡ getD js (3 * i + 2) 0 → x < 10 ^ 4
-  join-shared x e = rw e (F .small (3 * i + 2) (omega arith))
+  pub join-shared : (x : ℕ) → x ≡ getD js (joinCells * i + 2) 0 → x < 10 ^ 4
+  join-shared x e = rw e (F .small (joinCells * i + 2) (omega arith))
 
-pub join-turn : (js : List ℕ) (i at next r left right shared : ℕ) (o o₁ o₂ : List ℕ) → left ≡ getD js (3 * i) 0 → right ≡ getD js (3 * i + 1) 0 →
-    shared ≡ getD js (3 * i + 2) 0 → Wrote at (joinSize * i) (lines (joinLineAt js) i) o o₁ next →
+pub join-turn : (js : List ℕ) (i at next r left right shared : ℕ) (o o₁ o₂ : List ℕ) → left ≡ getD js (joinCells * i) 0 →
+    right ≡ getD js (joinCells * i + 1) 0 → shared ≡ getD js (joinCells * i + 2) 0 → Wrote at (joinSize * i) (lines (joinLineAt js) i) o o₁ next →
     Wrote next joinSize (threeLine 4 left right shared) o₁ o₂ r → Wrote at (joinSize * (i + 1)) (lines (joinLineAt js) (i + 1)) o o₂ r
 join-turn js i at next r left right shared o o₁ o₂ a b c x y = lines-turn (joinLineAt js) joinSize at i next r o o₁ o₂ x (rw (a, b, c) at y)
 

@@ -8,6 +8,7 @@ ghost use Rattle.sheet_rule.specs.Sheets as S;
 ghost use Rattle.sheet_columns.specs.steps.Wrote as W;
 ghost use Rattle.sheet_lines.specs.steps.Lines as P;
 use answers::Composed;
+use answers::JOIN_CELLS;
 use answers::PLACE_CELLS;
 use file_rule::BLANK;
 use file_rule::LF;
@@ -103,7 +104,7 @@ fn slip_lines(out: &mut [u8], at: usize, ends: &[u16], places: &[u16]) -> usize
     next
 }
 
-// A line for each of `n` joins, from three numbers a join: left slip, right slip, overlap.
+// A line for each of `n` joins, from `JOIN_CELLS` numbers a join: left slip, right slip, overlap.
 fn join_lines(out: &mut [u8], at: usize, joins: &[u16], n: usize) -> usize
     requires { ⌜ P.JoinsFit (now joins) n × (at + S.joinSize * n ≤ length (now out)) ⌝ }
     ensures { λ r. ⌜ W.Wrote at (S.joinSize * n) (S.lines (S.joinLineAt (now (joins .entry))) n) (now (out .entry)) (now (out .exit)) r ⌝ }
@@ -111,7 +112,7 @@ fn join_lines(out: &mut [u8], at: usize, joins: &[u16], n: usize) -> usize
     let mut next = at;
     let mut i: usize = 0;
     while i < n {
-        let k = 3 * i;
+        let k = JOIN_CELLS * i;
         let left = small(joins, k);
         let right = small(joins, k + 1);
         let shared = small(joins, k + 2);

@@ -23,7 +23,7 @@ use Rattle.greedy.specs.Composing.{usual, whole, joinsOf, legendOf}
 use Rattle.layout.specs.Layout.{JOINS, PLACES}
 use Rattle.answers.specs.declared.Composed.{Composed}
 use Rattle.answers.specs.WorkArea.{workRow}
-use Rattle.answers.specs.Composing.{roomRows, composeFault, composedBy, composedOf, outcomeOf, refusedBy, flatJoins, placeCells, flatPlaces}
+use Rattle.answers.specs.Composing.{roomRows, composeFault, composedBy, composedOf, outcomeOf, refusedBy, joinCells, flatJoins, placeCells, flatPlaces}
 use Rattle.compose_core.specs.steps.Composing.{Staged}
 use Rattle.sheet_rule.specs.Sheets.{detailWidth, refusedLine, refusedSize, composeLines, composeSheetOf}
 use Rattle.sheet_lines.specs.steps.Lines.{Printed, ComposeAsks}
@@ -144,10 +144,10 @@ module _ (s es w l o : List ℕ) (room : TrayRoom w l o) where
             work = omega (arith, room .work, st .work-is .same);
           }
 
-      joins-here : take (JOINS + 3 * r .joins - JOINS) (drop JOINS w′) ≡ flatJoins (joinsOf (whole usual ss))
+      joins-here : take (JOINS + joinCells * r .joins - JOINS) (drop JOINS w′) ≡ flatJoins (joinsOf (whole usual ss))
       unfolding table
       joins-here =
-          let e : JOINS + 3 * r .joins - JOINS ≡ 3 * r .joins = omega arith in
+          let e : JOINS + joinCells * r .joins - JOINS ≡ joinCells * r .joins = omega arith in
           rw e (st .joins-are z)
 
       places-here : take (PLACES + placeCells * r .slips - PLACES) (drop PLACES w′) ≡ flatPlaces (whole usual ss)
@@ -162,14 +162,14 @@ module _ (s es w l o : List ℕ) (room : TrayRoom w l o) where
       pub legend-count : r .legend ≡ length (take (r .legend) l′)
       legend-count = rw legend-here (ap (λ (c : Composed). c .legend) answer)
 
-      pub lines-can : ComposeAsks r es (take (JOINS + 3 * r .joins - JOINS) (drop JOINS w′))
+      pub lines-can : ComposeAsks r es (take (JOINS + joinCells * r .joins - JOINS) (drop JOINS w′))
           (take (PLACES + placeCells * r .slips - PLACES) (drop PLACES w′)) (take (r .legend) l′) (length o)
       lines-can = rw (joins-here, places-here, legend-here, answer) (compose-asks s es tray (length o) (room .sheet))
 
       pub tray-printed : (o′ : List ℕ) (k : ℕ) →
-          Printed (composeLines r es (take (JOINS + 3 * r .joins - JOINS) (drop JOINS w′)) (take (PLACES + placeCells * r .slips - PLACES) (drop PLACES w′))
-          (take (r .legend) l′)) o o′ k → Printed (traySheet s es) o o′ k
+          Printed (composeLines r es (take (JOINS + joinCells * r .joins - JOINS) (drop JOINS w′))
+          (take (PLACES + placeCells * r .slips - PLACES) (drop PLACES w′)) (take (r .legend) l′)) o o′ k → Printed (traySheet s es) o o′ k
       tray-printed o′ k p =
-          printed-is (composeLines r es (take (JOINS + 3 * r .joins - JOINS) (drop JOINS w′))
+          printed-is (composeLines r es (take (JOINS + joinCells * r .joins - JOINS) (drop JOINS w′))
           (take (PLACES + placeCells * r .slips - PLACES) (drop PLACES w′)) (take (r .legend) l′)) (traySheet s es) o o′ k
           (rw (joins-here, places-here, legend-here, answer) (compose-lines-are s es tray) ∙ sym (sheet-silent s es tray)) p

@@ -2,6 +2,7 @@
 ghost use Rattle.sheet_lines.specs.steps.Lines.{Printed};
 ghost use Rattle.sheet_rule.specs.Programs.{traySheet};
 ghost use Rattle.sheet_of_tray.specs.steps.Lent.{TrayRoom};
+use answers::JOIN_CELLS;
 use answers::PLACE_CELLS;
 use layout::JOINS;
 use layout::PLACES;
@@ -26,7 +27,7 @@ pub fn tray_sheet(
     if c.number != 0 {
         return sheet_lines::refused_line(c.number, c.detail, out);
     }
-    let joins = 3 * c.joins as usize;
+    let joins = JOIN_CELLS * c.joins as usize;
     let places = PLACE_CELLS * c.slips as usize;
     let text = c.legend as usize;
     sheet_lines::compose_lines(

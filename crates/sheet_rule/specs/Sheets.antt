@@ -7,7 +7,7 @@
 --   NAMESize              == the bytes of the line NAMELine, its LF included
 --   composeSheetOf ss     == the `compose` sheet of the slips ss, with the usual settings
 --   findSheetOf ss t      == the `find` sheet of the slips ss and the text t
---   composeLines c es js ps t == a `compose` sheet from numbers: the answer c, the ends es, joins js of three numbers each, places ps of
+--   composeLines c es js ps t == a `compose` sheet from numbers: the answer c, the ends es, joins js of `joinCells` numbers each, places ps of
 --                            `placeCells` numbers a slip, and the legend t
 --   findLines n m k ns    == a `find` sheet from numbers: n letters, m moves, k occurrences ns of two numbers each
 --   composeRoom, findRoom == the bytes of the longest sheets
@@ -28,7 +28,7 @@ use Rattle.greedy.specs.Composing.{usual, whole, joinsOf, legendOf, placeOf, ke
 use Rattle.matching.specs.Moves.{moves}
 use Rattle.matching.specs.Occurrences.{occurrences}
 use Rattle.answers.specs.declared.Composed.{Composed}
-use Rattle.answers.specs.Composing.{placeCells}
+use Rattle.answers.specs.Composing.{joinCells, placeCells}
 
 abbrev pub digit : ℕ → ℕ
 digit d = 48 + d
@@ -137,7 +137,7 @@ abbrev pub slipLineAt : List ℕ → List ℕ → ℕ → List ℕ
 slipLineAt es ps i = slipLine (i + 1) (endOf es (suc i) - startOf es (suc i)) (getD ps (placeCells * i) 0) (signOf (getD ps (placeCells * i + 1) 0))
 
 abbrev pub joinLineAt : List ℕ → ℕ → List ℕ
-joinLineAt js i = joinLine (getD js (3 * i) 0) (getD js (3 * i + 1) 0) (getD js (3 * i + 2) 0)
+joinLineAt js i = joinLine (getD js (joinCells * i) 0) (getD js (joinCells * i + 1) 0) (getD js (joinCells * i + 2) 0)
 
 abbrev pub foundLineAt : List ℕ → ℕ → List ℕ
 foundLineAt ns i = foundLine (getD ns (2 * i) 0) (getD ns (2 * i + 1) 0)

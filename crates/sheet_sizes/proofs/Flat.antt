@@ -20,7 +20,7 @@ use Rattle.greedy.specs.Joins.{Join, join}
 use Rattle.greedy.specs.Composing.{usual, whole, joinsOf, legendOf}
 use Rattle.matching.specs.Moves.{moves}
 use Rattle.matching.specs.Occurrences.{Occurrence, occurrence, occurrences}
-use Rattle.answers.specs.Composing.{outcomeOf, flatJoins, placeCells, flatPlaces}
+use Rattle.answers.specs.Composing.{outcomeOf, joinCells, flatJoins, placeCells, flatPlaces}
 use Rattle.answers.specs.Finding.{flatFound}
 use Rattle.answers.proofs.FlatLists.{joins-at, found-at, places-at}
 use Rattle.sheet_rule.specs.Sheets.{asideSign, keptSign, signOf, joinLine, slipLineOf, slipLineAt, joinLineAt}
@@ -44,7 +44,7 @@ joins-flat js =
     lines-each (join 0 0 0) (joinLineAt (flatJoins js)) (λ j. joinLine (j .left) (j .right) (j .overlap)) js
     (λ i h.
     let at = joins-at js i in
-    rw (at 0 (3 * i) h (omega arith) (omega arith), at 1 (3 * i + 1) h (omega arith) refl, at 2 (3 * i + 2) h (omega arith) refl))
+    rw (at 0 (joinCells * i) h (omega arith) (omega arith), at 1 (joinCells * i + 1) h (omega arith) refl, at 2 (joinCells * i + 2) h (omega arith) refl))
 
 pub found-flat : (fs : List Occurrence) → lines (foundLineAt (flatFound fs)) (length fs) ≡ each (λ f. foundLine (f .end) (f .which)) fs
 found-flat fs =

@@ -22,7 +22,7 @@ use Rattle.greedy.specs.Composing.{usual, whole, joinsOf, legendOf}
 use Rattle.matching.specs.Moves.{moves}
 use Rattle.matching.specs.Occurrences.{occurrences}
 use Rattle.answers.specs.declared.Composed.{Composed}
-use Rattle.answers.specs.Composing.{outcomeOf, joinNumbers, flatJoins, placeCells, flatPlaces}
+use Rattle.answers.specs.Composing.{outcomeOf, joinCells, joinNumbers, flatJoins, placeCells, flatPlaces}
 use Rattle.answers.specs.Finding.{flatFound}
 use Rattle.answers.proofs.FlatLists.{joins-length, found-length, places-length, places-at}
 use Rattle.sheet_rule.specs.Sheets.{threeLine, trayLine, slipLine, findLine, foundLine, refusedLine, lines, slipLineAt, joinLineAt}
@@ -93,8 +93,8 @@ compose-size c es js ps t room A =
     (λ i h. slip-size (i + 1) _ _ _ (omega (arith, A .slips .few)) (omega (arith, A .slips .small i h)) (A .slips .placed i h)) in
     let joins : length (lines (joinLineAt js) (c .joins)) ≡ joinSize * c .joins =
     lines-size (joinLineAt js) joinSize (c .joins)
-    (λ i h. three-size 4 _ _ _ (omega arith) (A .joins .small (3 * i) (omega arith)) (A .joins .small (3 * i + 1) (omega arith))
-    (A .joins .small (3 * i + 2) (omega arith))) in
+    (λ i h. three-size 4 _ _ _ (omega arith) (A .joins .small (joinCells * i) (omega arith)) (A .joins .small (joinCells * i + 1) (omega arith))
+    (A .joins .small (joinCells * i + 2) (omega arith))) in
     simp length-append (omega (arith, simp length-append at (tray-size c (A .header))))
 
 pub find-size : (n m k : ℕ) (ns : List ℕ) (room : ℕ) → FindAsks n m k ns room → length (findLines n m k ns) ≡ findSize + foundSize * k
@@ -128,7 +128,7 @@ module _ (s es : List ℕ) (acc : trayFault s es .number ≡ 0) where
   joins-fit : JoinsFit (flatJoins (joinsOf (whole usual ss))) (length (joinsOf (whole usual ss)))
   joins-fit =
       let js = joinsOf (whole usual ss) in
-      let n : length (flatJoins js) ≡ 3 * length js = joins-length js in
+      let n : length (flatJoins js) ≡ joinCells * length js = joins-length js in
       let a : All (λ x. x < 10 ^ 4) (flatJoins js) =
       all-each JoinFits (λ x. x < 10 ^ 4) joinNumbers
       (λ j f. (omega (arith, f .0), (omega (arith, f .1), (omega (arith, f .2), tt)))) js (compose-fits s es acc .joins) in

@@ -14,7 +14,7 @@ use Rattle.tables.proofs.Tables.{only-refl, only-trans}
 use Rattle.greedy.specs.Walk.{visit, walkFrom}
 use Rattle.greedy.proofs.Scans as S
 use Rattle.matching.specs.Nodes.{string, Num}
-use Rattle.layout.specs.Layout.{LEVEL, JOINS}
+use Rattle.layout.specs.Layout.{LEVEL, JOINS, allJoins}
 use Rattle.layout.specs.Tables.{cell}
 use Rattle.layout.specs.Numbered.{patternsIn}
 use Rattle.layout.specs.Staging.{keptIn, joinsIn}
@@ -31,7 +31,7 @@ pub record RowWalking (s es : List ℕ) (n k nodes : ℕ) (w₀ : List ℕ) (d m
   pub walkable : Walkable s es n k nodes w₀
   pub some : 1 ≤ d
   pub most : d ≤ maxSlip
-  pub only : Only (Cells JOINS 600) w₀ w
+  pub only : Only (Cells JOINS allJoins) w₀ w
   pub from : cell w₀ LEVEL d ≤ v
   pub upto : end ≡ cell w₀ LEVEL (suc d)
   pub marks : Marks (joinsIn w made) left right overs first last

@@ -10,7 +10,7 @@ use Rattle.tables.specs.Tables.{Cells, Only, Got}
 use Rattle.tables.proofs.Tables.{only-refl, only-trans}
 use Rattle.greedy.specs.Joins.{Join}
 use Rattle.greedy.proofs.Scans as S
-use Rattle.layout.specs.Layout.{STARTS, ENDS, JOINS}
+use Rattle.layout.specs.Layout.{STARTS, ENDS, JOINS, allJoins}
 use Rattle.layout.specs.Staging.{joinsIn}
 use Rattle.walk_offer.specs.steps.Runs.{nextStarter, nextEnder, startersFrom, startersAt, endersFrom, endersAt, Real, ListedFrom}
 use Rattle.walk_offer.specs.steps.Marks.{Marks}
@@ -22,7 +22,7 @@ use Rattle.walk_offer.proofs.MarkLaws.{right-mark}
 
 pub record Visiting (es : List ℕ) (d v : ℕ) (w₀ : List ℕ) (count : ℕ) (w : List ℕ) (made l r : ℕ) (left right overs first last : List ℕ) : Type 0 where
   pub sized : Sized es w₀ d
-  pub only : Only (Cells JOINS 600) w₀ w
+  pub only : Only (Cells JOINS allJoins) w₀ w
   pub ends : ListedFrom es d (nextEnder w₀ es d) l
   pub starts : ListedFrom es d (nextStarter w₀ es d) r
   pub marks : Marks (joinsIn w made) left right overs first last
@@ -88,7 +88,7 @@ module _ {es : List ℕ} {d v : ℕ} {w₀ : List ℕ} {count : ℕ} {w : List �
 
       module _ {w′ left′ right′ overs′ first′ last′ : List ℕ} {made′ : ℕ}
           (m : JoinsMade w (S.offer (endersFrom w es d l′) d r (joinsIn w made)) w′ left′ right′ overs′ first′ last′ made′) where
-        all-only : Only (Cells JOINS 600) w₀ w′
+        all-only : Only (Cells JOINS allJoins) w₀ w′
         all-only = only-trans (T .only) (m .only)
 
         pub visit-next : Sized es w′ d

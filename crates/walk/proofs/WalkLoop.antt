@@ -23,7 +23,7 @@ use Rattle.greedy.proofs.Chains.{chains-fewer}
 use Rattle.greedy.proofs.Represent.{plain-rep}
 use Rattle.greedy.proofs.Nodes.{walk-append, walk-nodes}
 use Rattle.greedy.proofs.OneList.{Ready, one-list, kept-ready}
-use Rattle.layout.specs.Layout.{LEVEL, JOINS}
+use Rattle.layout.specs.Layout.{LEVEL, JOINS, allJoins}
 use Rattle.layout.specs.Tables.{cell, members}
 use Rattle.layout.specs.Numbered.{patternsIn}
 use Rattle.layout.specs.Staging.{keptIn, joinsIn}
@@ -47,7 +47,7 @@ fresh-length xs ys h e = h ∙ sym (ap length e ∙ length-replicate {A = ℕ} m
 
 pub record Walking (m : ℕ) (s es : List ℕ) (n k nodes : ℕ) (w₀ w : List ℕ) (made d : ℕ) (left right overs first last : List ℕ) : Type 0 where
   pub walkable : Walkable s es n k nodes w₀
-  pub only : Only (Cells JOINS 600) w₀ w
+  pub only : Only (Cells JOINS allJoins) w₀ w
   pub some : 1 ≤ m
   pub upto : d ≤ maxSlip
   pub marks : Marks (joinsIn w made) left right overs first last

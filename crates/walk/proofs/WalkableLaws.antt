@@ -25,7 +25,7 @@ use Rattle.tables.proofs.Tables.{table-length, cells-below}
 use Rattle.matching.specs.Nodes.{string, Num}
 use Rattle.matching.proofs.NodeLaws.{node-some}
 use Rattle.greedy.specs.steps.Scans.{starters, enders}
-use Rattle.layout.specs.Layout.{KEPT, STARTS, STARTS-NEXT, ENDS, ENDS-NEXT, JOINS, KID}
+use Rattle.layout.specs.Layout.{KEPT, STARTS, STARTS-NEXT, ENDS, ENDS-NEXT, JOINS, allJoins, KID}
 use Rattle.layout.specs.Tables.{cell, members, Threaded, StartsIs, EndsIs}
 use Rattle.layout.specs.Numbered.{patternsIn, Numbered, SameBelow}
 use Rattle.layout.specs.Staging.{keptIn}
@@ -129,7 +129,7 @@ module _ {s es : List ℕ} {n k nodes : ℕ} {w : List ℕ} (W : Walkable s es n
         (λ l e. omega (arith, endsProperly-ends x (slip ss l) e .0))
 
   -- only joins have been written
-  module _ {w′ : List ℕ} (f : Only (Cells JOINS 600) w w′) where
+  module _ {w′ : List ℕ} (f : Only (Cells JOINS allJoins) w w′) where
     below : SameBelow JOINS w w′
     below = only-kept JOINS f (λ p q. q .from)
 

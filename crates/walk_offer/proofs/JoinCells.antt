@@ -1,4 +1,4 @@
--- Joins in the work area, three cells each.
+-- Joins in the work area, `joinCells` cells each.
 --   joins-length   == k joins are k
 --   joins-more     == one join more is the last
 --   joins-same     == the same cells have the same joins
@@ -15,6 +15,7 @@ use Rattle.words.specs.Lists.{upFrom}
 use Rattle.tables.specs.Tables.{Put}
 use Rattle.tables.proofs.Tables.{only-refl, cells-put, put-here, put-other}
 use Rattle.greedy.specs.Joins.{Join, join}
+use Rattle.answers.specs.Composing.{joinCells}
 use Rattle.layout.specs.Layout.{JOINS}
 use Rattle.layout.specs.Tables.{cell}
 use Rattle.layout.specs.Staging.{joinIn, joinsIn}
@@ -35,28 +36,28 @@ joins-more w k =
     let e : 0 + k ≡ k = omega arith in
     ap (map (joinIn w)) (upFrom-more 0 k) ∙ map-append (joinIn w) (upFrom 0 k) ((0 + k) ∷ []) ∙ rw e
 
-pub joins-same : (w w′ : List ℕ) (k : ℕ) → ((p : ℕ) → p < 3 * k → cell w′ JOINS p ≡ cell w JOINS p) → joinsIn w′ k ≡ joinsIn w k
+pub joins-same : (w w′ : List ℕ) (k : ℕ) → ((p : ℕ) → p < joinCells * k → cell w′ JOINS p ≡ cell w JOINS p) → joinsIn w′ k ≡ joinsIn w k
 joins-same w w′ k h = at 0 k (omega arith)
   where
     at : (i n : ℕ) → i + n ≤ k → map (joinIn w′) (upFrom i n) ≡ map (joinIn w) (upFrom i n)
     at i zero l = refl
     at i (suc n) l =
         ap₂ _∷_
-        (rw (h (3 * i) (omega arith), h (3 * i + 1) (omega arith), h (3 * i + 2) (omega arith)))
+        (rw (h (joinCells * i) (omega arith), h (joinCells * i + 1) (omega arith), h (joinCells * i + 2) (omega arith)))
         (at (suc i) n (omega arith))
 
 module _ (w : List ℕ) (count l r d : ℕ) (F : CanJoin w count l r d) where
-  pub join-put : (a b w′ : List ℕ) → Put w JOINS (3 * count) l a → Put a JOINS (3 * count + 1) r b → Put b JOINS (3 * count + 2) d w′
+  pub join-put : (a b w′ : List ℕ) → Put w JOINS (joinCells * count) l a → Put a JOINS (joinCells * count + 1) r b → Put b JOINS (joinCells * count + 2) d w′
       → JoinPut w count l r d w′ (count + 1)
   join-put a b w′ p q o =
-      let ha : JOINS + (3 * count) < length w = omega (arith, F .room, F .few) in
-      let hb : JOINS + (3 * count + 1) < length a = omega (arith, p .same, F .room, F .few) in
-      let hc : JOINS + (3 * count + 2) < length b = omega (arith, q .same, p .same, F .room, F .few) in
-      let x : cell w′ JOINS (3 * count) ≡ l =
-      put-other o (3 * count) (λ e. omega arith) ∙ put-other q (3 * count) (λ e. omega arith) ∙ put-here p ha in
-      let y : cell w′ JOINS (3 * count + 1) ≡ r = put-other o (3 * count + 1) (λ e. omega arith) ∙ put-here q hb in
-      let z : cell w′ JOINS (3 * count + 2) ≡ d = put-here o hc in
-      let old : (i : ℕ) → i < 3 * count → cell w′ JOINS i ≡ cell w JOINS i =
+      let ha : JOINS + (joinCells * count) < length w = omega (arith, F .room, F .few) in
+      let hb : JOINS + (joinCells * count + 1) < length a = omega (arith, p .same, F .room, F .few) in
+      let hc : JOINS + (joinCells * count + 2) < length b = omega (arith, q .same, p .same, F .room, F .few) in
+      let x : cell w′ JOINS (joinCells * count) ≡ l =
+      put-other o (joinCells * count) (λ e. omega arith) ∙ put-other q (joinCells * count) (λ e. omega arith) ∙ put-here p ha in
+      let y : cell w′ JOINS (joinCells * count + 1) ≡ r = put-other o (joinCells * count + 1) (λ e. omega arith) ∙ put-here q hb in
+      let z : cell w′ JOINS (joinCells * count + 2) ≡ d = put-here o hc in
+      let old : (i : ℕ) → i < joinCells * count → cell w′ JOINS i ≡ cell w JOINS i =
       λ i h. put-other o i (λ e. omega arith) ∙ put-other q i (λ e. omega arith) ∙ put-other p i (λ e. omega arith) in
       let f = F .few in
       record {

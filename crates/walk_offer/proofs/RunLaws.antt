@@ -12,7 +12,7 @@ use Rattle.words.proofs.Members.{In, Asc}
 use Rattle.trays.specs.Limits.{maxSlips}
 use Rattle.trays.specs.Slips.{startOf, endOf}
 use Rattle.tables.specs.Tables.{Cells, Only}
-use Rattle.layout.specs.Layout.{STARTS-NEXT, ENDS-NEXT, JOINS}
+use Rattle.layout.specs.Layout.{STARTS-NEXT, ENDS-NEXT, JOINS, allJoins}
 use Rattle.layout.specs.Tables.{Threaded}
 use Rattle.walk_offer.specs.steps.Runs.{along, nextStarter, nextEnder, Real, ListedFrom}
 use Rattle.walk_offer.specs.steps.Offers.{Sized}
@@ -76,7 +76,7 @@ module _ (next : ℕ → ℕ) where
       pub listed-real : Real es d i
       listed-real = (rw first at (L .all)) i (List·Memᴰ·head refl)
 
-module _ {es w w′ : List ℕ} {d : ℕ} (S : Sized es w d) (f : Only (Cells JOINS 600) w w′) where
+module _ {es w w′ : List ℕ} {d : ℕ} (S : Sized es w d) (f : Only (Cells JOINS allJoins) w w′) where
   pub sized-kept : Sized es w′ d
   sized-kept =
       record { room = omega (arith, S .room, f .same); few = S .few; short = S .short; some = S .some; most = S .most }

@@ -11,6 +11,7 @@ ghost use Rattle.greedy.specs.steps.Scans as S;
 ghost use Rattle.layout.specs.Staging.{joinsIn};
 ghost use Rattle.walk_offer.specs.steps.Runs as R;
 ghost use Rattle.walk_offer.specs.steps.Offers as O;
+use answers::JOIN_CELLS;
 
 // The mark of slip `i`.
 fn mark_of(marks: &[u16], i: usize) -> usize
@@ -95,9 +96,9 @@ fn put_join(work: &mut [u16], count: usize, l: usize, r: usize, d: usize) -> usi
     requires { ⌜ O.CanJoin (now work) count l r d ⌝ }
     ensures { λ made. ⌜ O.JoinPut (now (work .entry)) count l r d (now (work .exit)) made ⌝ }
 {
-    tables::put(work, layout::JOINS, 3 * count, l);
-    tables::put(work, layout::JOINS, 3 * count + 1, r);
-    tables::put(work, layout::JOINS, 3 * count + 2, d);
+    tables::put(work, layout::JOINS, JOIN_CELLS * count, l);
+    tables::put(work, layout::JOINS, JOIN_CELLS * count + 1, r);
+    tables::put(work, layout::JOINS, JOIN_CELLS * count + 2, d);
     count + 1
 }
 

@@ -17,7 +17,7 @@ use Rattle.greedy.specs.Composing.{Composing, whole, keptOf, joinsOf, legendOf}
 use Rattle.layout.specs.Layout.{JOINS, PLACES}
 use Rattle.layout.specs.Staging.{keptIn, joinsIn, Neighbours}
 use Rattle.answers.specs.declared.Composed.{Composed}
-use Rattle.answers.specs.Composing.{roomRows, composedBy, flatJoins, placeCells, flatPlaces}
+use Rattle.answers.specs.Composing.{roomRows, composedBy, joinCells, flatJoins, placeCells, flatPlaces}
 use Rattle.legend_counts.specs.declared.LetterCounts.{LetterCounts}
 
 pub record AfterWalk (g : Settings) (s es w : List ℕ) (k j : ℕ) : Type 0 where
@@ -54,7 +54,7 @@ pub record Finished (c : Composing) (w w′ l l′ : List ℕ) (j p : ℕ) (r : 
   pub answer-is : r ≡ composedBy (firstRow (roomRows c (length l) j p)) c
   pub legend-is : l′ ≡ written (firstRow (roomRows c (length l) j p)) (legendOf c) l
   pub same : length w′ ≡ length w
-  pub joins-are : r .number ≡ 0 → table w′ JOINS (3 * r .joins) ≡ flatJoins (joinsOf c)
+  pub joins-are : r .number ≡ 0 → table w′ JOINS (joinCells * r .joins) ≡ flatJoins (joinsOf c)
   pub places-are : r .number ≡ 0 → table w′ PLACES (placeCells * r .slips) ≡ flatPlaces c
 
 pub record FinishedAs (s es w w′ l l′ : List ℕ) (k j : ℕ) (left right overs : List ℕ) (jr pr : ℕ) (r : Composed) : Type 0 where

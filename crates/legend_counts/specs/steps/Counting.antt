@@ -1,5 +1,5 @@
 -- What composing counts behind the walk: what each sum asks and gives.
---   thirds xs n     == the sum of the overlaps of the first n joins, three numbers each
+--   thirds xs n     == the sum of the overlaps of the first n joins, `joinCells` numbers each
 --   KeptReal        == the first k numbers of a list are slips of an accepted tray
 --   CountAsks       == so are the k kept slips in the work area, and the j joins there save no more letters than they have
 --   LetterCountsAre == what is counted before anything is written
@@ -11,6 +11,7 @@ use Rattle.trays.specs.Limits.{maxSlips, workNeed}
 use Rattle.trays.specs.Slips.{slipsOf, total}
 use Rattle.trays.specs.Faults.{trayFault}
 use Rattle.greedy.specs.Joins.{saved}
+use Rattle.answers.specs.Composing.{joinCells}
 use Rattle.layout.specs.Layout.{KEPT}
 use Rattle.layout.specs.Tables.{cell}
 use Rattle.layout.specs.Staging.{keptIn, joinsIn}
@@ -18,7 +19,7 @@ use Rattle.legend_counts.specs.declared.LetterCounts.{LetterCounts}
 
 abbrev pub thirds : List ℕ → ℕ → ℕ
 thirds xs zero = 0
-thirds xs (suc n) = thirds xs n + getD xs (3 * n + 2) 0
+thirds xs (suc n) = thirds xs n + getD xs (joinCells * n + 2) 0
 
 pub record KeptReal (s es xs : List ℕ) (k : ℕ) : Type 0 where
   pub tray : trayFault s es .number ≡ 0

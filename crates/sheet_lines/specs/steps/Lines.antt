@@ -8,7 +8,7 @@ use Prim.Native.Nat.{ℕ, suc, _+_, _*_, _^_, _≤_, _<_}
 use lib.ListN.{length, getD}
 use Rattle.words.specs.Lists.{over}
 use Rattle.trays.specs.Slips.{endOf}
-use Rattle.answers.specs.Composing.{placeCells}
+use Rattle.answers.specs.Composing.{joinCells, placeCells}
 use Rattle.answers.specs.declared.Composed.{Composed}
 use Rattle.sheet_rule.specs.Sheets.{placeWidth, countWidth, traySize, slipSize, joinSize, findSize, foundSize}
 
@@ -33,8 +33,8 @@ pub record SlipsFit (es ps : List ℕ) : Type 0 where
   pub places : placeCells * length es ≤ length ps
 
 pub record JoinsFit (js : List ℕ) (n : ℕ) : Type 0 where
-  pub small : (i : ℕ) → i < 3 * n → getD js i 0 < 10 ^ 4
-  pub numbers : 3 * n ≤ length js
+  pub small : (i : ℕ) → i < joinCells * n → getD js i 0 < 10 ^ 4
+  pub numbers : joinCells * n ≤ length js
 
 pub record ComposeAsks (c : Composed) (es js ps t : List ℕ) (room : ℕ) : Type 0 where
   pub header : HeaderFits c

@@ -15,7 +15,7 @@ use Rattle.tables.specs.Tables.{Cells, Only}
 use Rattle.greedy.specs.Joins.{Join, rightOf, plainFor}
 use Rattle.greedy.specs.Walk.{walkFrom}
 use Rattle.matching.specs.Nodes.{string}
-use Rattle.layout.specs.Layout.{LEVEL, STARTS, STARTS-NEXT, ENDS, ENDS-NEXT, JOINS}
+use Rattle.layout.specs.Layout.{LEVEL, STARTS, STARTS-NEXT, ENDS, ENDS-NEXT, JOINS, allJoins}
 use Rattle.layout.specs.Tables.{cell, members, StartsIs, EndsIs}
 use Rattle.layout.specs.Numbered.{patternsIn, Numbered}
 use Rattle.layout.specs.Staging.{keptIn, joinsIn, Neighbours}
@@ -74,4 +74,4 @@ pub record Walked (m : ℕ) (s es : List ℕ) (k : ℕ) (w w′ left right overs
   pub neighbours : Neighbours (joinsIn w′ r) left right overs
   pub small : (i : ℕ) → rightOf i (joinsIn w′ r) ≤ maxSlips
   pub few : r ≤ k
-  pub only : Only (Cells JOINS 600) w w′
+  pub only : Only (Cells JOINS allJoins) w w′

@@ -14,7 +14,7 @@ use Rattle.trays.specs.Slips.{endOf}
 use Rattle.tables.specs.Tables.{Cells, Only}
 use Rattle.greedy.specs.Joins.{Join, join}
 use Rattle.greedy.specs.steps.Linked.{putAt}
-use Rattle.layout.specs.Layout.{JOINS}
+use Rattle.layout.specs.Layout.{JOINS, allJoins}
 use Rattle.layout.specs.Staging.{joinsIn}
 use Rattle.walk_offer.specs.steps.Runs.{nextEnder, endersFrom, mark, waitingIn, Real, ListedFrom}
 use Rattle.walk_offer.specs.steps.Marks.{chainEnds, Marks}
@@ -52,7 +52,7 @@ pub record Chooses (es w : List ℕ) (d : ℕ) (right : List ℕ) (l m : ℕ) : 
 pub record JoinsMade (w : List ℕ) (js : List Join) (w′ left right overs first last : List ℕ) (r : ℕ) : Type 0 where
   pub joins-are : joinsIn w′ r ≡ js
   pub marks : Marks js left right overs first last
-  pub only : Only (Cells JOINS 600) w w′
+  pub only : Only (Cells JOINS allJoins) w w′
 
 -- one join more in the work area
 pub record CanJoin (w : List ℕ) (count l r d : ℕ) : Type 0 where
@@ -64,7 +64,7 @@ pub record CanJoin (w : List ℕ) (count l r d : ℕ) : Type 0 where
 
 pub record JoinPut (w : List ℕ) (count l r d : ℕ) (w′ : List ℕ) (res : ℕ) : Type 0 where
   pub joins-are : joinsIn w′ res ≡ joinsIn w count ++ (join l r d ∷ [])
-  pub only : Only (Cells JOINS 600) w w′
+  pub only : Only (Cells JOINS allJoins) w w′
 
 -- the chain that ends in l and the chain that r begins are one chain
 pub record EndsFit (first last : List ℕ) (l r : ℕ) : Type 0 where
