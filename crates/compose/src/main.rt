@@ -1,12 +1,17 @@
 // Reads a tray file on standard input and writes its sheet.
+use file_rule::ENDS_NEED;
+use file_rule::MAX_FILE;
+use layout::WORK_NEED;
+use sheet_rule::COMPOSE_ROOM;
+use trays::MAX_LETTERS;
 
 // Writes the sheet of a file.
 fn print_sheet(file: &[u8]) {
-    let mut letters = [0u8; 16384];
-    let mut ends = [0u16; 1700];
-    let mut work = [0u16; 32000];
-    let mut legend = [0u8; 2000];
-    let mut out = [0u8; 7816];
+    let mut letters = [0u8; MAX_FILE];
+    let mut ends = [0u16; ENDS_NEED];
+    let mut work = [0u16; WORK_NEED];
+    let mut legend = [0u8; MAX_LETTERS];
+    let mut out = [0u8; COMPOSE_ROOM];
     let n = sheet_of_files::compose_sheet(
         file,
         &mut letters,
@@ -23,7 +28,7 @@ fn print_sheet(file: &[u8]) {
 
 // One byte more than a tray file may have is read, so that a longer one is seen.
 fn main() {
-    let mut file = [0u8; 16385];
+    let mut file = [0u8; MAX_FILE + 1];
     let came = input::read_all(0, &mut file);
     if came.failed {
         io::write_all(1, b"NO FILE\n");

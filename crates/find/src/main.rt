@@ -1,12 +1,18 @@
 // Opens TRAY.TXT and TEXT.TXT and writes the sheet of the text's occurrences.
+use answers::MAX_TEXT;
+use file_rule::ENDS_NEED;
+use file_rule::MAX_FILE;
+use layout::WORK_NEED;
+use sheet_of_files::LISTED;
+use sheet_rule::FIND_ROOM;
 
-// Writes the sheet of a tray file and a text file. The list takes 8,000 occurrences, two numbers each.
+// Writes the sheet of a tray file and a text file.
 fn print_sheet(tray: &[u8], text: &mut [u8]) {
-    let mut letters = [0u8; 16384];
-    let mut ends = [0u16; 1700];
-    let mut work = [0u16; 32000];
-    let mut found = [0u32; 16000];
-    let mut out = [0u8; 72019];
+    let mut letters = [0u8; MAX_FILE];
+    let mut ends = [0u16; ENDS_NEED];
+    let mut work = [0u16; WORK_NEED];
+    let mut found = [0u32; LISTED];
+    let mut out = [0u8; FIND_ROOM];
     let n = sheet_of_files::find_sheet(
         tray,
         text,
@@ -28,8 +34,8 @@ fn no_file() {
 
 // One byte more than a tray file may have is read, and one more than a text with its final LF, so that longer ones are seen.
 fn print_files(tray: i32, text: i32) {
-    let mut tray_file = [0u8; 16385];
-    let mut text_file = [0u8; 2002];
+    let mut tray_file = [0u8; MAX_FILE + 1];
+    let mut text_file = [0u8; MAX_TEXT + 2];
     let tray_came = input::read_all(tray, &mut tray_file);
     let text_came = input::read_all(text, &mut text_file);
     if tray_came.failed || text_came.failed {

@@ -2,9 +2,10 @@
 ghost use Rattle.sheet_lines.specs.steps.Lines.{Printed};
 ghost use Rattle.sheet_rule.specs.Programs.{composeSheet, findSheet};
 ghost use Rattle.sheet_of_files.specs.steps.Lent.{ComposeRoom, FindRoom};
+use sheet_rule::MAX_FOUND;
 
-// Numbers of the occurrences that `find` lists, two each.
-const LISTED: usize = 16000;
+// How many numbers the occurrences that `find` lists have, two each.
+pub const LISTED: usize = 2 * MAX_FOUND;
 
 // The sheet that `compose` prints for a tray file. Letters, ends, work area and legend are lent for the work.
 pub fn compose_sheet(
