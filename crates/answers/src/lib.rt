@@ -1,4 +1,5 @@
 // What the calls answer, and what they leave in the lent buffers, for every input.
+use trays::MAX_SHORTEST;
 
 // The answer: number and detail of the refusal, or the counts of what was composed: slips, kept slips, kept letters, saved letters, legend letters, joins.
 pub struct Composed {
@@ -42,7 +43,7 @@ pub struct Shortest {
     pub detail: u32,
     pub legend: u32,
     pub count: u32,
-    pub order: [u16; 10],
+    pub order: [u16; MAX_SHORTEST],
 }
 
 // An occurrence: the place of its last letter, from 1, and its slip.

@@ -7,6 +7,7 @@ ghost use Rattle.compose_finish.specs.steps.Finishing.{Finished};
 ghost use Rattle.compose_core.specs.steps.Composing.{Staged};
 use answers::Composed;
 use layout::WORK_NEED;
+use trays::MAX_SLIPS;
 use trays::Settings;
 
 // An accepted tray, composed in a work area that is large enough: the automaton, the lists at its nodes, the walk, and what is behind it.
@@ -30,9 +31,9 @@ fn compose_accepted(
     let k = kept_lists::fill_lists(letters, ends, work, n, nodes);
     let mut left = [0u16; 200];
     let mut right = [0u16; 200];
-    let mut overs = [0u16; 200];
-    let mut first = [0u16; 200];
-    let mut last = [0u16; 200];
+    let mut overs = [0u16; MAX_SLIPS];
+    let mut first = [0u16; MAX_SLIPS];
+    let mut last = [0u16; MAX_SLIPS];
     let joins = walk::walk(
         letters,
         ends,

@@ -29,7 +29,7 @@ use Rattle.greedy.proofs.GreedyLegends.{composed}
 use Rattle.greedy.proofs.KeptSizes.{TraySlips, traySlips, kept-real, kept-few, kept-small, legend-small, pieces-count}
 use Rattle.legend_chains.specs.Pieces.{piecesIn}
 use Rattle.legend_chains.proofs.NeighbourPieces.{pieces-by}
-use Rattle.layout.specs.Layout.{KEPT, JOINS, PLACES}
+use Rattle.layout.specs.Layout.{KEPT, JOINS, PLACES, allPlaces}
 use Rattle.layout.specs.Tables.{cell}
 use Rattle.layout.specs.Staging.{keptIn, joinIn, joinsIn}
 use Rattle.answers.specs.declared.Composed.{Composed}
@@ -201,7 +201,7 @@ module _ (g : Settings) (s es w : List ℕ) (k j : ℕ) (left right overs : List
 
           all-places : (w′ : List ℕ) → PlacesWritten s es w w′ xs k → table w′ PLACES (placeCells * length es) ≡ flatPlaces C
           all-places w′ d =
-              sym (table-take w′ PLACES (placeCells * length es) (placeCells * maxSlips) (omega (arith, few-ends)))
+              sym (table-take w′ PLACES (placeCells * length es) allPlaces (omega (arith, few-ends)))
               ∙ rw (d .places-are, pieces-are, ← (slips-count s es)) (places-all g s es (walked .tray))
 
           last-good : (w′ l′ : List ℕ) (r : Composed) → j ≤ jr → length es ≤ pr → Written s es w w′ l l′ xs k → r ≡ outcomeBy (length es) k c j →

@@ -9,7 +9,6 @@ use lib.ListN.{length, getD, take, replicate, length-replicate, getD-replicate}
 use lib.Seq.{ext-getD, getD-take, length-take-le}
 use Rattle.words.proofs.Tests.{by-test}
 use Rattle.trays.specs.declared.Settings.{Settings}
-use Rattle.trays.specs.Limits.{maxSlips}
 use Rattle.trays.specs.Slips.{slipsOf, slip, numbers}
 use Rattle.trays.specs.Aside.{isAside, counted}
 use Rattle.trays.specs.Faults.{trayFault}
@@ -18,6 +17,7 @@ use Rattle.greedy.specs.Legends.{Piece, piecesFor, placeIn, lowest, tried, plac
 use Rattle.greedy.specs.Composing.{whole, legendOf}
 use Rattle.legend_places.specs.Places.{placedBy, asideBy}
 use Rattle.legend_places.proofs.PlacesAre.{isLaid, LaidOnce, numberOf, placed-here, placed-other, aside-at, placed-length, aside-length}
+use Rattle.layout.specs.Layout.{allPlaces}
 use Rattle.answers.specs.Composing.{placeCells, placeNumbers, flatPlaces}
 use Rattle.answers.proofs.FlatLists.{places-length, places-at}
 use Rattle.compose_finish.proofs.PiecesFit.{pieces-once, pieces-which}
@@ -70,14 +70,14 @@ module _ (g : Settings) (ss : List (List ℕ)) (xs : List ℕ) (room : placeCell
 pub places-all : (g : Settings) (s es : List ℕ) → trayFault s es .number ≡ 0 →
     let ss = slipsOf s es in
     take (placeCells * length ss)
-    (asideBy ss (legendOf (whole g ss)) (placedBy ss (replicate (placeCells * maxSlips) 0) 1 (piecesFor (counted (g .least)) ss (numbers ss))) (length ss))
+    (asideBy ss (legendOf (whole g ss)) (placedBy ss (replicate allPlaces 0) 1 (piecesFor (counted (g .least)) ss (numbers ss))) (length ss))
     ≡ flatPlaces (whole g ss)
 places-all g s es acc =
     let ss = slipsOf s es in
-    let zeros = replicate {A = ℕ} (placeCells * maxSlips) 0 in
-    let few : placeCells * length ss ≤ placeCells * maxSlips = omega (arith, accepted-tells s es acc .few, slips-count s es) in
-    let size : length zeros ≡ placeCells * maxSlips = length-replicate {A = ℕ} (placeCells * maxSlips) 0 in
+    let zeros = replicate {A = ℕ} allPlaces 0 in
+    let few : placeCells * length ss ≤ allPlaces = omega (arith, accepted-tells s es acc .few, slips-count s es) in
+    let size : length zeros ≡ allPlaces = length-replicate {A = ℕ} allPlaces 0 in
     let laid = placedBy ss zeros 1 (piecesFor (counted (g .least)) ss (numbers ss)) in
     let placed = placed-length ss (piecesFor (counted (g .least)) ss (numbers ss)) zeros 1 in
-    places-flat g ss zeros (omega (arith, few, size)) (λ i h. getD-replicate (placeCells * maxSlips) (placeCells * i + 1) 0 0 (omega (arith, few)))
+    places-flat g ss zeros (omega (arith, few, size)) (λ i h. getD-replicate allPlaces (placeCells * i + 1) 0 0 (omega (arith, few)))
     (pieces-once g s es acc) (pieces-which g s es acc) placed (omega (arith, few, size, placed, aside-length ss (legendOf (whole g ss)) laid (length ss)))

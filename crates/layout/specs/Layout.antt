@@ -1,7 +1,7 @@
 -- Where the tables stand in the work area, and how many cells each has.
 use Prim.Native.Nat.{ℕ, _*_}
 use Rattle.trays.specs.Limits.{maxSlips}
-use Rattle.answers.specs.Composing.{joinCells}
+use Rattle.answers.specs.Composing.{joinCells, placeCells}
 
 -- 200 cells: the members, ascending
 abbrev pub MEMBERS : ℕ
@@ -92,9 +92,13 @@ JOINS = 22311
 abbrev pub allJoins : ℕ
 allJoins = maxSlips * joinCells
 
--- 600 cells: for each slip its place, 1 if it is kept, and the letters compared
+-- `allPlaces` cells: for each slip its place, 1 if it is kept, and the letters compared
 abbrev pub PLACES : ℕ
 PLACES = 22911
+
+-- how many numbers the places have, one place for each slip
+abbrev pub allPlaces : ℕ
+allPlaces = maxSlips * placeCells
 
 -- 2001 cells: for each node the next node on its failure path that is a member, 0 for none
 abbrev pub OUT : ℕ

@@ -1,5 +1,6 @@
 // Where the tables of the automaton and of composing stand in the lent work area: specs/Layout.antt says what each holds.
 use answers::JOIN_CELLS;
+use answers::PLACE_CELLS;
 use trays::MAX_SLIPS;
 
 // 7: this many cells are asked for.
@@ -52,6 +53,8 @@ pub const JOINS: usize = 22311;
 pub const ALL_JOINS: usize = MAX_SLIPS * JOIN_CELLS;
 
 pub const PLACES: usize = 22911;
+
+pub const ALL_PLACES: usize = MAX_SLIPS * PLACE_CELLS;
 
 pub const OUT: usize = 23511;
 

@@ -8,6 +8,10 @@ ghost use Rattle.legend_chains.specs.Pieces.{PiecesBehind};
 ghost use Rattle.legend_chains.specs.Chains.{chainBy, chainOf, piecesBy, PiecesAsk};
 ghost use Rattle.legend_chains.specs.steps.Following.{ChainAsks, AddAsks};
 use tables::wide;
+use trays::MAX_SLIPS;
+
+// How many numbers the pieces have, at most one for each slip.
+pub const ALL_PIECES: usize = 2 * MAX_SLIPS;
 
 // Writes the `m`-th piece.
 pub fn put_piece(pieces: &mut [u16], m: usize, slip: usize, shared: usize)

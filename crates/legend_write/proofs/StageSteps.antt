@@ -15,11 +15,11 @@ use Rattle.legend_chains.specs.Chains.{piecesBy, PiecesAsk}
 use Rattle.legend_chains.specs.Pieces.{PiecesBehind}
 use Rattle.legend_places.specs.Places.{placedBy, asideBy, PlacesAsk, AsideAsk}
 use Rattle.legend_places.proofs.PlacesAre.{placed-length, aside-length}
-use Rattle.layout.specs.Layout.{KEPT, PLACES}
+use Rattle.layout.specs.Layout.{KEPT, PLACES, allPlaces}
 use Rattle.answers.specs.Composing.{placeCells}
 use Rattle.legend_write.specs.steps.Writing.{piecesHere, StageAsks, PiecesStaged, placesHere, PlacingAsks, PlacesWritten}
 
--- the part `&work[KEPT..KEPT + 200]` is the table
+-- the part `&work[KEPT..KEPT + MAX_SLIPS]` is the table
 kept-part : (w : List ℕ) → take (KEPT + maxSlips - KEPT) (drop KEPT w) ≡ table w KEPT maxSlips
 kept-part w = part-table w KEPT maxSlips (KEPT + maxSlips) refl
 
@@ -36,47 +36,44 @@ module _ (w : List ℕ) (k j : ℕ) (left right overs : List ℕ) where
       let e : r ≡ length (piecesHere w k j left right overs) = omega (arith, g .count-is) in
       record { size = g .same ∙ length-replicate {A = ℕ} (2 * maxSlips) 0; are = rw (← e) (g .pieces-are) }
 
--- the part `&mut work[PLACES..PLACES + CELLS]`, lent and come back
-abbrev size : ℕ
-size = placeCells * maxSlips
-
+-- the part `&mut work[PLACES..PLACES + ALL_PLACES]`, lent and come back
 abbrev mine : List ℕ → List ℕ
-mine w = take (PLACES + size - PLACES) (drop PLACES w)
+mine w = take (PLACES + allPlaces - PLACES) (drop PLACES w)
 
 abbrev back : List ℕ → List ℕ → List ℕ
-back w ys = putMid PLACES (PLACES + size - PLACES) w ys
+back w ys = putMid PLACES (PLACES + allPlaces - PLACES) w ys
 
-mine-is : (w : List ℕ) → mine w ≡ table w PLACES size
-mine-is w = part-table w PLACES size (PLACES + size) refl
+mine-is : (w : List ℕ) → mine w ≡ table w PLACES allPlaces
+mine-is w = part-table w PLACES allPlaces (PLACES + allPlaces) refl
 
-back-is : (w ys : List ℕ) → workNeed ≤ length w → length ys ≡ size → Filled PLACES size ys w (back w ys)
-back-is w ys room l = part-filled w PLACES size (PLACES + size) ys refl (omega arith) l
+back-is : (w ys : List ℕ) → workNeed ≤ length w → length ys ≡ allPlaces → Filled PLACES allPlaces ys w (back w ys)
+back-is w ys room l = part-filled w PLACES allPlaces (PLACES + allPlaces) ys refl (omega arith) l
 
-module _ (s es w t xs : List ℕ) (k : ℕ) (a : PlacingAsks s es w t xs k) (w₁ : List ℕ) (f : Filled PLACES size (replicate size 0) w w₁) where
+module _ (s es w t xs : List ℕ) (k : ℕ) (a : PlacingAsks s es w t xs k) (w₁ : List ℕ) (f : Filled PLACES allPlaces (replicate allPlaces 0) w w₁) where
   abbrev ss : List (List ℕ)
   ss = slipsOf s es
 
-  few : placeCells * length es ≤ size
+  few : placeCells * length es ≤ allPlaces
   few = omega (arith, accepted-tells s es (a .pieces .tray) .few)
 
   long : length w₁ ≡ length w
   long = f .only .same
 
-  blank : mine w₁ ≡ replicate size 0
+  blank : mine w₁ ≡ replicate allPlaces 0
   blank = mine-is w₁ ∙ f .cells
 
-  blank-length : length (mine w₁) ≡ size
-  blank-length = rw blank (length-replicate {A = ℕ} size 0)
+  blank-length : length (mine w₁) ≡ allPlaces
+  blank-length = rw blank (length-replicate {A = ℕ} allPlaces 0)
 
   pub places-asks : PlacesAsk s es xs k (mine w₁)
   places-asks =
       record { tray = a .pieces .tray; pairs = a .pieces .pairs; places = omega (arith, few, blank-length); fits = a .pieces .places }
 
   module _ (p₁ : List ℕ) (e₁ : p₁ ≡ placedBy ss (mine w₁) 1 (piecesIn xs 0 k)) where
-    first-length : length p₁ ≡ size
+    first-length : length p₁ ≡ allPlaces
     first-length = rw e₁ (placed-length ss (piecesIn xs 0 k) (mine w₁) 1 ∙ blank-length)
 
-    first : Filled PLACES size p₁ w₁ (back w₁ p₁)
+    first : Filled PLACES allPlaces p₁ w₁ (back w₁ p₁)
     first = back-is w₁ p₁ (omega (arith, a .room, long)) first-length
 
     again : mine (back w₁ p₁) ≡ p₁
@@ -94,10 +91,10 @@ module _ (s es w t xs : List ℕ) (k : ℕ) (a : PlacingAsks s es w t xs k) (w�
       second-is : p₂ ≡ placesHere s es xs k
       second-is = e₂ ∙ rw (again, e₁, blank, a .legend-is)
 
-      second-length : length p₂ ≡ size
+      second-length : length p₂ ≡ allPlaces
       second-length = rw (e₂, again) (aside-length ss t p₁ (length es) ∙ first-length)
 
-      second : Filled PLACES size p₂ (back w₁ p₁) (back (back w₁ p₁) p₂)
+      second : Filled PLACES allPlaces p₂ (back w₁ p₁) (back (back w₁ p₁) p₂)
       second = back-is (back w₁ p₁) p₂ (omega (arith, a .room, long, first .only .same)) second-length
 
       pub places-same : length (back (back w₁ p₁) p₂) ≡ length w

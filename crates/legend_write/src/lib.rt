@@ -1,11 +1,10 @@
 // What composing writes: the legend into its buffer, the places into the work area.
 ghost use Rattle.legend_write.specs.steps.Writing.{StageAsks, PiecesStaged, PlacingAsks, PlacesWritten, WritingAsks, Written};
-use answers::PLACE_CELLS;
+use layout::ALL_PLACES;
 use layout::KEPT;
 use layout::PLACES;
-
-// The places of 200 slips have so many cells.
-const CELLS: usize = 200 * PLACE_CELLS;
+use legend_chains::ALL_PIECES;
+use trays::MAX_SLIPS;
 
 // The pieces of the legend, slip and overlap of each.
 pub fn pieces_of(
@@ -15,13 +14,13 @@ pub fn pieces_of(
     overs: &[u16],
     k: usize,
     joins: usize,
-) -> [u16; 400]
+) -> [u16; ALL_PIECES]
     requires { ⌜ StageAsks (now work) k joins (now left) (now right) (now overs) ⌝ }
     ensures { λ r. ⌜ PiecesStaged (now (work .entry)) k joins (now (left .entry)) (now (right .entry)) (now (overs .entry)) r ⌝ }
 {
-    let mut pieces = [0u16; 400];
+    let mut pieces = [0u16; ALL_PIECES];
     legend_chains::all_pieces(
-        &work[KEPT..KEPT + 200],
+        &work[KEPT..KEPT + MAX_SLIPS],
         k,
         left,
         right,
@@ -44,9 +43,20 @@ fn write_places(
     requires { ⌜ PlacingAsks (now letters) (now ends) (now work) (now legend) (now pieces) k ⌝ }
     ensures { λ _. ⌜ PlacesWritten (now (letters .entry)) (now (ends .entry)) (now (work .entry)) (now (work .exit)) (now (pieces .entry)) k ⌝ }
 {
-    tables::clear(work, PLACES, CELLS);
-    legend_places::kept_places(letters, ends, pieces, k, &mut work[PLACES..PLACES + CELLS]);
-    legend_places::aside_places(letters, ends, legend, &mut work[PLACES..PLACES + CELLS]);
+    tables::clear(work, PLACES, ALL_PLACES);
+    legend_places::kept_places(
+        letters,
+        ends,
+        pieces,
+        k,
+        &mut work[PLACES..PLACES + ALL_PLACES],
+    );
+    legend_places::aside_places(
+        letters,
+        ends,
+        legend,
+        &mut work[PLACES..PLACES + ALL_PLACES],
+    );
 }
 
 // The legend of the first `k` pieces, then the places.

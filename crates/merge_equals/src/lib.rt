@@ -6,12 +6,13 @@ ghost use Rattle.words.specs.Words as W;
 ghost use Rattle.trays.specs.Slips.{slipsOf};
 ghost use Rattle.merge_equals.specs.Equals.{FirstSlips, SecondSlip, isNew, BothTrays, NewSlips};
 use slips::slip_part;
+use trays::MAX_SLIPS;
 
 // The slips of a second tray that equal none before them: how many, the letters that they have together, and their numbers, 0 past the count.
 pub struct Fresh {
     pub count: usize,
     pub letters: usize,
-    pub slips: [u16; 200],
+    pub slips: [u16; MAX_SLIPS],
 }
 
 // Whether two strings are the same.
@@ -60,7 +61,7 @@ pub fn new_slips(letters1: &[u8], ends1: &[u16], letters2: &[u8], ends2: &[u16])
     requires { ⌜ BothTrays (now letters1) (now ends1) (now letters2) (now ends2) ⌝ }
     ensures { λ r. ⌜ NewSlips (now (letters1 .entry)) (now (ends1 .entry)) (now (letters2 .entry)) (now (ends2 .entry)) r ⌝ }
 {
-    let mut slips = [0u16; 200];
+    let mut slips = [0u16; MAX_SLIPS];
     let mut count: usize = 0;
     let mut total: usize = 0;
     let mut i: usize = 0;

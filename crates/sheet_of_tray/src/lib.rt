@@ -6,10 +6,11 @@ use answers::JOIN_CELLS;
 use answers::PLACE_CELLS;
 use layout::JOINS;
 use layout::PLACES;
+use trays::MAX_SLIPS;
 use trays::Settings;
 
-// So many joins and places are taken: no accepted tray has more.
-const ROWS: usize = 200;
+// This many joins and places are taken: no accepted tray has more.
+const ROWS: usize = MAX_SLIPS;
 
 // The sheet of a tray, composed with a least overlap of 1, or the line of its refusal. Answers how many bytes it has.
 pub fn tray_sheet(

@@ -170,11 +170,11 @@ fn fill_groups(table: &mut [u16], k: usize)
 }
 
 // Reads the order forward, from the start and the group of no place.
-fn read_order(table: &[u16], k: usize) -> [u16; 10]
+fn read_order(table: &[u16], k: usize) -> [u16; MAX_SHORTEST]
     requires { ⌜ Begun (now table) k 0 0 ⌝ }
     ensures { λ r. ⌜ r ≡ over (choose (pairsOf (now (table .entry))) k maxShortest (upFrom 0 k)) (replicate maxShortest 0) ⌝ }
 {
-    let mut order = [0u16; 10];
+    let mut order = [0u16; MAX_SHORTEST];
     let mut g: usize = 0;
     let mut a: usize = START;
     let mut i: usize = 0;
@@ -189,7 +189,7 @@ fn read_order(table: &[u16], k: usize) -> [u16; 10]
 }
 
 // The order of the first `k` places that saves most; of several the one that is smallest as a list. The table of pairs is given, that of groups is filled.
-pub fn best_order(table: &mut [u16], k: usize) -> [u16; 10]
+pub fn best_order(table: &mut [u16], k: usize) -> [u16; MAX_SHORTEST]
     requires { ⌜ Paired (now table) k ⌝ }
     ensures { λ r. ⌜ Ordered (now (table .entry)) k (now (table .exit)) r ⌝ }
 {

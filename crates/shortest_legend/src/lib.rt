@@ -17,6 +17,9 @@ use trays::Settings;
 // Eleven rows of ten pairs, and ten cells for each of 1,024 groups.
 const CELLS: usize = 11 * MAX_SHORTEST + 1024 * MAX_SHORTEST;
 
+// The pieces of the most slips that are ordered, two numbers each.
+const PIECES: usize = 2 * MAX_SHORTEST;
+
 // The answer to a tray that is turned back.
 fn refused(number: u8, detail: u32) -> Shortest
     ensures { λ r. ⌜ r ≡ shortestRefused (refusal number detail) ⌝ }
@@ -26,12 +29,12 @@ fn refused(number: u8, detail: u32) -> Shortest
         detail,
         legend: 0,
         count: 0,
-        order: [0u16; 10],
+        order: [0u16; MAX_SHORTEST],
     }
 }
 
 // The answer to a tray whose `k` kept slips have this order and `need` letters in their legend.
-fn outcome(need: usize, k: usize, order: [u16; 10]) -> Shortest
+fn outcome(need: usize, k: usize, order: [u16; MAX_SHORTEST]) -> Shortest
     requires { ⌜ S.OutcomeAsks need k ⌝ }
     ensures { λ r. ⌜ r ≡ S.outcomeBy need k order ⌝ }
 {
@@ -45,21 +48,21 @@ fn outcome(need: usize, k: usize, order: [u16; 10]) -> Shortest
 }
 
 // The first `k` cells of KEPT.
-fn kept_numbers(work: &[u16], k: usize) -> [u16; 10]
+fn kept_numbers(work: &[u16], k: usize) -> [u16; MAX_SHORTEST]
     requires { ⌜ S.KeptAsks (now work) k ⌝ }
     ensures { λ r. ⌜ S.KeptCopied (now (work .entry)) k r ⌝ }
 {
-    let mut kept = [0u16; 10];
+    let mut kept = [0u16; MAX_SHORTEST];
     tables::copy_cells(work, KEPT, k, &mut kept);
     kept
 }
 
 // The slips at these places among the kept.
-fn name_places(kept: &[u16], places: &[u16], k: usize) -> [u16; 10]
+fn name_places(kept: &[u16], places: &[u16], k: usize) -> [u16; MAX_SHORTEST]
     requires { ⌜ S.NamingAsks (now kept) (now places) k ⌝ }
     ensures { λ r. ⌜ S.Named (now (kept .entry)) (now (places .entry)) k r ⌝ }
 {
-    let mut order = [0u16; 10];
+    let mut order = [0u16; MAX_SHORTEST];
     let mut i: usize = 0;
     while i < k {
         let place = wide(places[i]);
@@ -77,7 +80,7 @@ fn seek_order(
     k: usize,
     least: usize,
     table: &mut [u16],
-) -> [u16; 10]
+) -> [u16; MAX_SHORTEST]
     requires { ⌜ S.SeekAsks (now letters) (now ends) (now kept) k (now table) ⌝ }
     ensures { λ r. ⌜ S.Sought least (now (letters .entry)) (now (ends .entry)) (now (kept .entry)) k (now (table .entry)) (now (table .exit)) r ⌝ }
 {
@@ -92,13 +95,13 @@ fn write_order(
     ends: &[u16],
     settings: Settings,
     legend: &mut [u8],
-    order: [u16; 10],
+    order: [u16; MAX_SHORTEST],
     k: usize,
 ) -> Shortest
     requires { ⌜ S.OrderSought settings (now letters) (now ends) order k ⌝ }
     ensures { λ r. ⌜ S.Written (whole settings (slipsOf (now (letters .entry)) (now (ends .entry)))) (now (legend .entry)) (now (legend .exit)) r ⌝ }
 {
-    let mut pieces = [0u16; 20];
+    let mut pieces = [0u16; PIECES];
     let least = settings.least as usize;
     let need = legend_order::order_pieces(letters, ends, &order, k, least, &mut pieces);
     if legend.len() < need {

@@ -19,9 +19,8 @@ use Rattle.legend_chains.specs.Pieces.{piecesIn}
 use Rattle.legend_chains.specs.Chains.{piecesBy, PiecesAsk}
 use Rattle.legend_lay.specs.Laying.{PieceFits}
 use Rattle.legend_places.specs.Places.{Placeable, placedBy, asideBy}
-use Rattle.layout.specs.Layout.{KEPT, PLACES}
+use Rattle.layout.specs.Layout.{KEPT, PLACES, allPlaces}
 use Rattle.layout.specs.Numbered.{SameBelow}
-use Rattle.answers.specs.Composing.{placeCells}
 
 -- the pieces by the lists of neighbours, and what staging them asks and gives
 abbrev pub piecesHere : List ℕ → ℕ → ℕ → List ℕ → List ℕ → List ℕ → List Piece
@@ -43,7 +42,7 @@ legendHere s es xs k = spelled (slipsOf s es) (piecesIn xs 0 k)
 abbrev pub placesHere : List ℕ → List ℕ → List ℕ → ℕ → List ℕ
 placesHere s es xs k =
     let ss = slipsOf s es in
-    asideBy ss (legendHere s es xs k) (placedBy ss (replicate (placeCells * maxSlips) 0) 1 (piecesIn xs 0 k)) (length es)
+    asideBy ss (legendHere s es xs k) (placedBy ss (replicate allPlaces 0) 1 (piecesIn xs 0 k)) (length es)
 
 pub record Layable (s es xs : List ℕ) (k : ℕ) : Type 0 where
   pub tray : trayFault s es .number ≡ 0
@@ -65,7 +64,7 @@ pub record PlacingAsks (s es w t xs : List ℕ) (k : ℕ) : Type 0 where
 
 pub record PlacesWritten (s es w w′ xs : List ℕ) (k : ℕ) : Type 0 where
   pub below : SameBelow PLACES w w′
-  pub places-are : table w′ PLACES (placeCells * maxSlips) ≡ placesHere s es xs k
+  pub places-are : table w′ PLACES allPlaces ≡ placesHere s es xs k
 
 pub record Written (s es w w′ l l′ xs : List ℕ) (k : ℕ) : Type 0 where
   pub legend-is : l′ ≡ over (legendHere s es xs k) l
