@@ -1,41 +1,50 @@
--- Where the tables stand in the work area, and how many cells each has.
-use Prim.Native.Nat.{ℕ, _*_}
-use Rattle.trays.specs.Limits.{maxSlips}
+-- Where the tables stand in the work area, and how many cells each has. They stand one after another: a base is the base before it and the cells of the
+-- table there.
+use Prim.Native.Nat.{ℕ, _+_, _*_}
+use Rattle.trays.specs.Limits.{maxSlips, maxLetters}
 use Rattle.answers.specs.Composing.{joinCells, placeCells}
 
--- 200 cells: the members, ascending
+-- how many nodes there are at most: the root, and one for each letter
+abbrev pub maxNodes : ℕ
+maxNodes = maxLetters + 1
+
+-- `maxSlips` cells: the members, ascending
 abbrev pub MEMBERS : ℕ
 MEMBERS = 0
 
--- 200 cells: the members by letters, a beginning before its longer slips, equals by number
+-- `maxSlips` cells: the members by letters, a beginning before its longer slips, equals by number
 abbrev pub ORDER : ℕ
-ORDER = 200
+ORDER = MEMBERS + maxSlips
 
--- 200 cells: for each of these the length of its common beginning with the one before
+-- `maxSlips` cells: for each of these the length of its common beginning with the one before
 abbrev pub COMMON : ℕ
-COMMON = 400
+COMMON = ORDER + maxSlips
 
--- 42 cells: for each length its first node, and the number behind the last; enough where a slip has at most 40 letters
+-- `levelCells` cells: for each length its first node, and the number after the last
 abbrev pub LEVEL : ℕ
-LEVEL = 600
+LEVEL = COMMON + maxSlips
 
--- 2000 cells: for each letter of a member the node of the beginning that ends there
+-- enough where a slip has at most 40 letters
+abbrev pub levelCells : ℕ
+levelCells = 42
+
+-- `maxLetters` cells: for each letter of a member the node of the beginning that ends there
 abbrev pub AT : ℕ
-AT = 642
+AT = LEVEL + levelCells
 
--- 2001 cells: for each node the position of its last letter in one member that has it
+-- `maxNodes` cells: for each node the position of its last letter in one member that has it
 abbrev pub OWN : ℕ
-OWN = 2642
+OWN = AT + maxLetters
 
--- 2002 cells: for each node its first child; the children of v are KID v up to KID (v + 1)
+-- `maxNodes + 1` cells: for each node its first child; the children of v are KID v up to KID (v + 1)
 abbrev pub KID : ℕ
-KID = 4643
+KID = OWN + maxNodes
 
--- 1260 cells: for each of the first nodes and each letter the child, 0 for none
+-- `nearNodes * nearLetters` cells: for each of the first nodes and each letter the child, 0 for none
 abbrev pub NEAR : ℕ
-NEAR = 6645
+NEAR = KID + (maxNodes + 1)
 
--- so many nodes and letters NEAR has, and its first and last letter: the root and the nodes of one letter are among the first
+-- how many nodes and letters NEAR has, and its first and last letter: the root and the nodes of one letter are among the first
 abbrev pub nearNodes : ℕ
 nearNodes = 28
 
@@ -48,70 +57,70 @@ firstSign = 46
 abbrev pub lastSign : ℕ
 lastSign = 90
 
--- 2001 cells: for each node its failure link
+-- `maxNodes` cells: for each node its failure link
 abbrev pub FAIL : ℕ
-FAIL = 7905
+FAIL = NEAR + nearNodes * nearLetters
 
--- 2001 cells: for each node the lowest member whose letters it is, 0 for none
+-- `maxNodes` cells: for each node the lowest member whose letters it is, 0 for none
 abbrev pub HEAD : ℕ
-HEAD = 9906
+HEAD = FAIL + maxNodes
 
--- 201 cells: for each member the next higher one of the same letters, 0 for none
+-- `maxSlips + 1` cells: for each member the next higher one of the same letters, 0 for none
 abbrev pub TWIN : ℕ
-TWIN = 11907
+TWIN = HEAD + maxNodes
 
--- 2001 cells: 1 for a node that is some node's failure link
+-- `maxNodes` cells: 1 for a node that is some node's failure link
 abbrev pub MARK : ℕ
-MARK = 12108
+MARK = TWIN + (maxSlips + 1)
 
--- 200 cells: the kept members, ascending
+-- `maxSlips` cells: the kept members, ascending
 abbrev pub KEPT : ℕ
-KEPT = 14109
+KEPT = MARK + maxNodes
 
--- 2001 cells: for each node the lowest kept member that begins with it, 0 for none
+-- `maxNodes` cells: for each node the lowest kept member that begins with it, 0 for none
 abbrev pub STARTS : ℕ
-STARTS = 14309
+STARTS = KEPT + maxSlips
 
--- 2000 cells: the next such member, at the position of the node's last letter in the one before
+-- `maxLetters` cells: the next such member, at the position of the node's last letter in the one before
 abbrev pub STARTS-NEXT : ℕ
-STARTS-NEXT = 16310
+STARTS-NEXT = STARTS + maxNodes
 
--- 2001 cells: for each node the lowest kept member that properly ends with it, 0 for none
+-- `maxNodes` cells: for each node the lowest kept member that properly ends with it, 0 for none
 abbrev pub ENDS : ℕ
-ENDS = 18310
+ENDS = STARTS-NEXT + maxLetters
 
--- 2000 cells: the next such member, at the position of the node's first letter in the one before
+-- `maxLetters` cells: the next such member, at the position of the node's first letter in the one before
 abbrev pub ENDS-NEXT : ℕ
-ENDS-NEXT = 20311
+ENDS-NEXT = ENDS + maxNodes
 
 -- `allJoins` cells: the joins in the order made: left slip, right slip, overlap
 abbrev pub JOINS : ℕ
-JOINS = 22311
+JOINS = ENDS-NEXT + maxLetters
 
--- how many numbers the joins have, at most one for each slip
+-- how many numbers the joins have, at most one join for each slip
 abbrev pub allJoins : ℕ
 allJoins = maxSlips * joinCells
 
 -- `allPlaces` cells: for each slip its place, 1 if it is kept, and the letters compared
 abbrev pub PLACES : ℕ
-PLACES = 22911
+PLACES = JOINS + allJoins
 
 -- how many numbers the places have, one place for each slip
 abbrev pub allPlaces : ℕ
 allPlaces = maxSlips * placeCells
 
--- 2001 cells: for each node the next node on its failure path that is a member, 0 for none
+-- `maxNodes` cells: for each node the next node on its failure path that is a member, 0 for none
 abbrev pub OUT : ℕ
-OUT = 23511
+OUT = PLACES + allPlaces
 
--- 2001 cells: for each node how many members end it
+-- `maxNodes` cells: for each node how many members end it
 abbrev pub TALLY : ℕ
-TALLY = 25512
+TALLY = OUT + maxNodes
 
--- behind the table TALLY
+-- after the table TALLY: where a scan is kept
 abbrev pub SCAN : ℕ
-SCAN = 27513
+SCAN = TALLY + maxNodes
 
--- 10350 cells: the pairs and groups of the search for the shortest legend. It fills KEPT and no table behind it, so these lie over STARTS and what follows.
+-- 10350 cells: the pairs and groups of the search for the shortest legend. It fills KEPT and no table after it, so these lie over STARTS and what follows.
 abbrev pub SEEK : ℕ
-SEEK = 14309
+SEEK = STARTS

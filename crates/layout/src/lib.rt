@@ -1,26 +1,34 @@
-// Where the tables of the automaton and of composing stand in the lent work area: specs/Layout.antt says what each holds.
+// Where the tables of the automaton and of composing stand in the lent work area, one after another: a base is the base before it and the cells of the
+// table there. specs/Layout.antt says what each holds.
 use answers::JOIN_CELLS;
 use answers::PLACE_CELLS;
+use trays::MAX_LETTERS;
 use trays::MAX_SLIPS;
 
 // 7: this many cells are asked for.
 pub const WORK_NEED: usize = 32000;
 
+// How many nodes there are at most: the root, and one for each letter.
+const MAX_NODES: usize = MAX_LETTERS + 1;
+
 pub const MEMBERS: usize = 0;
 
-pub const ORDER: usize = 200;
+pub const ORDER: usize = MEMBERS + MAX_SLIPS;
 
-pub const COMMON: usize = 400;
+pub const COMMON: usize = ORDER + MAX_SLIPS;
 
-pub const LEVEL: usize = 600;
+pub const LEVEL: usize = COMMON + MAX_SLIPS;
 
-pub const AT: usize = 642;
+// Enough where a slip has at most 40 letters.
+const LEVEL_CELLS: usize = 42;
 
-pub const OWN: usize = 2642;
+pub const AT: usize = LEVEL + LEVEL_CELLS;
 
-pub const KID: usize = 4643;
+pub const OWN: usize = AT + MAX_LETTERS;
 
-pub const NEAR: usize = 6645;
+pub const KID: usize = OWN + MAX_NODES;
+
+pub const NEAR: usize = KID + MAX_NODES + 1;
 
 pub const NEAR_NODES: usize = 28;
 
@@ -30,38 +38,40 @@ pub const FIRST_SIGN: u8 = 46;
 
 pub const LAST_SIGN: u8 = 90;
 
-pub const FAIL: usize = 7905;
+pub const FAIL: usize = NEAR + NEAR_NODES * NEAR_LETTERS;
 
-pub const HEAD: usize = 9906;
+pub const HEAD: usize = FAIL + MAX_NODES;
 
-pub const TWIN: usize = 11907;
+pub const TWIN: usize = HEAD + MAX_NODES;
 
-pub const MARK: usize = 12108;
+pub const MARK: usize = TWIN + MAX_SLIPS + 1;
 
-pub const KEPT: usize = 14109;
+pub const KEPT: usize = MARK + MAX_NODES;
 
-pub const STARTS: usize = 14309;
+pub const STARTS: usize = KEPT + MAX_SLIPS;
 
-pub const STARTS_NEXT: usize = 16310;
+pub const STARTS_NEXT: usize = STARTS + MAX_NODES;
 
-pub const ENDS: usize = 18310;
+pub const ENDS: usize = STARTS_NEXT + MAX_LETTERS;
 
-pub const ENDS_NEXT: usize = 20311;
+pub const ENDS_NEXT: usize = ENDS + MAX_NODES;
 
-pub const JOINS: usize = 22311;
+pub const JOINS: usize = ENDS_NEXT + MAX_LETTERS;
 
+// How many numbers the joins have, at most one join for each slip.
 pub const ALL_JOINS: usize = MAX_SLIPS * JOIN_CELLS;
 
-pub const PLACES: usize = 22911;
+pub const PLACES: usize = JOINS + ALL_JOINS;
 
+// How many numbers the places have, one place for each slip.
 pub const ALL_PLACES: usize = MAX_SLIPS * PLACE_CELLS;
 
-pub const OUT: usize = 23511;
+pub const OUT: usize = PLACES + ALL_PLACES;
 
-pub const TALLY: usize = 25512;
+pub const TALLY: usize = OUT + MAX_NODES;
 
-// Where a scan is kept in the work area, behind the tables.
-pub const SCAN: usize = 27513;
+// Where a scan is kept in the work area, after the tables.
+pub const SCAN: usize = TALLY + MAX_NODES;
 
-// Where the search for the shortest legend keeps its tables: behind KEPT, over tables that it does not fill.
-pub const SEEK: usize = 14309;
+// Where the search for the shortest legend keeps its tables: after KEPT, over tables that it does not fill.
+pub const SEEK: usize = STARTS;

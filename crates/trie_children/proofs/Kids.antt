@@ -17,7 +17,7 @@ use Rattle.words.proofs.Tests.{both, one-of}
 use Rattle.tables.specs.Tables.{Cells, Only, Put, Room}
 use Rattle.tables.proofs.Tables.{only-refl, cells-put, put-here, put-other}
 use Rattle.matching.specs.Nodes.{nodesOf, string, Num}
-use Rattle.layout.specs.Layout.{KID}
+use Rattle.layout.specs.Layout.{maxNodes, KID}
 use Rattle.layout.specs.Tables.{cell, KidIs}
 use Rattle.layout.specs.Numbered.{patternsIn, Numbered, SameBelow}
 use Rattle.layout.proofs.Frames.{only-kept, patterns-kept, numbered-kept}
@@ -58,7 +58,7 @@ module _ {s es : List ℕ} {n nodes : ℕ} {w : List ℕ} (N : Numbered s es n n
 
 pub record FillingKids (s es : List ℕ) (n nodes : ℕ) (w₀ w : List ℕ) (v u : ℕ) : Type 0 where
   pub numbered : Numbered s es n nodes w₀
-  pub only : Only (Cells KID 2002) w₀ w
+  pub only : Only (Cells KID (maxNodes + 1)) w₀ w
   pub upto : v ≤ nodes + 2
   pub some : 1 ≤ u
   pub inside : u ≤ nodes + 1

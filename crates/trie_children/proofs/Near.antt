@@ -85,7 +85,7 @@ module _ {s es : List ℕ} {n nodes : ℕ} {w₀ w : List ℕ} {v c : ℕ} (F : 
 -- all rows
 pub record FillingNear (s es : List ℕ) (n nodes : ℕ) (w₀ w : List ℕ) (v : ℕ) : Type 0 where
   pub branched : Branched s es n nodes w₀
-  pub only : Only (Cells NEAR 1260) w₀ w
+  pub only : Only (Cells NEAR (nearNodes * nearLetters)) w₀ w
   pub done : (x c : ℕ) → x < v → x ≤ nodes → firstSign ≤ c → c ≤ lastSign → Child (patternsIn s es n w₀) x c (cell w NEAR (nearLetters * x + (c - firstSign)))
 
 pub near-start : {s es : List ℕ} {n nodes : ℕ} {w : List ℕ} → Branched s es n nodes w → FillingNear s es n nodes w w 0

@@ -14,7 +14,7 @@ use Prim.Native.Nat.{ℕ, _+_, _-_, _*_, _≤_, _<_}
 use lib.Dec.{ltb}
 use lib.ListN.{length, getD}
 use Rattle.tables.specs.Tables.{Cells, Only}
-use Rattle.layout.specs.Layout.{AT, OWN, LEVEL, KID, NEAR, nearNodes, nearLetters, firstSign, lastSign}
+use Rattle.layout.specs.Layout.{maxNodes, AT, OWN, LEVEL, KID, NEAR, nearNodes, nearLetters, firstSign, lastSign}
 use Rattle.layout.specs.Tables.{cell, Child, NearIs}
 use Rattle.layout.specs.Numbered.{patternsIn, Branched}
 
@@ -50,7 +50,7 @@ pub record CanLook (s es : List ℕ) (n nodes : ℕ) (w : List ℕ) (v : ℕ) : 
 
 pub record KidsFilled (s es : List ℕ) (n nodes : ℕ) (w w′ : List ℕ) : Type 0 where
   pub branched : Branched s es n nodes w′
-  pub only : Only (Cells KID 2002) w w′
+  pub only : Only (Cells KID (maxNodes + 1)) w w′
 
 pub record RowFilled (s es : List ℕ) (n nodes v : ℕ) (w w′ : List ℕ) : Type 0 where
   pub row : (c : ℕ) → firstSign ≤ c → c ≤ lastSign → Child (patternsIn s es n w) v c (cell w′ NEAR (nearLetters * v + (c - firstSign)))
@@ -58,4 +58,4 @@ pub record RowFilled (s es : List ℕ) (n nodes v : ℕ) (w w′ : List ℕ) : T
 
 pub record NearFilled (s es : List ℕ) (n nodes : ℕ) (w w′ : List ℕ) : Type 0 where
   pub known : Near s es n nodes w′
-  pub only : Only (Cells NEAR 1260) w w′
+  pub only : Only (Cells NEAR (nearNodes * nearLetters)) w w′

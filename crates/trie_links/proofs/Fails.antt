@@ -15,7 +15,7 @@ use Rattle.matching.specs.Nodes.{nodesOf, string, IsNode, Num}
 use Rattle.matching.proofs.States.{fail, step-state}
 use Rattle.matching.proofs.NodeLaws.{nodes-numbered, is-root, node-fails}
 use Rattle.matching.proofs.Paths.{fail-root, fail-from}
-use Rattle.layout.specs.Layout.{NEAR, FAIL}
+use Rattle.layout.specs.Layout.{maxNodes, NEAR, FAIL}
 use Rattle.layout.specs.Tables.{cell, FailUpTo}
 use Rattle.layout.specs.Numbered.{patternsIn, SameBelow}
 use Rattle.layout.proofs.Frames.{only-kept, kept-lower, patterns-kept, branched-kept, near-kept}
@@ -71,7 +71,7 @@ module _ {s es : List ℕ} {n nodes : ℕ} {w : List ℕ} {v p : ℕ} (C : CanLi
 
 pub record FillingFails (s es : List ℕ) (n nodes : ℕ) (w₀ w : List ℕ) (v : ℕ) : Type 0 where
   pub known : Near s es n nodes w₀
-  pub only : Only (Cells FAIL 2001) w₀ w
+  pub only : Only (Cells FAIL maxNodes) w₀ w
   pub some : 1 ≤ v
   pub upto : v ≤ nodes + 1
   pub links : (k : ℕ) → k < v → FailUpTo (patternsIn s es n w₀) k (cell w FAIL)

@@ -11,7 +11,7 @@ use Rattle.words.specs.Lists.{tailOf}
 use Rattle.tables.specs.Tables.{Cells, Only}
 use Rattle.matching.specs.Moves.{longestEnding, step}
 use Rattle.matching.specs.Nodes.{string, IsNode}
-use Rattle.layout.specs.Layout.{KID, NEAR, FAIL}
+use Rattle.layout.specs.Layout.{maxNodes, KID, NEAR, FAIL}
 use Rattle.layout.specs.Tables.{cell, NearIs, FailUpTo}
 use Rattle.layout.specs.Numbered.{patternsIn, Branched, Automaton}
 
@@ -37,7 +37,7 @@ pub record CanLink (s es : List ℕ) (n nodes : ℕ) (w : List ℕ) (v : ℕ) : 
 
 pub record FailsFilled (s es : List ℕ) (n nodes : ℕ) (w w′ : List ℕ) : Type 0 where
   pub automaton : Automaton s es n nodes w′
-  pub only : Only (Cells FAIL 2001) w w′
+  pub only : Only (Cells FAIL maxNodes) w w′
 
 pub record LinksFilled (s es : List ℕ) (n nodes : ℕ) (w w′ : List ℕ) : Type 0 where
   pub automaton : Automaton s es n nodes w′
