@@ -34,7 +34,7 @@ pub const JOIN_CELLS: usize = 3;
 // How many numbers a place has where it is told in numbers.
 pub const PLACE_CELLS: usize = 3;
 
-// 12: a text has at most so many letters.
+// 12: a text has at most this many letters.
 pub const MAX_TEXT: usize = 2000;
 
 // The answer of the shortest legend: number and detail of the refusal, or the legend's letters, how many slips are kept, and their order, 0 past the count.

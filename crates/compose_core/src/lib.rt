@@ -10,7 +10,7 @@ use layout::WORK_NEED;
 use trays::MAX_SLIPS;
 use trays::Settings;
 
-// An accepted tray, composed in a work area that is large enough: the automaton, the lists at its nodes, the walk, and what is behind it.
+// An accepted tray, composed in a work area that is large enough: the automaton, the lists at its nodes, the walk, and what comes after it.
 fn compose_accepted(
     letters: &[u8],
     ends: &[u16],
@@ -63,7 +63,7 @@ fn compose_accepted(
     )
 }
 
-// Composes any tray, or refuses it: the legend into its buffer, joins and places as numbers into the work area. So many joins and places can be taken.
+// Composes any tray, or refuses it: the legend into its buffer, joins and places as numbers into the work area. `joins_room` joins and `places_room` places can be taken.
 pub fn compose_staged(
     letters: &[u8],
     ends: &[u16],

@@ -6,7 +6,7 @@ ghost use Rattle.compose_finish.specs.steps.Finishing.{SomeJoined, Finis
 use answers::Composed;
 use legend_counts::LetterCounts;
 
-// The answer to a tray that is turned back.
+// The answer to a tray that is refused.
 pub fn refused(number: u8, detail: u32) -> Composed
     ensures { λ r. ⌜ r ≡ refusedBy (refusal number detail) ⌝ }
 {

@@ -12,7 +12,7 @@ use file_rule::Reader;
 use trays::Refusal;
 use trays::refuse;
 
-// How far the check has come: what turns the file back so far, the number of the line that comes next, and whether to read it.
+// How far the check has come: what refuses the file so far, the number of the line that comes next, and whether to read it.
 struct Checked {
     found: Refusal,
     line: usize,
@@ -52,7 +52,7 @@ fn judge(state: Checked, line: Line, size: usize) -> Checked
     }
 }
 
-// The line at which a reader stands, as line k. The reader moves behind it, behind a bad line too.
+// The line at which a reader stands, as line k. The reader moves past it, past a bad line too.
 fn next<'s, 'a>(r: &'s mut Reader<'a>, k: usize) -> Line
     ensures { λ l. ⌜ Handed (now (r .entry)) (now (r .exit)) k l ⌝ }
 {

@@ -90,7 +90,7 @@ fn line_fault(line: &[u8], k: usize) -> u8
     0
 }
 
-// Where the line that starts at a place ends: behind its LF, or where the file ends.
+// Where the line that starts at a place ends: after its LF, or where the file ends.
 pub fn line_end(file: &[u8], at: usize) -> usize
     ensures { λ r. ⌜ r ≡ at + length (L.firstLine (drop at (now (file .entry)))) ⌝ }
 {

@@ -35,7 +35,7 @@ fn copy_file(file: &[u8], letters: &mut [u8], ends: &mut [u16]) -> Written
     let mut slips: usize = 0;
     while at < file.len() {
         let next = file_line::line_end(file, at);
-        // a good line has its letters behind 9 columns, and an LF behind them
+        // a good line has its letters after 9 columns, and an LF after them
         let start = at + 9;
         let end = next - 1;
         fold_letters::file_letters(&file[start..end], &mut letters[count..]);

@@ -7,7 +7,7 @@ pub const LF: u8 = b'\n';
 
 pub const BLANK: u8 = b' ';
 
-// A line: what turns it back, or 0, and where the next line starts.
+// A line: what refuses it, or 0, and where the next line starts.
 pub struct Line {
     pub fault: u8,
     pub next: usize,

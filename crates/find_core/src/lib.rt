@@ -52,7 +52,7 @@ fn prepare(letters: &[u8], ends: &[u16], work: &mut [u16]) -> usize
     nodes
 }
 
-// The answer to a call that is turned back: nothing is stored.
+// The answer to a call that is refused: nothing is stored.
 fn refused(number: u8, detail: u32) -> Begun
     ensures { λ r. ⌜ r ≡ T.turnedBack (refusal number detail) ⌝ }
 {

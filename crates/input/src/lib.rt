@@ -10,7 +10,7 @@ pub struct Came {
     pub failed: bool,
 }
 
-// One read, behind the bytes that have come.
+// One read, after the bytes that have come.
 fn read_more(fd: i32, buf: &mut [u8], done: usize) -> Came
     requires { ⌜ done ≤ length (now buf) ⌝ }
     ensures { λ r. ⌜ More done (length (now (buf .entry))) r ⌝ }

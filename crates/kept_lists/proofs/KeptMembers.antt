@@ -9,6 +9,7 @@ use native.Mathlib.Omega.{arith}
 use lib.ListN.{length, getD, drop}
 use Rattle.words.proofs.Members.{In, Asc}
 use Rattle.words.proofs.Picks.{getD-in}
+use Rattle.trays.specs.Limits.{maxSlips}
 use Rattle.trays.specs.Slips.{slipsOf, startOf, endOf}
 use Rattle.trays.specs.Aside.{kept}
 use Rattle.trays.proofs.Kept.{kept-asc, in-kept}
@@ -51,7 +52,7 @@ module _ {s es : List ℕ} {n k nodes : ℕ} {w : List ℕ} (S : KeptFound s es 
         let x = kept-member r (in-drop (j + 1) (keptIn w k) m) in
         (l, accepted-spanned s es (S .automaton .branched .numbered .accepted) .apart i r l (x .most), x)
 
-pub kept-same : {w w′ : List ℕ} {k : ℕ} → k ≤ 200 → SameBelow STARTS w w′ → keptIn w′ k ≡ keptIn w k
+pub kept-same : {w w′ : List ℕ} {k : ℕ} → k ≤ maxSlips → SameBelow STARTS w w′ → keptIn w′ k ≡ keptIn w k
 kept-same {w} {w′} {k} h b = table-same w w′ KEPT k (b .same) (λ i l. b .cells (KEPT + i) (omega arith))
 
 pub staged-kept : {s es : List ℕ} {n k nodes : ℕ} {w w′ : List ℕ} → SameBelow STARTS w w′ → KeptFound s es n k nodes w → KeptFound s es n k nodes w′

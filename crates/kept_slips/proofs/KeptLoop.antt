@@ -12,6 +12,7 @@ use lib.ListN.{length, take}
 use lib.Seq.{take-suc, take-all}
 use Rattle.words.specs.Lists.{those}
 use Rattle.words.proofs.Members.{those-yes, those-no, those-append}
+use Rattle.trays.specs.Limits.{maxSlips}
 use Rattle.trays.specs.Slips.{slipsOf}
 use Rattle.trays.specs.Aside.{isAside, kept}
 use Rattle.tables.specs.Tables.{Got, Put, Room, table}
@@ -115,7 +116,7 @@ module _ {s es : List ℕ} {n nodes : ℕ} {w : List ℕ} where
       let same : members w′ n ≡ members w n = members-kept n (omega (arith, N .few-members)) b in
       let f : take j (members w′ n) ≡ members w′ n = take-all j (members w′ n) (rw (members-length N) l) in
       let q : table w′ KEPT k ≡ kept ss (members w′ n) = S .list ∙ ap (those (stays ss (members w′ n))) f in
-      let few : k ≤ 200 = omega (arith, S .fewer, N .few-members) in
+      let few : k ≤ maxSlips = omega (arith, S .fewer, N .few-members) in
       record {
         staged = record { automaton = S .marked .headed .automaton; few-kept = few; kept-are = q };
         all = sym (table-length w′ KEPT k (omega (arith, N .room))) ∙ ap length q ∙ ap (λ m. length (kept ss m)) same;

@@ -1,4 +1,4 @@
-// Chains, read off the lists of neighbours and put one behind another as pieces: two numbers each, the slip and the letters that it shares with the slip
+// Chains, read off the lists of neighbours and put one after another as pieces: two numbers each, the slip and the letters that it shares with the slip
 // before it in its chain.
 ghost use mathlib.Core.List.{[], _∷_};
 ghost use Prim.Native.Nat.{_+_, _*_, _<_};
@@ -22,7 +22,7 @@ pub fn put_piece(pieces: &mut [u16], m: usize, slip: usize, shared: usize)
     pieces[2 * m + 1] = shared as u16;
 }
 
-// Writes the chain from `slip` on behind the first `m` pieces, at most `turns` slips: by its first slip, which shares `shared` letters with the slip before,
+// Writes the chain from `slip` on after the first `m` pieces, at most `turns` slips: by its first slip, which shares `shared` letters with the slip before,
 // then the rest in the same manner with one slip fewer. Answers how many pieces there are then.
 // A chain has at most 200 slips, so at most 201 calls stand open: one for each slip, and one that finds no further slip.
 fn chain_pieces(

@@ -1,4 +1,4 @@
-// Two trays merged into a lent third. The new slips are told before a buffer is touched, since what turns the outcome back depends on them.
+// Two trays merged into a lent third. The new slips are told before a buffer is touched, since what refuses the outcome depends on them.
 ghost use mathlib.Core.Path.{_≡_};
 ghost use lib.ListN.{length};
 ghost use Rattle.trays.specs.Faults.{accepted};
@@ -75,7 +75,7 @@ fn write_slips(
     }
 }
 
-// Writes the first tray, and behind it the new slips of the second.
+// Writes the first tray, and after it the new slips of the second.
 fn write_merged(
     letters1: &[u8],
     ends1: &[u16],

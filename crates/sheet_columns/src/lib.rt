@@ -1,5 +1,5 @@
 // Bytes, words and numbers in columns, written into a lent buffer.
-// Each function writes behind the first `at` bytes and answers where the next byte goes.
+// Each function writes after the first `at` bytes and answers where the next byte goes.
 ghost use mathlib.Core.Path.{_≡_};
 ghost use mathlib.Core.List.{[], _∷_};
 ghost use Prim.Native.Nat.{_+_, _^_, _≤_, _<_};
@@ -54,7 +54,7 @@ fn put_blanks(out: &mut [u8], at: usize, n: usize) -> usize
     next
 }
 
-// Writes `n` right-justified in `width` columns: a number of one digit behind blanks, another one behind its tenth.
+// Writes `n` right-justified in `width` columns: a number of one digit after blanks, another one after its tenth.
 pub fn put_number(out: &mut [u8], at: usize, width: usize, n: usize) -> usize
     requires { ⌜ (1 ≤ width) × (n < 10 ^ width) × (at + width ≤ length (now out)) ⌝ }
     ensures { λ r. ⌜ W.Wrote at width (S.column width n) (now (out .entry)) (now (out .exit)) r ⌝ }

@@ -1,5 +1,5 @@
 // Lines and whole sheets, written into a lent buffer.
-// Each function writes behind the first `at` bytes and answers where the next byte goes.
+// Each function writes after the first `at` bytes and answers where the next byte goes.
 ghost use mathlib.Core.Path.{_≡_};
 ghost use Prim.Native.Nat.{_+_, _*_, _^_, _≤_, _<_};
 ghost use lib.ListN.{length, getD};

@@ -1,5 +1,5 @@
 // The search for the best order of at most ten places. Groups of places already laid are marks in one number: place `a` is in the group `g` where the
-// bit of `1 << a` is set. For each group and each place of it, laid last, the table says the most that can be saved by laying the others behind.
+// bit of `1 << a` is set. For each group and each place of it, laid last, the table says the most that can be saved by laying the others after it.
 ghost use mathlib.Core.Path.{_≡_};
 ghost use Prim.Native.Nat.{suc, _+_, _-_, _^_, _≤_, _<_};
 ghost use lib.Count.{ones};
@@ -16,16 +16,16 @@ use tables::narrow;
 use tables::put;
 use trays::MAX_SHORTEST;
 
-// There are at most so many places, and a row of either table has so many cells.
+// How many places there are at most, and how many cells a row of either table has.
 const PLACES: usize = MAX_SHORTEST;
 
-// The start, behind which the first place is laid, has the number after the last place.
+// The start, after which the first place is laid, has the number after the last place.
 const START: usize = PLACES;
 
 // The table of pairs: a row for each place and one for the start.
 const PAIRS: usize = 0;
 
-// The table of groups behind it: a row for each group.
+// The table of groups after it: a row for each group.
 const GROUPS: usize = (PLACES + 1) * PLACES;
 
 // 1 if place `a` is in the group `g`, and 0 otherwise.
@@ -76,7 +76,7 @@ struct Chosen {
     which: usize,
 }
 
-// Tries place `j` next, behind `a`. It is taken if it is not in the group and saves more than the places before it: of several the lowest stays.
+// Tries place `j` next, after `a`. It is taken if it is not in the group and saves more than the places before it: of several the lowest stays.
 fn step(table: &[u16], g: usize, a: usize, j: usize, found: Chosen) -> Chosen
     requires { ⌜ StepAsks (now table) g a j (found .value) (found .which) ⌝ }
     ensures { λ r. ⌜ Seeking (now (table .entry)) g a (suc j) (r .value) (r .which) ⌝ }

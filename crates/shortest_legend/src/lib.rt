@@ -20,7 +20,7 @@ const CELLS: usize = 11 * MAX_SHORTEST + 1024 * MAX_SHORTEST;
 // The pieces of the most slips that are ordered, two numbers each.
 const PIECES: usize = 2 * MAX_SHORTEST;
 
-// The answer to a tray that is turned back.
+// The answer to a tray that is refused.
 fn refused(number: u8, detail: u32) -> Shortest
     ensures { λ r. ⌜ r ≡ shortestRefused (refusal number detail) ⌝ }
 {

@@ -1,11 +1,11 @@
-// The table of pairs, for the search of the shortest legend: how many letters each of the kept slips shares with each laid behind it.
+// The table of pairs, for the search of the shortest legend: how many letters each of the kept slips shares with each laid after it.
 ghost use Prim.Native.Nat.{_+_};
 ghost use Rattle.shortest_pairs.specs.Pairs.{PairsAsk, PairsAre};
 ghost use Rattle.shortest_pairs.specs.steps.Pairing.{RowAsks, PairedTo};
 use tables::wide;
 use trays::MAX_SHORTEST;
 
-// Eleven rows of ten: the last one is that of the start, behind which nothing is shared.
+// Eleven rows of ten: the last one is that of the start, after which nothing is shared.
 const CELLS: usize = 11 * MAX_SHORTEST;
 
 // Fills the row of place `a`.

@@ -8,7 +8,7 @@
 //     M LETTERS ENDS LETTERS END ..;LETTERS END ..         two trays merged, with so much lent
 //     S                                                    the bytes that are letters
 // Letters, texts and files are coded: 12A is twelve times A, %0A the byte 10, and a comma an end. 12x3 among the ends is the twelve ends 3, 6, .. 36.
-// What was lent is filled with marks before a call, and its sum behind it is written.
+// What was lent is filled with marks before a call, and its sum after it is written.
 ghost use mathlib.Core.Path.{_≡_};
 ghost use lib.ListN.{length};
 use trials_lines::table;

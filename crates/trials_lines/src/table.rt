@@ -2,19 +2,19 @@
 ghost use Prim.Native.Nat.{_≤_, _<_};
 ghost use lib.ListN.{length};
 
-// A number of the line, and a place behind it.
+// A number of the line, and the place after it.
 pub struct Read {
     pub value: u32,
     pub at: usize,
 }
 
-// So many letters of a tray, and so many ends.
+// How many letters a tray has, and how many ends.
 pub struct Tray {
     pub letters: usize,
     pub ends: usize,
 }
 
-// What a code adds, so many times a letter and so many ends, and the place behind it.
+// What a code adds, how many times a letter and how many ends, and the place after it.
 struct Code {
     letter: u8,
     letters: u32,
@@ -22,7 +22,7 @@ struct Code {
     at: usize,
 }
 
-// So many ends, the first of them, and the place behind the entry.
+// How many ends, the first of them, and the place after the entry.
 struct Run {
     times: u32,
     step: u32,
@@ -55,12 +55,12 @@ pub fn least(room: u32, size: usize) -> usize
     if n < size { n } else { size }
 }
 
-// The byte at a place, a blank behind the end.
+// The byte at a place, a blank after the end.
 pub fn byte_at(s: &[u8], at: usize) -> u8 {
     if at < s.len() { s[at] } else { b' ' }
 }
 
-// The place behind a byte, if there is one.
+// The place after a byte, if there is one.
 pub fn behind(s: &[u8], at: usize) -> usize
     requires { ⌜ at ≤ length (now s) ⌝ }
     ensures { λ r. ⌜ (at ≤ r) × (r ≤ length (now (s .entry))) ⌝ }
@@ -68,7 +68,7 @@ pub fn behind(s: &[u8], at: usize) -> usize
     if at < s.len() { at + 1 } else { at }
 }
 
-// Where the fields behind the tag start.
+// Where the fields after the tag start.
 pub fn start(line: &[u8]) -> usize
     ensures { λ r. ⌜ r ≤ length (now (line .entry)) ⌝ }
 {
@@ -261,7 +261,7 @@ pub fn text_at(line: &[u8], from: usize, out: &mut [u8]) -> usize
     tray.letters
 }
 
-// Where the field behind the one at `from` starts.
+// Where the field after the one at `from` starts.
 pub fn next(line: &[u8], from: usize) -> usize
     requires { ⌜ from ≤ length (now line) ⌝ }
     ensures { λ r. ⌜ r ≤ length (now (line .entry)) ⌝ }
@@ -291,7 +291,7 @@ fn entry(s: &[u8], from: usize) -> Run
     }
 }
 
-// The ends that the fields list, behind `from` others. Answers how many there are then.
+// The ends that the fields list, after `from` others. Answers how many there are then.
 fn entries(fields: &[u8], out: &mut [u16], from: usize) -> usize
     requires { ⌜ from ≤ length (now out) ⌝ }
     ensures { λ r. ⌜ r ≤ length (now (out .exit)) ⌝ }

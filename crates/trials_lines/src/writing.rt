@@ -18,7 +18,7 @@ pub fn bracketed(letters: &[u8]) {
     io::write_all(1, b"]");
 }
 
-// The sum of the work area behind a call that answered `number`: from place C on, which has rows 8, 9, 14 and 20, it may hold anything.
+// The sum of the work area after a call that answered `number`: from place C on, which has rows 8, 9, 14 and 20, it may hold anything.
 pub fn work(number: u8, cells: &[u16]) {
     match number {
         0 | 8 | 9 | 14 | 20 => {

@@ -8,14 +8,14 @@ use answers::Place;
 use answers::Search;
 use trays::Settings;
 
-// The answer of composing, and the two lists behind the call.
+// The answer of composing, and the two lists after the call.
 pub struct Composition {
     pub answer: Composed,
     pub joins: [Join; 200],
     pub places: [Place; 200],
 }
 
-// The answer of finding, and the list behind the call.
+// The answer of finding, and the list after the call.
 pub struct Finding {
     pub answer: Search,
     pub found: [Found; 2000],

@@ -24,7 +24,7 @@ pub fn node_of(
     tables::at(work, layout::AT, end - 1)
 }
 
-// Puts `i` before the list of node `u`: the heads of the lists stand at `heads`, and what is behind `i` goes to place `p` of `nexts`.
+// Puts `i` before the list of node `u`: the heads of the lists stand at `heads`, and what comes after `i` goes to place `p` of `nexts`.
 pub fn push(work: &mut [u16], heads: usize, u: usize, nexts: usize, p: usize, i: usize)
     requires { ⌜ N.CanPush (now work) heads u nexts p i ⌝ }
     ensures { λ _. ⌜ N.Pushed (now (work .entry)) heads u nexts p i (now (work .exit)) ⌝ }

@@ -25,7 +25,7 @@ pub enum Bound {
     Number(usize),
 }
 
-// Both answers from one pass: the letters behind the common prefix decide.
+// Both answers from one pass: the letters after the common prefix decide.
 fn compare(a: &[u8], b: &[u8]) -> Compared
     ensures { λ r. ⌜ r ≡ O.compared (now (a .entry)) (now (b .entry)) ⌝ }
 {
@@ -103,7 +103,7 @@ fn rank(letters: &[u8], ends: &[u16], order: &[u16], typed: &[u8], bound: Bound)
     low
 }
 
-// Lays the first cell behind the `k` cells that follow it.
+// Moves the first cell to after the `k` cells that follow it.
 fn lay_behind(cells: &mut [u16], k: usize)
     requires { ⌜ k < length (now cells) ⌝ }
     ensures { λ _. ⌜ now (cells .exit) ≡ layBehind k (now (cells .entry)) ⌝ }
@@ -129,7 +129,7 @@ fn insert_first(letters: &[u8], ends: &[u16], cells: &mut [u16])
     lay_behind(cells, k);
 }
 
-// Puts the members in order: from the last on, each goes into its place among those behind it.
+// Puts the members in order: from the last on, each goes into its place among those after it.
 fn sort(letters: &[u8], ends: &[u16], cells: &mut [u16])
     requires { ⌜ O.Sortable (now letters) (now ends) (now cells) ⌝ }
     ensures { λ _. ⌜ now (cells .exit) ≡ inOrder (O.precedes (slipsOf (now (letters .entry)) (now (ends .entry)))) (now (cells .entry)) ⌝ }

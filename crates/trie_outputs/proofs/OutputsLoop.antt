@@ -11,6 +11,7 @@ use lib.ListN.{length, length-append}
 use Rattle.words.specs.Lists.{headOr}
 use Rattle.words.specs.Words.{same}
 use Rattle.words.proofs.Members.{In, in-those}
+use Rattle.trays.specs.Limits.{maxSlips}
 use Rattle.trays.specs.Slips.{slipsOf, slip}
 use Rattle.tables.specs.Tables.{Got, Put, Room}
 use Rattle.tables.proofs.Tables.{put-only, put-here, put-other}
@@ -98,7 +99,7 @@ module _ {s es : List ℕ} {n nodes : ℕ} {w : List ℕ} {v : ℕ} (T : Telling
             b .is ∙ T .tallies f below,
           )
 
-      tally-few : own + behind ≤ 200
+      tally-few : own + behind ≤ maxSlips
       tally-few = omega (arith, tally-sum, ending-most ss M (string ps v), members-length numbered, numbered .few-members)
 
       pub telling-sum : own + behind < 18446744073709551616

@@ -41,7 +41,7 @@ pub fn own_marks(marks: &mut [u16])
     }
 }
 
-// The slip behind `r` among those that begin with a node of `d` letters, 0 for none.
+// The slip after `r` among those that begin with a node of `d` letters, 0 for none.
 pub fn next_starter(work: &[u16], ends: &[u16], d: usize, r: usize) -> usize
     requires { ⌜ O.Sized (now ends) (now work) d ⌝ }
     requires { ⌜ R.Real (now ends) d r ⌝ }
@@ -52,7 +52,7 @@ pub fn next_starter(work: &[u16], ends: &[u16], d: usize, r: usize) -> usize
     tables::at(work, layout::STARTS_NEXT, start + d - 1)
 }
 
-// The slip behind `l` among those that properly end with a node of `d` letters, 0 for none.
+// The slip after `l` among those that properly end with a node of `d` letters, 0 for none.
 fn next_ender(work: &[u16], ends: &[u16], d: usize, l: usize) -> usize
     requires { ⌜ O.Sized (now ends) (now work) d ⌝ }
     requires { ⌜ R.Real (now ends) d l ⌝ }
@@ -91,7 +91,7 @@ fn partner(work: &[u16], ends: &[u16], right: &[u16], d: usize, l: usize, m: usi
     next_free(work, ends, right, d, next)
 }
 
-// Writes the join of `l` and `r` behind the first `count`. Answers how many there are then.
+// Writes the join of `l` and `r` after the first `count`. Answers how many there are then.
 fn put_join(work: &mut [u16], count: usize, l: usize, r: usize, d: usize) -> usize
     requires { ⌜ O.CanJoin (now work) count l r d ⌝ }
     ensures { λ made. ⌜ O.JoinPut (now (work .entry)) count l r d (now (work .exit)) made ⌝ }
@@ -113,7 +113,7 @@ fn join_ends(first: &mut [u16], last: &mut [u16], l: usize, r: usize)
     set_mark(first, end, begin);
 }
 
-// Joins `r` behind `l` by `d` letters. Answers how many joins there are then.
+// Joins `r` to the right of `l` by `d` letters. Answers how many joins there are then.
 fn make_join(
     work: &mut [u16],
     count: usize,
@@ -138,8 +138,8 @@ fn make_join(
     made
 }
 
-// One slip of a visit: `r`, if it has no left neighbour, is joined behind the lowest waiting slip, which is `l`; if that one is the last of the
-// chain that `r` begins, behind the second lowest; if there is none, not joined. Answers how many joins there are then.
+// One slip of a visit: `r`, if it has no left neighbour, is joined to the right of the lowest waiting slip, which is `l`; if that one is the last of
+// the chain that `r` begins, of the second lowest; if there is none, it is not joined. Answers how many joins there are then.
 pub fn offer(
     work: &mut [u16],
     ends: &[u16],
