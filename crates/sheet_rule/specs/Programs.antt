@@ -1,13 +1,13 @@
 -- What the programs print, from the bytes of their files: the first refusal of the rules' table that holds, or the sheet.
 --   lettersIn, endsIn file  == the letters and ends of a tray file
 --   traySheet s es          == what is printed of a tray: its refusal 1 to 6, or its `compose` sheet
---   composeSheetFault file          == what turns a tray file back: 16 to 19, then 1 to 6
+--   composeSheetFault file  == what refuses a tray file: 16 to 19, then 1 to 6
 --   composeSheet file       == what `compose` prints
 --   textOf text             == the text of a text file: one final LF is not counted
 --   textIn text             == its letters, folded
---   textFault s es t        == what turns a tray and a text back: 1 to 6, 12, 13, 14
+--   textFault s es t        == what refuses a tray and a text: 1 to 6, 12, 13, 14
 --   textSheet s es t        == what is printed of a tray and a text: a refusal, or the `find` sheet
---   findSheetFault file text     == what turns a tray file and a text file back: 16 to 19, then these
+--   findSheetFault file text == what refuses a tray file and a text file: 16 to 19, then these
 --   findSheet file text     == what `find` prints
 use mathlib.Core.Bool.{true, false}
 use mathlib.Core.List.{List, [], _∷_, _++_, map}
