@@ -1,7 +1,7 @@
 -- Composing: refusals 7, 8 and 9 after those of the settings and the tray, the answer, and what each buffer holds afterwards.
---   beforeC g s es w      == what turns composing back before place C, with the settings g
+--   beforeC g s es w      == what refuses composing before place C, with the settings g
 --   roomRows c l j p      == place C: legend room l, room for j joins and p places
---   composeFault          == what turns composing back
+--   composeFault          == what refuses composing
 --   composedOf            == the answer
 --   joinCells             == how many numbers a join has
 --   joinNumbers j         == a join as numbers: left slip, right slip, overlap; flatJoins js == the joins as numbers

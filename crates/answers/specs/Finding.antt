@@ -2,8 +2,8 @@
 -- each buffer holds afterwards. The work area has w cells, and the list takes k occurrences.
 --   textRows t            == place B, text: 12 and 13
 --   findRows s es t w     == the rows before place C
---   findBefore            == what turns finding back before place C
---   findFault .. k        == what turns finding back
+--   findBefore            == what refuses finding before place C
+--   findFault .. k        == what refuses finding
 --   searchOf .. k         == the answer
 --   foundRecord f            == an occurrence as a record of the lent list
 --   foundNumbers f        == an occurrence as numbers: end place, slip; flatFound fs == occurrences as numbers

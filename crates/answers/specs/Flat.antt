@@ -1,5 +1,5 @@
 -- Composing over slices of numbers, for every input: `joinCells` numbers a join, `placeCells` a place.
---   flatFault  == what turns it back, given the lengths of what was lent
+--   flatFault  == what refuses it, given the lengths of what was lent
 --   ComposeFlat == the answer, and what each lent buffer holds afterwards
 use mathlib.Core.Path.{_≡_}
 use mathlib.Core.List.{List}
@@ -14,7 +14,7 @@ use Rattle.answers.specs.WorkArea.{WorkKept}
 use Rattle.answers.specs.declared.Composed.{Composed}
 use Rattle.answers.specs.Composing.{beforeC, composeFault, composedOf, joinCells, flatJoins, placeCells, flatPlaces}
 
--- so many records a list takes
+-- a list takes as many records as it has numbers for
 abbrev pub flatFault : Settings → List ℕ → List ℕ → List ℕ → List ℕ → List ℕ → List ℕ → Refusal
 flatFault g s es w l j p = composeFault g s es (length w) (length l) (length j / joinCells) (length p / placeCells)
 
