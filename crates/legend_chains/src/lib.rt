@@ -10,7 +10,7 @@ ghost use Rattle.legend_chains.specs.steps.Following.{ChainAsks, AddAsks
 use tables::wide;
 use trays::MAX_SLIPS;
 
-// How many numbers the pieces have, at most one for each slip.
+// How many numbers the pieces have, two each, and at most one piece for each slip.
 pub const ALL_PIECES: usize = 2 * MAX_SLIPS;
 
 // Writes the `m`-th piece.
