@@ -121,6 +121,7 @@ TALLY = OUT + maxNodes
 abbrev pub SCAN : ℕ
 SCAN = TALLY + maxNodes
 
--- 10350 cells: the pairs and groups of the search for the shortest legend. It fills KEPT and no table after it, so these lie over STARTS and what follows.
+-- the pairs and groups of the search for the shortest legend; shortest_groups says how many cells they have. The search fills KEPT and no table after it,
+-- so these lie over STARTS and what follows.
 abbrev pub SEEK : ℕ
 SEEK = STARTS

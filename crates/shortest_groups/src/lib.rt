@@ -25,8 +25,14 @@ const START: usize = PLACES;
 // The table of pairs: a row for each place and one for the start.
 const PAIRS: usize = 0;
 
+// How many cells it has.
+pub const PAIR_CELLS: usize = (PLACES + 1) * PLACES;
+
 // The table of groups after it: a row for each group.
-const GROUPS: usize = (PLACES + 1) * PLACES;
+const GROUPS: usize = PAIRS + PAIR_CELLS;
+
+// How many cells it has: with ten places there are 1,024 groups.
+pub const GROUP_CELLS: usize = PLACES * 1024;
 
 // 1 if place `a` is in the group `g`, and 0 otherwise.
 fn mark(g: usize, a: usize) -> usize

@@ -10,12 +10,14 @@ use answers::Shortest;
 use layout::KEPT;
 use layout::SEEK;
 use layout::WORK_NEED;
+use shortest_groups::GROUP_CELLS;
+use shortest_groups::PAIR_CELLS;
 use tables::wide;
 use trays::MAX_SHORTEST;
 use trays::Settings;
 
-// Eleven rows of ten pairs, and ten cells for each of 1,024 groups.
-const CELLS: usize = 11 * MAX_SHORTEST + 1024 * MAX_SHORTEST;
+// How many cells the search takes.
+const CELLS: usize = PAIR_CELLS + GROUP_CELLS;
 
 // The pieces of the most slips that are ordered, two numbers each.
 const PIECES: usize = 2 * MAX_SHORTEST;

@@ -2,11 +2,9 @@
 ghost use Prim.Native.Nat.{_+_};
 ghost use Rattle.shortest_pairs.specs.Pairs.{PairsAsk, PairsAre};
 ghost use Rattle.shortest_pairs.specs.steps.Pairing.{RowAsks, PairedTo};
+use shortest_groups::PAIR_CELLS;
 use tables::wide;
 use trays::MAX_SHORTEST;
-
-// Eleven rows of ten: the last one is that of the start, after which nothing is shared.
-const CELLS: usize = 11 * MAX_SHORTEST;
 
 // Fills the row of place `a`.
 fn fill_row(
@@ -44,7 +42,7 @@ pub fn fill_pairs(
     requires { ⌜ PairsAsk (now letters) (now ends) (now kept) k (now table) ⌝ }
     ensures { λ _. ⌜ PairsAre least (now (letters .entry)) (now (ends .entry)) (now (kept .entry)) k (now (table .entry)) (now (table .exit)) ⌝ }
 {
-    tables::clear(table, 0, CELLS);
+    tables::clear(table, 0, PAIR_CELLS);
     let mut a: usize = 0;
     while a < k {
         fill_row(letters, ends, kept, k, a, least, table);
