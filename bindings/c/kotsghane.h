@@ -7,9 +7,9 @@
  * the work area may differ, and only after 8, 9, 14 and 20. On success the first part of each buffer is the outcome, and the rest is unchanged.
  *
  * Three calls take the least overlap, from 1 to KOTSGHANE_MAX_LEAST: a shorter overlap counts as empty. With 1 none is too short. Any other number is
- * refused by 21, which is reported first, before any fault of the tray. Which slips are kept, what is found and what is read do not go by it.
+ * refused by 21, which is reported first, before any fault of the tray. Which slips are kept, what is found and what is read do not depend on it.
  *
- * Each pointer comes with a length in elements and must point to as many; one with length 0 is never followed. What is lent for writing must not
+ * Each pointer comes with a length in elements and must point to as many; one with length 0 is never dereferenced. What is lent for writing must not
  * overlap anything else that is lent. No call keeps a pointer, allocates, or unwinds.
  */
 #ifndef KOTSGHANE_H
@@ -80,20 +80,21 @@ enum { KOTSGHANE_READ_LETTERS = 2, KOTSGHANE_READ_SLIPS, KOTSGHANE_READ_NUMBERS 
 /* The answer of kotsghane_merge. */
 enum { KOTSGHANE_MERGED_LETTERS = 2, KOTSGHANE_MERGED_SLIPS, KOTSGHANE_MERGED_NUMBERS };
 
-/* Composes a tray: slips are joined by overlaps of at least `least` letters. Lend KOTSGHANE_WORK cells, and lists that suffice for any tray: MAX_LETTERS
- * letters, MAX_SLIPS joins and MAX_SLIPS places. Lengths of lists are counted in numbers. Refusals 1 to 9, and 21, which is reported first. */
+/* Composes a tray: slips are joined by overlaps of at least `least` letters. Lend KOTSGHANE_WORK cells. KOTSGHANE_MAX_LETTERS letters,
+ * KOTSGHANE_JOIN * KOTSGHANE_MAX_SLIPS numbers of joins and KOTSGHANE_PLACE * KOTSGHANE_MAX_SLIPS of places suffice for any tray. Refusals 1 to 9, and 21,
+ * which is reported first. */
 void kotsghane_compose(const uint8_t *letters, size_t letters_len, const uint16_t *ends, size_t ends_len, uint32_t least, uint16_t *work,
                        size_t work_len, uint8_t *legend, size_t legend_len, uint16_t *joins, size_t joins_len, uint16_t *places,
                        size_t places_len, uint32_t answer[KOTSGHANE_COMPOSED_NUMBERS]);
 
 /* Seeks the order of the kept slips whose legend is shortest; of several, the one that is smallest as a list of slip numbers. The legend is laid as one
  * chain: each slip adds its letters beyond the overlap with the one before it, if that has at least `least` letters. Lend KOTSGHANE_WORK cells;
- * MAX_SHORTEST * MAX_SLIP letters suffice for any tray. Refusals 1 to 8, 20, which is reported before 8, and 21, which is reported first. */
+ * KOTSGHANE_MAX_SHORTEST * KOTSGHANE_MAX_SLIP letters suffice for any tray. Refusals 1 to 8, 20, which is reported before 8, and 21, which is reported first. */
 void kotsghane_shortest(const uint8_t *letters, size_t letters_len, const uint16_t *ends, size_t ends_len, uint32_t least, uint16_t *work,
                         size_t work_len, uint8_t *legend, size_t legend_len, uint32_t answer[KOTSGHANE_SHORTEST_NUMBERS]);
 
-/* Finds every occurrence of every slip in a text: by end place, then longer slips first, then lower numbers. Refusals 1 to 7 and 12 to 14; the detail of
- * 14 is how many occurrences there are. */
+/* Finds every occurrence of every slip in a text: by end place, then longer slips first, then lower numbers. Lend KOTSGHANE_WORK cells, and
+ * KOTSGHANE_OCCURRENCE numbers for each occurrence. Refusals 1 to 7 and 12 to 14; the detail of 14 is how many occurrences there are. */
 void kotsghane_find(const uint8_t *letters, size_t letters_len, const uint16_t *ends, size_t ends_len, const uint8_t *text, size_t text_len,
                     uint16_t *work, size_t work_len, uint32_t *found, size_t found_len, uint32_t answer[KOTSGHANE_FOUND_NUMBERS]);
 

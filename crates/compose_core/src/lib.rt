@@ -63,7 +63,8 @@ fn compose_accepted(
     )
 }
 
-// Composes any tray, or refuses it: the legend into its buffer, joins and places as numbers into the work area. `joins_room` joins and `places_room` places can be taken.
+// Composes any tray, or refuses it: the legend into its buffer, joins and places as numbers into the work area. `joins_room` joins and `places_room` places
+// can be taken.
 pub fn compose_staged(
     letters: &[u8],
     ends: &[u16],

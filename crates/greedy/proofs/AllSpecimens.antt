@@ -1,5 +1,6 @@
 -- Computed specimens of the definitions on composing, besides those of docs/RULES.md, *Specimens*, which stand in claims. The outcomes are worked
--- out by hand from the rules' sentences and computed here from the definitions. Modules are checked in the order of their names: an edited definition is refused here first.
+-- out by hand from the rules' sentences and computed here from the definitions. Modules are checked in the order of their names: an edited definition is
+-- refused here first.
 --   Outcome        == all that the definitions say of one tray
 --   outcomeOf g ss == the outcome of the slips ss with the settings g
 --   Specimen       == a tray, written as words, and its outcome by the rules

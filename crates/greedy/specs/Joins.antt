@@ -45,7 +45,7 @@ lastOf i js = lastFrom (length js) i js
 abbrev pub free : ℕ → ℕ → List Join → Bool
 free l r js = eqb (rightOf l js) 0 && (eqb (leftOf r js) 0 && not (eqb (lastOf r js) l))
 
--- Rules, arcs: ordered pairs of different kept slips with a non-empty overlap.
+-- Rules, plain rule: arcs are ordered pairs of different kept slips with a non-empty overlap.
 abbrev pub arc : (List ℕ → Bool) → List (List ℕ) → ℕ → ℕ → List Join
 arc counts ss l r =
     let o = overlapFor counts (slip ss l) (slip ss r) in

@@ -16,7 +16,7 @@ use Rattle.trays.specs.Faults.{trayFault}
 abbrev pub beginsSome : List ℕ → List (List ℕ) → Bool
 beginsSome x ps = any (begins x) ps
 
--- Rules, state: the longest ending of the text so far that begins a slip.
+-- Rules, moves: the state is the longest ending of the text so far that begins a slip.
 abbrev pub longestEnding : List ℕ → List (List ℕ) → List ℕ
 longestEnding [] ps = []
 longestEnding (x ∷ xs) ps = elim (beginsSome (x ∷ xs) ps) [ true ↦ x ∷ xs | false ↦ longestEnding xs ps ]

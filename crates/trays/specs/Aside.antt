@@ -21,7 +21,7 @@ asideFor ss i k =
 abbrev pub isAside : List (List ℕ) → List ℕ → ℕ → Bool
 isAside ss M i = any (asideFor ss i) M
 
--- Rules, kept: the others.
+-- Rules, set aside: the others are kept.
 abbrev pub kept : List (List ℕ) → List ℕ → List ℕ
 kept ss M = those (λ i. not (isAside ss M i)) M
 
@@ -29,6 +29,6 @@ kept ss M = those (λ i. not (isAside ss M i)) M
 abbrev pub notStops : List ℕ → Bool
 notStops x = any (λ b. not (eqb b stop)) x
 
--- Rules, overlap: nor does one of fewer letters than the least overlap. The one rule that the pair query, the joins, the walk and the legends go by.
+-- Rules, least overlap: nor does one of fewer letters. The one rule that the pair query, the joins, the walk and the legends go by.
 abbrev pub counted : ℕ → List ℕ → Bool
 counted m x = leb m (length x) && notStops x
