@@ -3,16 +3,18 @@
 --   computed  == the answer to it by the definition
 use mathlib.Core.Path.{_≡_, refl}
 use mathlib.Core.List.{List, [], _∷_, map}
-use Prim.Native.Nat.{ℕ}
+use Prim.Native.Nat.{ℕ, _+_}
 use Prim.Native.String.{String}
 use lib.ListN.{replicate}
+use Rattle.words.specs.Lists.{upFrom, headOr}
 use Rattle.words.specs.Quoted.{word}
+use Rattle.trays.specs.declared.Refusal.{Refusal}
 use Rattle.trays.specs.Slips.{slipsOf}
-use Rattle.trays.specs.Faults.{written}
+use Rattle.trays.specs.Faults.{refusal, accepted, written}
 use Rattle.greedy.specs.Composing.{usual, whole}
 use Rattle.shortest.specs.Orders.{shortestLegend}
 use Rattle.answers.specs.declared.Shortest.{Shortest}
-use Rattle.answers.specs.Shortest.{shortestFault, shortestOf}
+use Rattle.answers.specs.Shortest.{shortestRows, shortestFault, shortestOf}
 
 pub record Sought : Type 0 where
   pub least : ℕ
@@ -34,7 +36,7 @@ sought m s es w l r = record { least = m; letters = s; ends = es; cells = w; roo
 abbrev pub soughts : List Sought
 soughts =
     sought 1 "" [] 32000 0 (found 0 0 (replicate 10 0))
-    -- CA, AB, ADA: five letters, just so many are lent
+    -- CA, AB, ADA: five letters, and as many are lent
     ∷ sought 1 "CAABADA" (2 ∷ 4 ∷ 7 ∷ []) 32000 5 (found 5 3 (1 ∷ 3 ∷ 2 ∷ replicate 7 0))
     ∷ sought 1 "CAABADA" (2 ∷ 4 ∷ 7 ∷ []) 32000 4 (refused 8 5)
     -- with a least overlap of 2 nothing is shared
@@ -50,6 +52,13 @@ soughts =
     -- twelve slips of which one is kept
     ∷ sought 1 "AAAAAAAAAAAA" (1 ∷ 2 ∷ 3 ∷ 4 ∷ 5 ∷ 6 ∷ 7 ∷ 8 ∷ 9 ∷ 10 ∷ 11 ∷ 12 ∷ []) 32000 1 (found 1 1 (1 ∷ replicate 9 0))
     ∷ []
+
+-- the row of 20 alone, of ten kept slips and of eleven: the orders of ten slips are too many to be computed here
+abbrev twenty : ℕ → Refusal
+twenty n = headOr accepted (shortestRows (whole usual (map (λ (i : ℕ). (64 + i) ∷ []) (upFrom 1 n))) 2000)
+
+pub twenties : map twenty (10 ∷ 11 ∷ []) ≡ (accepted ∷ refusal 20 0 ∷ [])
+twenties = refl
 
 abbrev computed : Sought → Sought
 computed x =
