@@ -15,6 +15,7 @@ use Rattle.words.specs.Lists.{over}
 use Rattle.words.proofs.Buffers.{length-over}
 use Rattle.tables.specs.Tables.{table}
 use Rattle.trays.specs.declared.Refusal.{Refusal}
+use Rattle.trays.specs.declared.Settings.{Settings}
 use Rattle.trays.specs.Limits.{maxSlips, workNeed}
 use Rattle.trays.specs.Slips.{slipsOf}
 use Rattle.trays.specs.Faults.{refusal, accepted, firstRow, written, trayRows, trayFault, setRows}
@@ -29,7 +30,7 @@ use Rattle.sheet_rule.specs.Sheets.{detailWidth, refusedLine, refusedSize, comp
 use Rattle.sheet_lines.specs.steps.Lines.{Printed, ComposeAsks}
 use Rattle.sheet_rule.specs.Programs.{traySheet}
 use Rattle.sheet_sizes.proofs.Fitting.{compose-fits}
-use Rattle.sheet_sizes.proofs.RefusalsFit.{tray-refusal-fits}
+use Rattle.sheet_sizes.proofs.ComposeRefusals.{composed-detail-fits}
 use Rattle.sheet_sizes.proofs.Sizes.{compose-asks}
 use Rattle.sheet_sizes.proofs.Flat.{compose-lines-are}
 use Rattle.sheet_sizes.proofs.Printing.{printed-is}
@@ -48,6 +49,14 @@ pub record SheetCounts (w′ l′ : List ℕ) (r : Composed) : Type 0 where
   pub slips-few : r .slips ≤ maxSlips
   pub legend-fits : r .legend ≤ length l′
   pub work : workNeed ≤ length w′
+
+-- a refusal fits its columns, whatever was set and taken: that it is the tray's own is for `tray-refused`
+pub refused-can : {g : Settings} {s es w w′ l l′ o : List ℕ} {j p : ℕ} {r : Composed} → TrayRoom w l o → Staged g s es w w′ l l′ j p r
+    → (r .detail < 10 ^ detailWidth) × (refusedSize ≤ length o)
+refused-can {g} {s} {es} {w} {l = l} {j = j} {p = p} room st = (
+  rw (st .answer-is) (composed-detail-fits g s es (length w) (length l) j p),
+  omega (arith, room .sheet),
+)
 
 module _ (s es w l o : List ℕ) (room : TrayRoom w l o) where
   abbrev ss : List (List ℕ)
@@ -97,15 +106,6 @@ module _ (s es w l o : List ℕ) (room : TrayRoom w l o) where
 
     -- turned back: the line of the tray's own refusal
     module _ (z : r .number ≡ 0 → ⊥) where
-      refused-as : r ≡ refusedBy (trayFault s es)
-      refused-as = tray-cases (λ h e t. absurd (z (ap (λ (c : Composed). c .number) e))) (λ n h e. e)
-
-      pub refused-can : (r .detail < 10 ^ detailWidth) × (refusedSize ≤ length o)
-      refused-can = (
-        rw refused-as (tray-refusal-fits s es .detail-fits),
-        omega (arith, room .sheet),
-      )
-
       pub tray-refused : (o′ : List ℕ) (k : ℕ) → Printed (refusedLine (refusal (r .number) (r .detail))) o o′ k → Printed (traySheet s es) o o′ k
       tray-refused o′ k p =
           tray-cases (λ h e t. absurd (z (ap (λ (c : Composed). c .number) e)))

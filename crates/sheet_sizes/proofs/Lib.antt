@@ -1,6 +1,7 @@
 -- Laws.
 pub mod Fitting
 pub mod RefusalsFit
+pub mod ComposeRefusals
 pub mod Sizes
 pub mod Printing
 pub mod ProgramSizes

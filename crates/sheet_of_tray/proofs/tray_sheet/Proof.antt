@@ -10,9 +10,8 @@ start composed = composed .before .before .before .before .before .before .befor
 
 refused-line-requires : tie.Need-refused-line-requires
 refused-line-requires c κs =
-    let refused = c .before in
-    let composed = refused .before .before .before .before .before .before in
-    refused-can _ _ _ _ _ (start composed .pre) _ _ _ (composed .compose-staged .ensures) (refused .if1 .taken)
+    let composed = c .before .before .before .before .before .before .before in
+    refused-can (start composed .pre) (composed .compose-staged .ensures)
 
 returns : tie.Need-returns
 returns c = search tray-refused
