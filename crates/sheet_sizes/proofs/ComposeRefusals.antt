@@ -7,37 +7,31 @@ use Prim.Native.Nat.{ℕ, zero, suc, _^_, _≤_, _<_}
 use native.Mathlib.Omega.{arith}
 use lib.Dec.{eqb, ltb}
 use lib.ListN.{length}
-use Rattle.words.proofs.Sums.{length-sum}
 use Rattle.trays.specs.declared.Refusal.{Refusal}
 use Rattle.trays.specs.declared.Settings.{Settings}
-use Rattle.trays.specs.Limits.{maxSlips, workNeed, maxLeast}
+use Rattle.trays.specs.Limits.{workNeed, maxLeast}
 use Rattle.trays.specs.Slips.{slipsOf}
 use Rattle.trays.specs.Faults.{firstRow, leastRow, trayFault, setRows, setFault}
 use Rattle.trays.proofs.Rows.{rows-append, by-number}
 use Rattle.trays.proofs.SetTrays.{set-tells}
 use Rattle.greedy.specs.Composing.{whole, joinsOf, legendOf}
-use Rattle.greedy.proofs.Chains.{chains-fewer}
-use Rattle.greedy.proofs.KeptSizes.{TraySlips, traySlips, joins-rep, kept-few, legend-small}
+use Rattle.greedy.proofs.KeptSizes.{TraySlips, traySlips, legend-small}
 use Rattle.answers.specs.declared.Composed.{Composed}
 use Rattle.answers.specs.WorkArea.{workRow}
 use Rattle.answers.specs.Composing.{roomRows, composeFault, composedBy, composedOf}
 use Rattle.sheet_rule.specs.Sheets.{detailWidth}
 use Rattle.sheet_sizes.specs.Fits.{RefusalFits}
+use Rattle.sheet_sizes.proofs.Fitting.{joins-fewer}
 use Rattle.sheet_sizes.proofs.RefusalsFit.{row-fits, or-fits, rows-fit, tray-refusal-fits}
 
 module _ (g : Settings) (s es : List ℕ) where
-  open TraySlips (traySlips s es) using (ss, K)
+  open TraySlips (traySlips s es) using (ss)
 
   abbrev need : ℕ
   need = length (legendOf (whole g ss))
 
   abbrev joins : ℕ
   joins = length (joinsOf (whole g ss))
-
-  joins-few : trayFault s es .number ≡ 0 → joins ≤ maxSlips
-  joins-few acc =
-      let (Cs, R) = joins-rep s es acc g in
-      omega (arith, R .count, chains-fewer Cs, R .all (λ i. 1), length-sum K, kept-few s es acc)
 
   set-fits : RefusalFits (setFault (g .least) s es)
   unfolding setFault trayFault
@@ -56,7 +50,7 @@ module _ (g : Settings) (s es : List ℕ) where
           row-fits 7 (ltb w workNeed) 0 (omega arith) (omega arith),
           (
             row-fits 8 (ltb l need) need (omega arith) (omega (arith, legend-small s es acc g)),
-            (row-fits 9 (ltb j joins || ltb p (length ss)) joins (omega arith) (omega (arith, joins-few acc)), tt),
+            (row-fits 9 (ltb j joins || ltb p (length ss)) joins (omega arith) (omega (arith, joins-fewer s es acc g)), tt),
           ),
         )
 

@@ -17,6 +17,7 @@ use Rattle.words.proofs.Maps.{all-each}
 use Rattle.words.proofs.Sums.{sum, All, all-in, all-at, held-in, length-sum}
 use Rattle.words.proofs.Overlaps.{overlapFor-fits}
 use Rattle.trays.specs.Limits.{maxSlips, maxText}
+use Rattle.trays.specs.declared.Settings.{Settings}
 use Rattle.trays.specs.Slips.{slipsOf, slip, numbers}
 use Rattle.trays.specs.Aside.{counted}
 use Rattle.trays.specs.Faults.{trayFault}
@@ -54,9 +55,9 @@ module _ (s es : List ℕ) (acc : trayFault s es .number ≡ 0) where
         omega (arith, o, overlapFor-fits (counted 1) (slip ss (j .left)) (slip ss (j .right)), accepted-spanned s es acc .short (j .right) p b),
       )
 
-  joins-fewer : length (joinsOf (whole usual ss)) ≤ maxSlips - 1
-  joins-fewer =
-      let (Cs, R) = joins-rep s es acc usual in
+  pub joins-fewer : (g : Settings) → length (joinsOf (whole g ss)) ≤ maxSlips - 1
+  joins-fewer g =
+      let (Cs, R) = joins-rep s es acc g in
       omega (arith, R .count, fewer Cs (maxSlips - 1) (omega (arith, chains-fewer Cs, R .all (λ i. 1), length-sum K, kept-few s es acc)))
 
   pub compose-fits : ComposeFits ss
@@ -73,7 +74,7 @@ module _ (s es : List ℕ) (acc : trayFault s es .number ≡ 0) where
         joins =
             all-in JoinFits (joinsOf (whole usual ss))
             (λ j m. join-fits j (all-at (Arc (weight (counted 1) ss) K) (joinsOf (whole usual ss)) j (joins-rep s es acc usual .1 .arcs) m));
-        count = joins-fewer;
+        count = joins-fewer usual;
       }
 
 -- occurrences: at each place at most one of each slip
