@@ -37,7 +37,6 @@ fn the_definitions_have_them() {
     );
 }
 
-/// `bindings/made` writes them there.
 #[test]
 fn the_c_header_has_them() {
     let part = |(_, name, number)| format!(" KOTSGHANE_{name} = {number}");

@@ -1,4 +1,4 @@
-//! The files of the program `trials` are what generator and plain program make today. `bindings/made` writes them anew.
+//! The files of the program `trials` are what generator and plain program make today. `tests/write-trials` writes them anew.
 use plain::cases;
 
 /// The file of the program, compared line by line, so that a difference is short.

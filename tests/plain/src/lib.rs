@@ -14,7 +14,7 @@ pub mod compose;
 pub mod file;
 pub mod find;
 pub mod fold;
-#[path = "../../rust/src/limits.rs"]
+#[path = "../../../bindings/rust/src/limits.rs"]
 mod limits;
 pub mod made;
 pub mod merge;
