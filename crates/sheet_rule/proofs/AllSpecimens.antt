@@ -5,7 +5,6 @@ use mathlib.Core.List.{List, [], _∷_, _++_, map}
 use Prim.Native.Nat.{ℕ, _+_}
 use lib.ListN.{replicate}
 use Rattle.words.specs.Quoted.{word}
-use Rattle.trays.specs.Limits.{maxSlip}
 use Rattle.trays.specs.Faults.{refusal, trayFault}
 use Rattle.fold_rule.specs.Folding.{fold}
 use Rattle.file_rule.specs.Faults.{readFault}
@@ -65,16 +64,16 @@ pub compose-file-specimens :
 unfolding decimal column composeSheetOf trayFault fold readFault composeSheetFault composeSheet
 compose-file-specimens = refl
 
--- files stored where a slip could have 8 letters more, with slips of maxSlip letters, of 1 and of 8 more: in capitals, which were composed
+-- files stored where a slip could have 40 letters, with slips of 32, 33 and 40: in capitals, which were composed
 -- unfolded too, and in small letters, which were not; both give 3 with the lowest too long slip now
 abbrev line : ℕ → ℕ → ℕ → List ℕ
 line letter i n = column 4 i ++ column 4 n ++ word " " ++ replicate n letter ++ word "\n"
 
 abbrev stored : ℕ → List ℕ
-stored letter = line letter 1 maxSlip ++ line letter 2 (maxSlip + 1) ++ line letter 3 (maxSlip + 8)
+stored letter = line letter 1 32 ++ line letter 2 33 ++ line letter 3 40
 
 pub stored-specimens :
-    map (λ (file : List ℕ). storedFault (maxSlip + 8) (lettersIn file) file ∷ storedFault (maxSlip + 8) (typedIn file) file ∷ composeSheetFault file ∷ [])
+    map (λ (file : List ℕ). storedFault 40 (lettersIn file) file ∷ storedFault 40 (typedIn file) file ∷ composeSheetFault file ∷ [])
     (stored 65 ∷ stored 97 ∷ [])
     ≡ ((refusal 0 0 ∷ refusal 0 0 ∷ refusal 3 2 ∷ []) ∷ (refusal 0 0 ∷ refusal 6 1 ∷ refusal 3 2 ∷ []) ∷ [])
 unfolding decimal column trayFault fold readFault composeSheetFault

@@ -16,7 +16,6 @@ use Rattle.words.specs.Words.{overlapFor}
 use Rattle.words.specs.Quoted.{word}
 use Rattle.trays.specs.declared.Refusal.{Refusal}
 use Rattle.trays.specs.declared.Pair.{Pair}
-use Rattle.trays.specs.Limits.{maxSlips, maxSlip}
 use Rattle.trays.specs.Slips.{numbers}
 use Rattle.trays.specs.Aside.{kept, counted}
 use Rattle.trays.specs.Faults.{firstRow, trayRowsFor, trayFault, setFault, slipFault, pairFault, refusal}
@@ -92,14 +91,14 @@ abbrev rows : ℕ → ℕ → Tray
 rows n k = plain (n * k) (map (λ i. i * k) (upFrom 1 n))
 
 abbrev filled : ℕ → Tray
-filled n = plain n (those (λ e. ltb e n) (map (λ i. i * maxSlip) (upFrom 1 maxSlips)) ++ (n ∷ []))
+filled n = plain n (those (λ e. ltb e n) (map (λ i. i * 32) (upFrom 1 200)) ++ (n ∷ []))
 
 abbrev pub faultOf : Tray → Refusal
 faultOf t = trayFault (t .letters) (t .ends)
 
--- the longest slip, and one letter more: alone, and behind the longest
+-- the longest slip, and one letter more: alone, and after the longest
 pub longest-slips :
-    map faultOf (rows 1 maxSlip ∷ rows 1 (suc maxSlip) ∷ plain (2 * maxSlip + 1) (maxSlip ∷ (2 * maxSlip + 1) ∷ []) ∷ [])
+    map faultOf (rows 1 32 ∷ rows 1 33 ∷ plain 65 (32 ∷ 65 ∷ []) ∷ [])
     ≡ (refusal 0 0 ∷ refusal 3 1 ∷ refusal 3 2 ∷ [])
 unfolding trayFault
 longest-slips = refl
@@ -116,7 +115,7 @@ fault-specimens =
     ∷ specimen (tray "" (0 ∷ [])) (refusal 2 1)
     ∷ specimen (tray "ab" (2 ∷ 1 ∷ [])) (refusal 2 2)
     -- over the limit of a tray too
-    ∷ specimen (rows 200 (suc maxSlip)) (refusal 3 1)
+    ∷ specimen (rows 200 33) (refusal 3 1)
     ∷ specimen (tray "ab" (1 ∷ [])) (refusal 5 0)
     ∷ specimen (tray "AbC[" (1 ∷ 3 ∷ 4 ∷ [])) (refusal 6 2)
     ∷ []
@@ -125,12 +124,12 @@ pub faults-computed : map (λ s. faultOf (s .given)) fault-specimens ≡ map (λ
 unfolding fault-specimens trayFault
 faults-computed = refl
 
--- a tray stored where a slip could have 8 letters more: slips of maxSlip letters, of 1 and of 8 more; 3 names the lowest too long one, not the longest
+-- a tray stored where a slip could have 40 letters: slips of 32, 33 and 40; 3 names the lowest too long one, not the longest
 abbrev stored : Tray
-stored = plain (3 * maxSlip + 9) (maxSlip ∷ (2 * maxSlip + 1) ∷ (3 * maxSlip + 9) ∷ [])
+stored = plain 105 (32 ∷ 65 ∷ 105 ∷ [])
 
 pub stored-specimen :
-    (firstRow (trayRowsFor (maxSlip + 8) (stored .letters) (stored .ends)) ∷ faultOf stored ∷ []) ≡ (refusal 0 0 ∷ refusal 3 2 ∷ [])
+    (firstRow (trayRowsFor 40 (stored .letters) (stored .ends)) ∷ faultOf stored ∷ []) ≡ (refusal 0 0 ∷ refusal 3 2 ∷ [])
 unfolding trayFault
 stored-specimen = refl
 

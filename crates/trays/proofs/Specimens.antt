@@ -11,11 +11,11 @@ use Rattle.trays.specs.Slips.{slipsOf, slip, numbers, isLetter, spanOf, 
 use Rattle.trays.specs.Faults.{refusal, written, trayFault, slipFault, pairFault}
 use Rattle.trays.specs.Answers.{Stretch}
 
--- all but the longest slip, whose number the specimens take from its definition
+-- each by its number in documents 01 and 02
 limits :
     _≡_ {A = List ℕ}
-    (maxSlips ∷ maxLetters ∷ maxText ∷ workNeed ∷ maxFile ∷ endsNeed ∷ maxShortest ∷ maxLeast ∷ [])
-    (200 ∷ 2000 ∷ 2000 ∷ 32000 ∷ 16384 ∷ 1700 ∷ 10 ∷ 32 ∷ [])
+    (maxSlips ∷ maxSlip ∷ maxLetters ∷ maxText ∷ workNeed ∷ maxFile ∷ endsNeed ∷ maxShortest ∷ maxLeast ∷ [])
+    (200 ∷ 32 ∷ 2000 ∷ 2000 ∷ 32000 ∷ 16384 ∷ 1700 ∷ 10 ∷ 32 ∷ [])
 limits = refl
 
 -- 27 signs: the full stop, and A to Z
@@ -48,10 +48,10 @@ spans = refl
 -- bad letters, and one row fewer at fault each time: the first row wins; its detail is the lowest slip at fault
 first-rows :
     (trayFault (upFrom 1 2001) (upFrom 0 201)
-    ∷ trayFault (upFrom 1 2001) (suc maxSlip ∷ 100 ∷ 99 ∷ 98 ∷ [])
-    ∷ trayFault (upFrom 1 2001) (maxSlip ∷ (2 * maxSlip + 1) ∷ (3 * maxSlip + 2) ∷ [])
-    ∷ trayFault (upFrom 1 2001) (maxSlip ∷ [])
-    ∷ trayFault (upFrom 1 2000) (maxSlip ∷ [])
+    ∷ trayFault (upFrom 1 2001) (33 ∷ 100 ∷ 99 ∷ 98 ∷ [])
+    ∷ trayFault (upFrom 1 2001) (32 ∷ 65 ∷ 98 ∷ [])
+    ∷ trayFault (upFrom 1 2001) (32 ∷ [])
+    ∷ trayFault (upFrom 1 2000) (32 ∷ [])
     ∷ trayFault (word "AB--E") (3 ∷ 5 ∷ [])
     ∷ trayFault (word "ABC-E") (3 ∷ 5 ∷ [])
     ∷ [])
