@@ -13,7 +13,8 @@ use Rattle.sheet_rule.specs.Sheets.{column, threeLine, trayLine, slipLine, sign
 use Rattle.sheet_rule.specs.Sheets.{slipLineAt, joinLineAt, foundLineAt, composeLines, findLines, placeWidth, countWidth}
 use Rattle.sheet_rule.specs.Sheets.{detailWidth, traySize, slipSize, joinSize, findSize, foundSize, refusedSize}
 use Rattle.sheet_columns.specs.steps.Wrote.{Wrote}
-use Rattle.sheet_lines.specs.steps.Lines.{Printed, JoinsFit, ComposeAsks}
+use Rattle.sheet_lines.specs.steps.Lines.{JoinsFit, ComposeAsks}
+use Rattle.sheet_rule.specs.Lent.{Printed}
 use Rattle.sheet_columns.proofs.Puts.{put-more}
 
 pub printed : (n r : ℕ) (ys old new : List ℕ) → Wrote 0 n ys old new r → Printed ys old new r

@@ -6,6 +6,7 @@ ghost use lib.ListN.{length, getD};
 ghost use Rattle.trays.specs.Faults.{refusal};
 ghost use Rattle.sheet_rule.specs.Sheets as S;
 ghost use Rattle.sheet_columns.specs.steps.Wrote as W;
+ghost use Rattle.sheet_rule.specs.Lent as L;
 ghost use Rattle.sheet_lines.specs.steps.Lines as P;
 use answers::Composed;
 use answers::JOIN_CELLS;
@@ -132,7 +133,7 @@ pub fn compose_lines(
     out: &mut [u8],
 ) -> usize
     requires { ⌜ P.ComposeAsks c (now ends) (now joins) (now places) (now legend) (length (now out)) ⌝ }
-    ensures { λ r. ⌜ P.Printed (S.composeLines c (now (ends .entry)) (now (joins .entry)) (now (places .entry)) (now (legend .entry)))
+    ensures { λ r. ⌜ L.Printed (S.composeLines c (now (ends .entry)) (now (joins .entry)) (now (places .entry)) (now (legend .entry)))
         (now (out .entry)) (now (out .exit)) r ⌝ }
 {
     let slips = tray_line(out, 0, c);
@@ -189,7 +190,7 @@ pub fn find_lines(
     out: &mut [u8],
 ) -> usize
     requires { ⌜ P.FindAsks letters moves count (now found) (length (now out)) ⌝ }
-    ensures { λ r. ⌜ P.Printed (S.findLines letters moves count (now (found .entry))) (now (out .entry)) (now (out .exit)) r ⌝ }
+    ensures { λ r. ⌜ L.Printed (S.findLines letters moves count (now (found .entry))) (now (out .entry)) (now (out .exit)) r ⌝ }
 {
     let first = find_line(out, 0, letters, moves, count);
     found_lines(out, first, found, count)
@@ -198,7 +199,7 @@ pub fn find_lines(
 // The line of a refusal. Answers how many bytes it has.
 pub fn refused_line(number: u8, detail: u32, out: &mut [u8]) -> usize
     requires { ⌜ (detail < 10 ^ S.detailWidth) × (S.refusedSize ≤ length (now out)) ⌝ }
-    ensures { λ r. ⌜ P.Printed (S.refusedLine (refusal number detail)) (now (out .entry)) (now (out .exit)) r ⌝ }
+    ensures { λ r. ⌜ L.Printed (S.refusedLine (refusal number detail)) (now (out .entry)) (now (out .exit)) r ⌝ }
 {
     let a = sheet_columns::put_text(out, 0, b"REFUSED");
     let b = sheet_columns::put_number(out, a, 4, number as usize);

@@ -2,13 +2,13 @@
 --   file-..                   == a file that is turned back, or read
 --   compose-.., find-..       == the two ways through compose_sheet and find_sheet
 -- Refusal 15 is silent: the lent letters and ends are enough.
-use mathlib.Core.Path.{_≡_, sym, _∙_, ap}
-use mathlib.Core.List.{List}
+use mathlib.Core.Path.{_≡_, refl, sym, _∙_, ap}
+use mathlib.Core.List.{List, _++_}
 use Prim.Native.Nat.{ℕ, zero, suc, _^_, _≤_, _<_, _*_}
 use borrow.Author.Tests.{le-ltb}
 use native.Mathlib.Omega.{arith}
 use lib.Seq.{length-take-le}
-use lib.ListN.{length, take}
+use lib.ListN.{length, take, drop, length-append, length-drop}
 use Rattle.trays.specs.declared.Refusal.{Refusal}
 use Rattle.trays.specs.declared.Written.{Written}
 use Rattle.trays.specs.Limits.{maxFile, endsNeed}
@@ -20,12 +20,12 @@ use Rattle.trays.proofs.WrittenSlips.{refused-as, silent, letters-first, ends-f
 use Rattle.file_rule.specs.Faults.{readFault}
 use Rattle.file_rule.specs.Answers.{slipsIn, ReadSays}
 use Rattle.sheet_rule.specs.Sheets.{detailWidth, refusedLine, refusedSize, composeSheetOf, findSheetOf, maxFound}
-use Rattle.sheet_lines.specs.steps.Lines.{Printed}
+use Rattle.sheet_rule.specs.Lent.{FileRoom, ComposeRoom, FindRoom, Printed, TrayRead, ComposeSheetSays, FindSheetSays}
 use Rattle.sheet_rule.specs.Programs.{lettersIn, endsIn, traySheet, composeSheetFault, composeSheet, textIn, textFault, textSheet, findSheetFault, findSheet}
 use Rattle.sheet_sizes.proofs.RefusalsFit.{read-refusal-fits}
 use Rattle.sheet_sizes.proofs.Printing.{printed-is}
-use Rattle.sheet_of_text.specs.steps.Lent.{TextRoom, Filed}
-use Rattle.sheet_of_files.specs.steps.Lent.{FileRoom, ComposeRoom, FindRoom}
+use Rattle.sheet_of_tray.specs.steps.Lent.{TraySheetSays}
+use Rattle.sheet_of_text.specs.steps.Lent.{TextRoom, TextSheetSays, Filed}
 
 -- what turns the file itself back, whatever is lent
 abbrev own : List ℕ → Refusal
@@ -56,6 +56,9 @@ module _ (s a b : List ℕ) (room : FileRoom a b) where
     file-silent : r .number ≡ 0 → own s .number ≡ 0
     file-silent z = silent (own s) (slipsIn s) a a′ b b′ r read z
 
+tray-read : (s a a′ b b′ : List ℕ) (r : Written) → ReadSays s a a′ b b′ r → TrayRead s a a′ b b′
+tray-read s a a′ b b′ r t = record { letters-are = t .letters-are; ends-are = t .ends-are }
+
 -- what `compose` prints, where f turns the file back
 abbrev composed : List ℕ → Refusal → List ℕ
 composed s f = elim (f .number) [ zero ↦ composeSheetOf (slipsOf (lettersIn s) (endsIn s)) | suc n ↦ refusedLine f ]
@@ -76,17 +79,28 @@ module _ (s : List ℕ) where
     compose-can z = refused-can s a b (room .file) a′ b′ r t z o (omega (arith, room .tray .sheet))
 
     pub compose-refused : (r .number ≡ 0 → ⊥) → (o′ : List ℕ) (k : ℕ) → Printed (refusedLine (refusal (r .number) (r .detail))) o o′ k →
-        Printed (composeSheet s) o o′ k
+        ComposeSheetSays s a a′ b b′ w w l l o o′ k
     compose-refused z o′ k p =
         let (n, h) = speaking (own s) (file-speaks s a b (room .file) a′ b′ r t z) in
-        printed-is (refusedLine (refusal (r .number) (r .detail))) (composeSheet s) o o′ k
-        (ap refusedLine (file-refused s a b (room .file) a′ b′ r t z) ∙ sym (compose-speaks n (ap (λ (f : Refusal). f .number) h))) p
+        record {
+          sheet = printed-is (refusedLine (refusal (r .number) (r .detail))) (composeSheet s) o o′ k
+              (ap refusedLine (file-refused s a b (room .file) a′ b′ r t z) ∙ sym (compose-speaks n (ap (λ (f : Refusal). f .number) h))) p;
+          tray = tray-read s a a′ b b′ r t;
+          work = refl;
+          legend = refl;
+        }
 
-    pub compose-printed : r .number ≡ 0 → (o′ : List ℕ) (k : ℕ) → Printed (traySheet (take (r .letters) a′) (take (r .slips) b′)) o o′ k →
-        Printed (composeSheet s) o o′ k
-    compose-printed z o′ k p =
-        printed-is (traySheet (take (r .letters) a′) (take (r .slips) b′)) (composeSheet s) o o′ k
-        (rw (letters-first _ _ a a′ b b′ r t z, ends-first _ _ a a′ b b′ r t z) (sym (compose-silent (file-silent s a b (room .file) a′ b′ r t z)))) p
+    pub compose-printed : r .number ≡ 0 → (w′ l′ o′ : List ℕ) (k : ℕ) →
+        TraySheetSays (take (r .letters) a′) (take (r .slips) b′) w w′ l l′ o o′ k → ComposeSheetSays s a a′ b b′ w w′ l l′ o o′ k
+    compose-printed z w′ l′ o′ k p =
+        record {
+          sheet = printed-is (traySheet (take (r .letters) a′) (take (r .slips) b′)) (composeSheet s) o o′ k
+              (rw (letters-first _ _ a a′ b b′ r t z, ends-first _ _ a a′ b b′ r t z)
+              (sym (compose-silent (file-silent s a b (room .file) a′ b′ r t z)))) (p .sheet);
+          tray = tray-read s a a′ b b′ r t;
+          work = p .work;
+          legend = p .legend;
+        }
 
 -- what `find` prints, where f turns the files back
 abbrev found : List ℕ → List ℕ → Refusal → List ℕ
@@ -116,14 +130,29 @@ module _ (s x : List ℕ) where
 
   module _ (a b w f o : List ℕ) (room : FindRoom a b w f o) (a′ b′ : List ℕ) (r : Written) (t : ReadSays s a a′ b b′ r) where
     pub find-refused : (r .number ≡ 0 → ⊥) → (o′ : List ℕ) (k : ℕ) → Printed (refusedLine (refusal (r .number) (r .detail))) o o′ k →
-        Printed (findSheet s x) o o′ k
+        FindSheetSays s x x a a′ b b′ w w f f o o′ k
     find-refused z o′ k p =
         let (n, h) = speaking (own s) (file-speaks s a b (room .file) a′ b′ r t z) in
-        printed-is (refusedLine (refusal (r .number) (r .detail))) (findSheet s x) o o′ k
-        (ap refusedLine (file-refused s a b (room .file) a′ b′ r t z) ∙ sym (find-speaks n (ap (λ (f : Refusal). f .number) h))) p
+        record {
+          sheet = printed-is (refusedLine (refusal (r .number) (r .detail))) (findSheet s x) o o′ k
+              (ap refusedLine (file-refused s a b (room .file) a′ b′ r t z) ∙ sym (find-speaks n (ap (λ (f : Refusal). f .number) h))) p;
+          tray = tray-read s a a′ b b′ r t;
+          text = refl;
+          work = refl;
+          found = refl;
+        }
 
-    pub find-printed : r .number ≡ 0 → (x′ : List ℕ) (m : ℕ) → Filed x x′ m → (o′ : List ℕ) (k : ℕ) →
-        Printed (textSheet (take (r .letters) a′) (take (r .slips) b′) (take m x′)) o o′ k → Printed (findSheet s x) o o′ k
-    find-printed z x′ m q o′ k p =
-        printed-is (textSheet (take (r .letters) a′) (take (r .slips) b′) (take m x′)) (findSheet s x) o o′ k
-        (rw (letters-first _ _ a a′ b b′ r t z, ends-first _ _ a a′ b b′ r t z, q .is) (sym (find-silent (file-silent s a b (room .file) a′ b′ r t z)))) p
+    -- the list of occurrences comes back in two parts: what was lent, and the rest
+    pub find-printed : r .number ≡ 0 → (x′ : List ℕ) (m : ℕ) → Filed x x′ m → (w′ f′ o′ : List ℕ) (k : ℕ) →
+        TextSheetSays (take (r .letters) a′) (take (r .slips) b′) (take m x′) w w′ (take (2 * maxFound) f) f′ o o′ k →
+        FindSheetSays s x x′ a a′ b b′ w w′ f (f′ ++ drop (2 * maxFound) f) o o′ k
+    find-printed z x′ m q w′ f′ o′ k p =
+        record {
+          sheet = printed-is (textSheet (take (r .letters) a′) (take (r .slips) b′) (take m x′)) (findSheet s x) o o′ k
+              (rw (letters-first _ _ a a′ b b′ r t z, ends-first _ _ a a′ b b′ r t z, q .is)
+              (sym (find-silent (file-silent s a b (room .file) a′ b′ r t z)))) (p .sheet);
+          tray = tray-read s a a′ b b′ r t;
+          text = q .same;
+          work = p .work;
+          found = rw (length-append, length-drop, p .found, length-take-le (2 * maxFound) f (room .found)) (omega (arith, room .found));
+        }

@@ -1,7 +1,5 @@
 // From the bytes of a program's files to the whole sheet that it prints.
-ghost use Rattle.sheet_lines.specs.steps.Lines.{Printed};
-ghost use Rattle.sheet_rule.specs.Programs.{composeSheet, findSheet};
-ghost use Rattle.sheet_of_files.specs.steps.Lent.{ComposeRoom, FindRoom};
+ghost use Rattle.sheet_rule.specs.Lent.{ComposeRoom, FindRoom, ComposeSheetSays, FindSheetSays};
 use sheet_rule::MAX_FOUND;
 
 // How many numbers the occurrences that `find` lists have, two each.
@@ -17,7 +15,8 @@ pub fn compose_sheet(
     out: &mut [u8],
 ) -> usize
     requires { ⌜ ComposeRoom (now letters) (now ends) (now work) (now legend) (now out) ⌝ }
-    ensures { λ r. ⌜ Printed (composeSheet (now (file .entry))) (now (out .entry)) (now (out .exit)) r ⌝ }
+    ensures { λ r. ⌜ ComposeSheetSays (now (file .entry)) (now (letters .entry)) (now (letters .exit)) (now (ends .entry)) (now (ends .exit))
+        (now (work .entry)) (now (work .exit)) (now (legend .entry)) (now (legend .exit)) (now (out .entry)) (now (out .exit)) r ⌝ }
 {
     let read = file_read::read_tray(file, letters, ends);
     if read.number != 0 {
@@ -40,7 +39,9 @@ pub fn find_sheet(
     out: &mut [u8],
 ) -> usize
     requires { ⌜ FindRoom (now letters) (now ends) (now work) (now found) (now out) ⌝ }
-    ensures { λ r. ⌜ Printed (findSheet (now (tray .entry)) (now (text .entry))) (now (out .entry)) (now (out .exit)) r ⌝ }
+    ensures { λ r. ⌜ FindSheetSays (now (tray .entry)) (now (text .entry)) (now (text .exit)) (now (letters .entry)) (now (letters .exit))
+        (now (ends .entry)) (now (ends .exit)) (now (work .entry)) (now (work .exit)) (now (found .entry)) (now (found .exit))
+        (now (out .entry)) (now (out .exit)) r ⌝ }
 {
     let got = file_read::read_tray(tray, letters, ends);
     if got.number != 0 {

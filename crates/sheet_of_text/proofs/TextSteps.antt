@@ -15,7 +15,7 @@ use Rattle.trays.specs.declared.Refusal.{Refusal}
 use Rattle.trays.specs.Limits.{workNeed}
 use Rattle.trays.specs.Slips.{slipsOf}
 use Rattle.trays.specs.Faults.{refusal, accepted, row, orElse, firstRow, trayRows}
-use Rattle.trays.proofs.Rows.{by-number}
+use Rattle.trays.proofs.Rows.{by-number, written-none}
 use Rattle.matching.specs.Occurrences.{occurrences}
 use Rattle.answers.specs.declared.Search.{Search}
 use Rattle.answers.specs.Finding as F
@@ -24,12 +24,13 @@ use Rattle.answers.specs.Finding.{searchOutcome, searchRefused}
 use Rattle.answers.specs.Finding.{FindFlat}
 use Rattle.find_core.proofs.Answering.{answer-found, answer-refused}
 use Rattle.sheet_rule.specs.Sheets.{detailWidth, refusedLine, refusedSize, findLines, findSheetOf, maxFound}
-use Rattle.sheet_lines.specs.steps.Lines.{Printed, FindAsks}
+use Rattle.sheet_lines.specs.steps.Lines.{FindAsks}
+use Rattle.sheet_rule.specs.Lent.{Printed}
 use Rattle.sheet_rule.specs.Programs.{textFault, textSheet}
 use Rattle.answers.proofs.FlatLists.{found-length}
 use Rattle.sheet_sizes.proofs.Printing.{printed-is, find-ready, find-printed}
 use Rattle.sheet_sizes.proofs.TextRows.{TextAccepted, text-tells, text-refusal-fits}
-use Rattle.sheet_of_text.specs.steps.Lent.{TextRoom}
+use Rattle.sheet_of_text.specs.steps.Lent.{TextRoom, TextSheetSays}
 
 -- a silent row among others
 drop-silent : (xs ys : List Refusal) → firstRow ((xs ++ (accepted ∷ [])) ++ ys) ≡ firstRow (xs ++ ys)
@@ -75,10 +76,15 @@ module _ (s es t w f o : List ℕ) (room : TextRoom w f o) where
         omega (arith, room .sheet),
       )
 
-      pub text-refused : (o′ : List ℕ) (k : ℕ) → Printed (refusedLine (refusal (r .number) (r .detail))) o o′ k → Printed (textSheet s es t) o o′ k
+      pub text-refused : (o′ : List ℕ) (k : ℕ) → Printed (refusedLine (refusal (r .number) (r .detail))) o o′ k
+          → TextSheetSays s es t w w′ f f′ o o′ k
       text-refused o′ k p =
-          printed-is (refusedLine (refusal (r .number) (r .detail))) (textSheet s es t) o o′ k
-          (ap refusedLine refused-as ∙ sym (go (textFault s es t .number) refl)) p
+          record {
+            sheet = printed-is (refusedLine (refusal (r .number) (r .detail))) (textSheet s es t) o o′ k
+                (ap refusedLine refused-as ∙ sym (go (textFault s es t .number) refl)) p;
+            work = a .answered .work-is .same;
+            found = ap length (a .found-are ∙ written-none (F.findFault s es t (length w) (length f / 2)) (flatFound (occurrences ss t)) f (rw own-fault speaks));
+          }
         where
           go : (n : ℕ) → textFault s es t .number ≡ n → textSheet s es t ≡ refusedLine (textFault s es t)
           go zero h = absurd (no (textFault s es t .number) speaks h)
@@ -119,11 +125,14 @@ module _ (s es t w f o : List ℕ) (room : TextRoom w f o) where
       pub found-count : 2 * r .count ≡ length (take (2 * r .count) f′)
       found-count = rw found-here (sym flat-long)
 
+      count-few : r .count ≤ maxFound
+      count-few = rw count-is (tells .few)
+
+      found-long : length f′ ≡ length f
+      found-long = ap length stored ∙ length-over (flatFound (occurrences ss t)) f (omega (arith, flat-long, count-few, room .found))
+
       pub found-within : 2 * r .count ≤ length f′
-      found-within =
-          let few : r .count ≤ maxFound = rw count-is (tells .few) in
-          let long : length f′ ≡ length f = ap length stored ∙ length-over (flatFound (occurrences ss t)) f (omega (arith, flat-long, room .found)) in
-          omega (arith, room .found)
+      found-within = omega (arith, count-few, found-long, room .found)
 
       pub lines-can : FindAsks (length t) (r .moves) (r .count) (take (2 * r .count) f′) (length o)
       lines-can =
@@ -131,8 +140,12 @@ module _ (s es t w f o : List ℕ) (room : TextRoom w f o) where
           refl (ap (λ (c : Search). c .moves) answer) count-is found-here (tells .short) (rw count-is (tells .few)) (length o) (room .sheet)
 
       pub text-printed : (o′ : List ℕ) (k : ℕ) → Printed (findLines (length t) (r .moves) (r .count) (take (2 * r .count) f′)) o o′ k →
-          Printed (textSheet s es t) o o′ k
+          TextSheetSays s es t w w′ f f′ o o′ k
       text-printed o′ k p =
-          printed-is (findSheetOf ss t) (textSheet s es t) o o′ k (sym (ap (numbered s es t) silent))
-          (find-printed s es (tells .tray) t (length t) (r .moves) (r .count) (take (2 * r .count) f′)
-          refl (ap (λ (c : Search). c .moves) answer) count-is found-here o o′ k p)
+          record {
+            sheet = printed-is (findSheetOf ss t) (textSheet s es t) o o′ k (sym (ap (numbered s es t) silent))
+                (find-printed s es (tells .tray) t (length t) (r .moves) (r .count) (take (2 * r .count) f′)
+                refl (ap (λ (c : Search). c .moves) answer) count-is found-here o o′ k p);
+            work = a .answered .work-is .same;
+            found = found-long;
+          }

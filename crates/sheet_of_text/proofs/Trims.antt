@@ -8,7 +8,7 @@ use mathlib.Core.List.{List, [], _∷_, _++_, map}
 use Prim.Native.Nat.{ℕ, _-_, _≤_}
 use borrow.Author.Tests.{eq-eqb, ne-eqb}
 use native.Mathlib.Omega.{arith}
-use lib.ListN.{length, getD, take, drop, length-append, length-map}
+use lib.ListN.{length, getD, take, drop, length-append, length-drop, length-map}
 use lib.Seq.{take-length, length-take-le, take-at}
 use Rattle.words.specs.Lists.{lastOr}
 use Rattle.tray_check.proofs.CheckLoops.{last-some}
@@ -37,7 +37,11 @@ module _ (x : List ℕ) (some : length x ≡ 0 → ⊥) where
 pub filed-text : (x p : List ℕ) (m : ℕ) → Trimmed x m → p ≡ map fold (take m x) → Filed x (p ++ drop m x) m
 filed-text x p m q e =
     let n : length p ≡ m = rw (e, length-map) (length-take-le m x (q .within)) in
-    record { within = rw (length-append p (drop m x)) (omega arith); is = take-at p (drop m x) m n ∙ e ∙ ap (map fold) (q .is) }
+    record {
+      same = rw (length-append p (drop m x), length-drop) (omega (arith, q .within));
+      within = rw (length-append p (drop m x)) (omega arith);
+      is = take-at p (drop m x) m n ∙ e ∙ ap (map fold) (q .is);
+    }
 
 pub take-count : (m : ℕ) (x : List ℕ) → m ≤ length x → m ≡ length (take m x)
 take-count m x h = sym (length-take-le m x h)

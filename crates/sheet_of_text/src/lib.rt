@@ -1,7 +1,5 @@
 // From a tray and a text to their sheet, and the text in the bytes of a text file.
-ghost use Rattle.sheet_lines.specs.steps.Lines.{Printed};
-ghost use Rattle.sheet_rule.specs.Programs.{textSheet};
-ghost use Rattle.sheet_of_text.specs.steps.Lent.{TextRoom, Trimmed, Filed};
+ghost use Rattle.sheet_of_text.specs.steps.Lent.{TextRoom, TextSheetSays, Trimmed, Filed};
 use file_rule::LF;
 
 // The length of the text in a text file: one final LF is not counted.
@@ -38,7 +36,8 @@ pub fn text_sheet(
     out: &mut [u8],
 ) -> usize
     requires { ⌜ TextRoom (now work) (now found) (now out) ⌝ }
-    ensures { λ r. ⌜ Printed (textSheet (now (letters .entry)) (now (ends .entry)) (now (text .entry))) (now (out .entry)) (now (out .exit)) r ⌝ }
+    ensures { λ r. ⌜ TextSheetSays (now (letters .entry)) (now (ends .entry)) (now (text .entry)) (now (work .entry)) (now (work .exit))
+        (now (found .entry)) (now (found .exit)) (now (out .entry)) (now (out .exit)) r ⌝ }
 {
     let a = flat_calls::find_flat(letters, ends, text, work, found);
     if a.number != 0 {

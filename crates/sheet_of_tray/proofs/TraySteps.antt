@@ -19,7 +19,7 @@ use Rattle.trays.specs.declared.Settings.{Settings}
 use Rattle.trays.specs.Limits.{maxSlips, workNeed}
 use Rattle.trays.specs.Slips.{slipsOf}
 use Rattle.trays.specs.Faults.{refusal, accepted, firstRow, written, trayRows, trayFault, setRows}
-use Rattle.trays.proofs.Rows.{or-zero, or-some, rows-append}
+use Rattle.trays.proofs.Rows.{or-zero, or-some, rows-append, written-none}
 use Rattle.greedy.specs.Composing.{usual, whole, joinsOf, legendOf}
 use Rattle.layout.specs.Layout.{JOINS, PLACES}
 use Rattle.answers.specs.declared.Composed.{Composed}
@@ -27,14 +27,15 @@ use Rattle.answers.specs.WorkArea.{workRow}
 use Rattle.answers.specs.Composing.{roomRows, composeFault, composedBy, composedOf, outcomeOf, refusedBy, joinCells, flatJoins, placeCells, flatPlaces}
 use Rattle.compose_core.specs.steps.Composing.{Staged}
 use Rattle.sheet_rule.specs.Sheets.{detailWidth, refusedLine, refusedSize, composeLines, composeSheetOf}
-use Rattle.sheet_lines.specs.steps.Lines.{Printed, ComposeAsks}
+use Rattle.sheet_lines.specs.steps.Lines.{ComposeAsks}
+use Rattle.sheet_rule.specs.Lent.{TrayRoom, Printed}
 use Rattle.sheet_rule.specs.Programs.{traySheet}
 use Rattle.sheet_sizes.proofs.Fitting.{compose-fits}
 use Rattle.sheet_sizes.proofs.ComposeRefusals.{composed-detail-fits}
 use Rattle.sheet_sizes.proofs.Sizes.{compose-asks}
 use Rattle.sheet_sizes.proofs.Flat.{compose-lines-are}
 use Rattle.sheet_sizes.proofs.Printing.{printed-is}
-use Rattle.sheet_of_tray.specs.steps.Lent.{TrayRoom}
+use Rattle.sheet_of_tray.specs.steps.Lent.{TraySheetSays}
 
 -- the two cases of a tray's sheet
 pub sheet-silent : (s es : List ℕ) → trayFault s es .number ≡ 0 → traySheet s es ≡ composeSheetOf (slipsOf s es)
@@ -90,7 +91,7 @@ module _ (s es w l o : List ℕ) (room : TrayRoom w l o) where
 
   module _ (w′ l′ : List ℕ) (r : Composed) (st : Staged usual s es w w′ l l′ maxSlips maxSlips r) where
     pub tray-cases : {P : Type 0} → (trayFault s es .number ≡ 0 → r ≡ outcomeOf (whole usual ss) → l′ ≡ over (legendOf (whole usual ss)) l → P) →
-        ((n : ℕ) → trayFault s es .number ≡ suc n → r ≡ refusedBy (trayFault s es) → P) → P
+        ((n : ℕ) → trayFault s es .number ≡ suc n → r ≡ refusedBy (trayFault s es) → l′ ≡ l → P) → P
     unfolding composedOf
     tray-cases {P} good bad = go (trayFault s es .number) refl
       where
@@ -100,47 +101,54 @@ module _ (s es w l o : List ℕ) (room : TrayRoom w l o) where
             let turned : composedBy (trayFault s es) (whole usual ss) ≡ refusedBy (trayFault s es) =
             ap {B = Composed} (λ (m : ℕ). elim m [ zero ↦ outcomeOf (whole usual ss) | suc k ↦ refusedBy (trayFault s es) ]) h in
             bad n h (st .answer-is ∙ ap (λ (f : Refusal). composedBy f (whole usual ss)) (speaks (omega arith)) ∙ turned)
+            (st .legend-is ∙ written-none fault (legendOf (whole usual ss)) l (rw (speaks (omega arith)) (omega arith)))
 
     number-of : (f : Refusal) → r ≡ refusedBy f → r .number ≡ f .number
     number-of f e = ap (λ (c : Composed). c .number) e
 
     -- turned back: the line of the tray's own refusal
     module _ (z : r .number ≡ 0 → ⊥) where
-      pub tray-refused : (o′ : List ℕ) (k : ℕ) → Printed (refusedLine (refusal (r .number) (r .detail))) o o′ k → Printed (traySheet s es) o o′ k
+      pub tray-refused : (o′ : List ℕ) (k : ℕ) → Printed (refusedLine (refusal (r .number) (r .detail))) o o′ k
+          → TraySheetSays s es w w′ l l′ o o′ k
       tray-refused o′ k p =
           tray-cases (λ h e t. absurd (z (ap (λ (c : Composed). c .number) e)))
-          (λ n h e.
-          printed-is (refusedLine (refusal (r .number) (r .detail))) (traySheet s es) o o′ k
-          (ap (λ (c : Composed). refusedLine (refusal (c .number) (c .detail))) e ∙ sym (sheet-speaks s es n h)) p)
+          (λ n h e t. record {
+            sheet = printed-is (refusedLine (refusal (r .number) (r .detail))) (traySheet s es) o o′ k
+                (ap (λ (c : Composed). refusedLine (refusal (c .number) (c .detail))) e ∙ sym (sheet-speaks s es n h)) p;
+            work = st .work-is .same;
+            legend = ap length t;
+          })
 
     -- composed: the sheet
     module _ (z : r .number ≡ 0) where
       tray : trayFault s es .number ≡ 0
-      tray = tray-cases (λ h e t. h) (λ n h e. absurd (no n (sym (number-of (trayFault s es) e ∙ h) ∙ z)))
+      tray = tray-cases (λ h e t. h) (λ n h e t. absurd (no n (sym (number-of (trayFault s es) e ∙ h) ∙ z)))
         where
           no : (n : ℕ) → suc n ≡ 0 → ⊥
           no n q = omega arith
 
       answer : r ≡ outcomeOf (whole usual ss)
-      answer = tray-cases (λ h e t. e) (λ n h e. absurd (no n h tray))
+      answer = tray-cases (λ h e t. e) (λ n h e t. absurd (no n h tray))
         where
           no : (n : ℕ) → trayFault s es .number ≡ suc n → trayFault s es .number ≡ 0 → ⊥
           no n p q = omega arith
 
       laid : l′ ≡ over (legendOf (whole usual ss)) l
-      laid = tray-cases (λ h e t. t) (λ n h e. absurd (no n h tray))
+      laid = tray-cases (λ h e t. t) (λ n h e t. absurd (no n h tray))
         where
           no : (n : ℕ) → trayFault s es .number ≡ suc n → trayFault s es .number ≡ 0 → ⊥
           no n p q = omega arith
 
+      legend-long : length l′ ≡ length l
+      legend-long = ap length laid ∙ length-over (legendOf (whole usual ss)) l (omega (arith, room .legend, compose-fits s es tray .legend))
+
       pub counts : SheetCounts w′ l′ r
       counts =
           let F = compose-fits s es tray in
-          let m : length l′ ≡ length l = ap length laid ∙ length-over (legendOf (whole usual ss)) l (omega (arith, room .legend, F .legend)) in
           record {
             joins-few = rw answer (omega (arith, F .count));
             slips-few = rw answer (F .slips);
-            legend-fits = rw answer (omega (arith, F .legend, room .legend));
+            legend-fits = rw answer (omega (arith, F .legend, room .legend, legend-long));
             work = omega (arith, room .work, st .work-is .same);
           }
 
@@ -168,8 +176,12 @@ module _ (s es w l o : List ℕ) (room : TrayRoom w l o) where
 
       pub tray-printed : (o′ : List ℕ) (k : ℕ) →
           Printed (composeLines r es (take (JOINS + joinCells * r .joins - JOINS) (drop JOINS w′))
-          (take (PLACES + placeCells * r .slips - PLACES) (drop PLACES w′)) (take (r .legend) l′)) o o′ k → Printed (traySheet s es) o o′ k
+          (take (PLACES + placeCells * r .slips - PLACES) (drop PLACES w′)) (take (r .legend) l′)) o o′ k → TraySheetSays s es w w′ l l′ o o′ k
       tray-printed o′ k p =
-          printed-is (composeLines r es (take (JOINS + joinCells * r .joins - JOINS) (drop JOINS w′))
-          (take (PLACES + placeCells * r .slips - PLACES) (drop PLACES w′)) (take (r .legend) l′)) (traySheet s es) o o′ k
-          (rw (joins-here, places-here, legend-here, answer) (compose-lines-are s es tray) ∙ sym (sheet-silent s es tray)) p
+          record {
+            sheet = printed-is (composeLines r es (take (JOINS + joinCells * r .joins - JOINS) (drop JOINS w′))
+                (take (PLACES + placeCells * r .slips - PLACES) (drop PLACES w′)) (take (r .legend) l′)) (traySheet s es) o o′ k
+                (rw (joins-here, places-here, legend-here, answer) (compose-lines-are s es tray) ∙ sym (sheet-silent s es tray)) p;
+            work = st .work-is .same;
+            legend = legend-long;
+          }

@@ -1,7 +1,6 @@
 // From the letters and ends of a tray to its sheet.
-ghost use Rattle.sheet_lines.specs.steps.Lines.{Printed};
-ghost use Rattle.sheet_rule.specs.Programs.{traySheet};
-ghost use Rattle.sheet_of_tray.specs.steps.Lent.{TrayRoom};
+ghost use Rattle.sheet_rule.specs.Lent.{TrayRoom};
+ghost use Rattle.sheet_of_tray.specs.steps.Lent.{TraySheetSays};
 use answers::JOIN_CELLS;
 use answers::PLACE_CELLS;
 use layout::JOINS;
@@ -21,7 +20,8 @@ pub fn tray_sheet(
     out: &mut [u8],
 ) -> usize
     requires { ⌜ TrayRoom (now work) (now legend) (now out) ⌝ }
-    ensures { λ r. ⌜ Printed (traySheet (now (letters .entry)) (now (ends .entry))) (now (out .entry)) (now (out .exit)) r ⌝ }
+    ensures { λ r. ⌜ TraySheetSays (now (letters .entry)) (now (ends .entry)) (now (work .entry)) (now (work .exit))
+        (now (legend .entry)) (now (legend .exit)) (now (out .entry)) (now (out .exit)) r ⌝ }
 {
     let settings = Settings { least: 1 };
     let c = compose_core::compose_staged(letters, ends, settings, work, legend, ROWS, ROWS);

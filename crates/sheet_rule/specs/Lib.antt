@@ -1,4 +1,5 @@
 -- What the programs print, and what the functions that write it into a lent buffer ask and leave.
 pub mod Sheets
 pub mod Programs
+pub mod Lent
 pub mod Stored

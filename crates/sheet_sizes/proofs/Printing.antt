@@ -16,7 +16,8 @@ use Rattle.answers.specs.declared.Composed.{Composed}
 use Rattle.answers.specs.Composing.{outcomeOf, flatJoins, flatPlaces}
 use Rattle.answers.specs.Finding.{flatFound}
 use Rattle.sheet_rule.specs.Sheets.{composeLines, composeSheetOf, findLines, findSheetOf, composeRoom, maxFound, findRoom}
-use Rattle.sheet_lines.specs.steps.Lines.{ComposeAsks, FindAsks, Printed}
+use Rattle.sheet_lines.specs.steps.Lines.{ComposeAsks, FindAsks}
+use Rattle.sheet_rule.specs.Lent.{Printed}
 use Rattle.sheet_sizes.proofs.Flat.{compose-lines-are, find-lines-are}
 use Rattle.sheet_sizes.proofs.Sizes.{compose-asks, find-asks}
 

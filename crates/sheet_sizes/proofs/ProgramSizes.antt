@@ -16,7 +16,7 @@ use Rattle.trays.proofs.Rows.{both-silent}
 use Rattle.file_rule.specs.Faults.{readFault}
 use Rattle.sheet_rule.specs.Sheets.{composeSheetOf, composeRoom, refusedLine}
 use Rattle.sheet_sizes.specs.Fits.{RefusalFits}
-use Rattle.sheet_lines.specs.steps.Lines.{Printed}
+use Rattle.sheet_rule.specs.Lent.{Printed}
 use Rattle.sheet_rule.specs.Programs.{lettersIn, endsIn, composeSheetFault, composeSheet}
 use Rattle.sheet_sizes.proofs.RefusalsFit.{or-fits, tray-refusal-fits, read-refusal-fits}
 use Rattle.sheet_sizes.proofs.Sizes.{refused-size, compose-most}

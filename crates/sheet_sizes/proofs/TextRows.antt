@@ -21,7 +21,7 @@ use Rattle.matching.specs.Occurrences.{occurrences}
 use Rattle.answers.specs.Finding.{textRows, listRow}
 use Rattle.sheet_rule.specs.Sheets.{findSheetOf, findRoom, maxFound, refusedLine}
 use Rattle.sheet_sizes.specs.Fits.{RefusalFits}
-use Rattle.sheet_lines.specs.steps.Lines.{Printed}
+use Rattle.sheet_rule.specs.Lent.{Printed}
 use Rattle.sheet_rule.specs.Programs.{lettersIn, endsIn, textIn, textFault, findSheetFault, findSheet}
 use Rattle.sheet_sizes.proofs.Fitting.{find-fits}
 use Rattle.sheet_sizes.proofs.RefusalsFit.{row-fits, or-fits, rows-fit, badPlace-most, tray-refusal-fits, read-refusal-fits}

@@ -7,12 +7,12 @@ use Rattle.compose.proofs.print_sheet.Tie as tie
 array-share-prefix-out : tie.Need-array-share-prefix-out
 array-share-prefix-out c =
     let composed = c .before .before .before .before .before in
-    compose-counted _ _ _ _ (omega arith) (composed .compose-sheet .ensures) .0
+    compose-counted _ _ _ _ (omega arith) (composed .compose-sheet .ensures .sheet) .0
 
 slice-aggregate-write-all : tie.Need-slice-aggregate-write-all
 slice-aggregate-write-all c =
     let composed = c .before .before .before .before .before .before in
-    compose-counted _ _ _ _ (omega arith) (composed .compose-sheet .ensures) .1
+    compose-counted _ _ _ _ (omega arith) (composed .compose-sheet .ensures .sheet) .1
 
 pub print-sheet-spec : {M : Type 1} → statement M
 print-sheet-spec = tie.close (tie.spec (λ c. search needs) (λ c. search needs) (λ c. search needs) (λ c. search needs) (λ c. search needs)

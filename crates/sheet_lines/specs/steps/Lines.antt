@@ -1,20 +1,13 @@
--- What the functions that write lines into a lent buffer ask and leave.
---   Printed ys old new r    == ys was written from the start on, and r counts its bytes
+-- What the functions that write lines into a lent buffer ask.
 --   ..Fits, ..Fit           == numbers that fit their columns
 --   ..Asks                  == what a function asks: such numbers, and room for the sheet
-use mathlib.Core.Path.{_≡_}
 use mathlib.Core.List.{List}
 use Prim.Native.Nat.{ℕ, suc, _+_, _*_, _^_, _≤_, _<_}
 use lib.ListN.{length, getD}
-use Rattle.words.specs.Lists.{over}
 use Rattle.trays.specs.Slips.{endOf}
 use Rattle.answers.specs.Composing.{joinCells, placeCells}
 use Rattle.answers.specs.declared.Composed.{Composed}
 use Rattle.sheet_rule.specs.Sheets.{placeWidth, countWidth, traySize, slipSize, joinSize, findSize, foundSize}
-
-pub record Printed (ys old new : List ℕ) (r : ℕ) : Type 0 where
-  pub is : new ≡ over ys old
-  pub count : r ≡ length ys
 
 -- the numbers of the header fit
 pub record HeaderFits (c : Composed) : Type 0 where

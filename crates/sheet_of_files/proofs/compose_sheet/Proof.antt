@@ -50,7 +50,8 @@ returns-2 c =
     let printed = c .before .before .before .before .before .before in
     let accepted = printed .before .before .before .before .before .before .before .before in
     let read = accepted .before .before .before .before .before .before in
-    compose-printed _ _ _ _ _ _ (start read .pre) _ _ _ (read .read-tray .ensures) (accepted .if1 .left) _ _ (printed .tray-sheet .ensures)
+    compose-printed _ _ _ _ _ _ (start read .pre) _ _ _ (read .read-tray .ensures) (accepted .if1 .left) _ _ _ _
+    (printed .tray-sheet .ensures)
 
 pub compose-sheet-spec : {M : Type 1} → statement M
 compose-sheet-spec = tie.close (tie.spec (λ c κs. search needs) refused-line-requires (λ c. search needs) (λ c. search needs)

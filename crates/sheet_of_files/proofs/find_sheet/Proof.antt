@@ -62,7 +62,7 @@ returns-2 c =
     let printed = c .before .before .before .before .before .before in
     let filed = printed .before .before .before .before .before .before .before in
     find-printed _ _ _ _ _ _ _ (start (reading filed) .pre) _ _ _ (reading filed .read-tray .ensures) (accepted filed .if1 .left) _ _
-    (filed .before .before .file-text .ensures) _ _ (printed .text-sheet .ensures)
+    (filed .before .before .file-text .ensures) _ _ _ _ (printed .text-sheet .ensures)
 
 pub find-sheet-spec : {M : Type 1} → statement M
 find-sheet-spec = tie.close (tie.spec (λ c κs. search needs) refused-line-requires (λ c. search needs) (λ c. search needs) (λ c. search needs) returns

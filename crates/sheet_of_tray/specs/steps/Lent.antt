@@ -1,11 +1,12 @@
--- TrayRoom == room for composing any tray and for its sheet
+-- TraySheetSays == the sheet of a tray stands in the output; work area and legend may hold anything of the same length
+use mathlib.Core.Path.{_≡_}
 use mathlib.Core.List.{List}
-use Prim.Native.Nat.{ℕ, _≤_}
+use Prim.Native.Nat.{ℕ}
 use lib.ListN.{length}
-use Rattle.trays.specs.Limits.{maxLetters, workNeed}
-use Rattle.sheet_rule.specs.Sheets.{composeRoom}
+use Rattle.sheet_rule.specs.Programs.{traySheet}
+use Rattle.sheet_rule.specs.Lent.{Printed}
 
-pub record TrayRoom (w l o : List ℕ) : Type 0 where
-  pub work : workNeed ≤ length w
-  pub legend : maxLetters ≤ length l
-  pub sheet : composeRoom ≤ length o
+pub record TraySheetSays (s es w w′ l l′ o o′ : List ℕ) (r : ℕ) : Type 0 where
+  pub sheet : Printed (traySheet s es) o o′ r
+  pub work : length w′ ≡ length w
+  pub legend : length l′ ≡ length l

@@ -1,2 +1,0 @@
--- sheet_of_files
-pub mod steps
