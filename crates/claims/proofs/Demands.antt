@@ -3,9 +3,13 @@ use Rattle.greedy.proofs.GreedyLegends.{greedy-legends}
 use Rattle.greedy.proofs.FewerJoins.{fewer-joins}
 use Rattle.greedy.proofs.StopFree.{stop-free}
 use Rattle.greedy.proofs.Placed.{all-tried}
-use Rattle.matching.proofs.States.{few-moves}
+use Rattle.matching.proofs.States.{longest-endings, few-moves}
 use Rattle.shortest.proofs.Shortest.{shortest-legends}
 use Rattle.merge_rule.proofs.MergedTrays.{same-legend-of, one-or-four}
+use Rattle.trays.proofs.Stored.{stored-trays}
+use Rattle.fold_rule.proofs.Bytes.{fold-table}
+use Rattle.fold_rule.proofs.Signs.{fold-sign}
+use Rattle.sheet_rule.proofs.Stored.{stored-files}
 use Rattle.claims.specs.Claims.{Demands}
 
 pub demands : Demands
@@ -18,5 +22,10 @@ demands =
       shortest = shortest-legends;
       same-legend = same-legend-of;
       one-or-four = one-or-four;
+      longest-endings = longest-endings;
       few-moves = few-moves;
+      fold-table = fold-table;
+      fold-sign = fold-sign;
+      stored-trays = stored-trays;
+      stored-files = stored-files;
     }

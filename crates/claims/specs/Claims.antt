@@ -1,8 +1,12 @@
--- The demands that speak of the definitions alone, for every accepted tray and, where composing is meant, any settings.
+-- The demands that speak of the definitions alone, for every accepted tray and, where composing is meant, any settings; and what is claimed of folding and
+-- of trays and tray files stored earlier.
 use Rattle.greedy.specs.Claims.{Greedy-legends, Fewer-joins, Stop-free, All-tried}
-use Rattle.matching.specs.Moves.{Few-moves}
+use Rattle.matching.specs.Moves.{Longest-endings, Few-moves}
 use Rattle.shortest.specs.Claims.{Shortest-legends}
 use Rattle.merge_rule.specs.Claims.{Same-legend, One-or-four}
+use Rattle.trays.specs.Stored.{Stored-trays}
+use Rattle.fold_rule.specs.Claims.{Fold-table, Fold-sign}
+use Rattle.sheet_rule.specs.Stored.{Stored-files}
 
 pub record Demands : Type 0 where
   -- one list by both rules; kept letters = saved + legend length; the legend holds every kept slip; at most twice, with a least overlap of 1
@@ -21,5 +25,14 @@ pub record Demands : Type 0 where
   pub same-legend : Same-legend
   -- of two accepted trays the outcome can fail by 1 or 4 alone
   pub one-or-four : One-or-four
+  -- the state is the longest ending of the text so far that begins a slip
+  pub longest-endings : Longest-endings
   -- moves are at most 2 × the letters
   pub few-moves : Few-moves
+  -- one computed test over all 256 entries tells that a table has the rule of folding
+  pub fold-table : Fold-table
+  -- a byte is refused once it is folded just where it is folded to 0
+  pub fold-sign : Fold-sign
+  -- of the trays, and of the tray files, accepted under another limit of a slip's letters: 3 with the lowest slip that is too long now, or accepted still
+  pub stored-trays : Stored-trays
+  pub stored-files : Stored-files

@@ -11,6 +11,7 @@ use lib.Dec.{eqb, leb}
 use Rattle.words.proofs.Tests.{by-test, both, either}
 use Rattle.trays.specs.Slips.{stop, isLetter}
 use Rattle.fold_rule.specs.Folding.{upper, dieSign, fold}
+use Rattle.fold_rule.specs.Claims.{Fold-sign}
 use Rattle.fold_rule.proofs.Bytes.{at-byte}
 
 -- where the signs stand among the bytes
@@ -21,7 +22,7 @@ sign-range b e =
       | inr h ↦ let (l, m) = both (leb 65 b) (leb b 90) h in omega (arith, leb-true 65 b l, leb-true b 90 m)
     ]
 
-pub fold-sign : (b : ℕ) → isLetter (fold b) ≡ not (eqb (fold b) 0)
+pub fold-sign : Fold-sign
 unfolding fold
 fold-sign b = kept (dieSign (upper b))
   where

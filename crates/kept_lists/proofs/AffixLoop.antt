@@ -21,7 +21,7 @@ use Rattle.words.proofs.Members.{In, in-those}
 use Rattle.trays.specs.Limits.{maxLetters, workNeed}
 use Rattle.trays.specs.Slips.{slipsOf, slip, startOf, endOf}
 use Rattle.tables.specs.Tables.{Got, Filled}
-use Rattle.matching.specs.Nodes.{string, Num}
+use Rattle.matching.specs.steps.Nodes.{string, Num}
 use Rattle.matching.proofs.NodeLaws.{node-some, node-one}
 use Rattle.layout.specs.Layout.{KEPT, STARTS}
 use Rattle.layout.specs.Tables.{cell}

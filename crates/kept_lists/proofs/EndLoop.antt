@@ -23,7 +23,7 @@ use Rattle.trays.specs.Slips.{slipsOf, slip, endOf, spanOf}
 use Rattle.trays.specs.declared.Span.{Span}
 use Rattle.tables.specs.Tables.{Got}
 use Rattle.matching.specs.Moves.{beginsSome, longestEnding}
-use Rattle.matching.specs.Nodes.{nodesOf, string, IsNode, Num}
+use Rattle.matching.specs.steps.Nodes.{nodesOf, string, IsNode, Num}
 use Rattle.matching.proofs.Finds.{endsProperly-fail}
 use Rattle.matching.proofs.Numbered.{fail-shorter}
 use Rattle.matching.proofs.NodeLaws.{node-root, node-some}

@@ -8,7 +8,7 @@ use Rattle.words.specs.Words.{begins}
 use Rattle.words.proofs.Strings.{begins-length}
 use Rattle.words.proofs.Members.{in-those}
 use Rattle.trays.specs.Slips.{slipsOf, slip, startOf}
-use Rattle.matching.specs.Nodes.{string}
+use Rattle.matching.specs.steps.Nodes.{string}
 use Rattle.matching.proofs.NodeLaws.{node-some}
 use Rattle.layout.specs.Layout.{HEAD, STARTS, STARTS-NEXT, ENDS}
 use Rattle.layout.specs.Numbered.{patternsIn, SameBelow}

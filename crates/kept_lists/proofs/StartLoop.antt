@@ -17,7 +17,7 @@ use Rattle.words.proofs.Strings.{begins-prefix, begins-length}
 use Rattle.trays.specs.Slips.{slipsOf, slip, startOf, endOf, spanOf}
 use Rattle.trays.specs.declared.Span.{Span}
 use Rattle.tables.specs.Tables.{Got}
-use Rattle.matching.specs.Nodes.{string, IsNode, Num}
+use Rattle.matching.specs.steps.Nodes.{string, IsNode, Num}
 use Rattle.matching.proofs.NodeLaws.{node-some}
 use Rattle.layout.specs.Layout.{AT, KEPT, STARTS, STARTS-NEXT}
 use Rattle.layout.specs.Tables.{cell}

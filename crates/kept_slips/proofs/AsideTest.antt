@@ -20,7 +20,7 @@ use Rattle.trays.specs.Slips.{slip}
 use Rattle.trays.specs.Aside.{isAside}
 use Rattle.tables.specs.Tables.{Got}
 use Rattle.matching.specs.Moves.{beginsSome, longestEnding}
-use Rattle.matching.specs.Nodes.{string, IsNode, Num}
+use Rattle.matching.specs.steps.Nodes.{string, IsNode, Num}
 use Rattle.matching.proofs.AsideNodes.{Inner, Earlier, aside-inner, inner-aside}
 use Rattle.matching.proofs.NodeLaws.{node-some, node-of, node-one}
 use Rattle.layout.specs.Layout.{KID, MARK, HEAD, FAIL}

@@ -17,7 +17,7 @@ use Rattle.trays.specs.Slips.{slipsOf}
 use Rattle.trays.specs.Aside.{isAside, kept}
 use Rattle.tables.specs.Tables.{Got, Put, Room, table}
 use Rattle.tables.proofs.Tables.{table-at, table-length, put-more}
-use Rattle.matching.specs.Nodes.{Num}
+use Rattle.matching.specs.steps.Nodes.{Num}
 use Rattle.layout.specs.Layout.{MEMBERS, FAIL, MARK, KEPT}
 use Rattle.layout.specs.Tables.{cell, members}
 use Rattle.layout.specs.Numbered.{patternsIn, SameBelow}

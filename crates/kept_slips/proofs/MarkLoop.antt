@@ -9,7 +9,7 @@ use native.Mathlib.Omega.{arith}
 use lib.ListN.{length, replicate}
 use Rattle.tables.specs.Tables.{Got, Put, Room, Filled}
 use Rattle.tables.proofs.Tables.{put-here, put-other}
-use Rattle.matching.specs.Nodes.{nodesOf, Num}
+use Rattle.matching.specs.steps.Nodes.{nodesOf, Num}
 use Rattle.layout.specs.Layout.{FAIL, MARK}
 use Rattle.layout.specs.Tables.{cell}
 use Rattle.layout.specs.Numbered.{patternsIn, Numbered, SameBelow, Headed}

@@ -7,7 +7,7 @@ use mathlib.Core.List.{List, [], _∷_}
 use Prim.Native.Nat.{ℕ}
 use lib.ListN.{getD}
 use Rattle.words.specs.Quoted.{word}
-use Rattle.matching.specs.Nodes.{nodesOf}
+use Rattle.matching.specs.steps.Nodes.{nodesOf}
 use Rattle.layout.specs.Layout.{MEMBERS, ORDER, COMMON, LEVEL, AT, OWN, KID, NEAR, FAIL, HEAD, TWIN}
 use Rattle.layout.specs.Layout.{MARK, KEPT, STARTS, STARTS-NEXT, ENDS, ENDS-NEXT, JOINS, PLACES, OUT, TALLY, SCAN, SEEK}
 use Rattle.layout.specs.Rows.{rows}

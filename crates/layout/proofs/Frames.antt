@@ -16,7 +16,7 @@ use Rattle.trays.specs.Faults.{trayFault}
 use Rattle.trays.proofs.Accepted.{accepted-tells, span-fits, span-slip}
 use Rattle.tables.specs.Tables.{Only}
 use Rattle.tables.proofs.Tables.{table-same}
-use Rattle.matching.specs.Nodes.{nodesOf}
+use Rattle.matching.specs.steps.Nodes.{nodesOf}
 use Rattle.layout.specs.Layout.{MEMBERS, AT, OWN, LEVEL, KID, NEAR, FAIL, HEAD, nearLetters, firstSign}
 use Rattle.layout.specs.Tables.{cell, members, patterns, LevelIs, KidIs, NearIs}
 use Rattle.layout.specs.Numbered.{patternsIn, Numbered, Branched, Automaton, SameBelow}

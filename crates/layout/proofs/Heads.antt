@@ -16,7 +16,7 @@ use Rattle.trays.specs.Slips.{slipsOf, slip}
 use Rattle.trays.proofs.Accepted.{accepted-tells}
 use Rattle.trays.proofs.Spans.{accepted-spanned}
 use Rattle.tables.proofs.Tables.{table-length}
-use Rattle.matching.specs.Nodes.{string, Num}
+use Rattle.matching.specs.steps.Nodes.{string, Num}
 use Rattle.layout.specs.Layout.{MEMBERS, HEAD, TWIN, MARK}
 use Rattle.layout.specs.Tables.{cell, members, owners, Threaded}
 use Rattle.layout.specs.Numbered.{patternsIn, Numbered, Headed, SameBelow}

@@ -14,7 +14,7 @@ use Rattle.words.proofs.Strings.{begins-prefix, begins-none}
 use Rattle.trays.specs.Limits.{maxLetters}
 use Rattle.trays.specs.Slips.{slip, isLetter, startOf, endOf}
 use Rattle.trays.proofs.Accepted.{Signs, accepted-signs, span-slip}
-use Rattle.matching.specs.Nodes.{string, Num}
+use Rattle.matching.specs.steps.Nodes.{string, Num}
 use Rattle.layout.specs.Layout.{OWN}
 use Rattle.layout.specs.Tables.{cell, Owned}
 use Rattle.layout.specs.Numbered.{patternsIn, Numbered}

@@ -22,7 +22,7 @@ use Rattle.words.proofs.Orders.{up, down, lex-first, lex-then, lex-cases}
 use Rattle.words.proofs.Picks.{asc-getD}
 use Rattle.greedy.specs.Walk.{sooner}
 use Rattle.greedy.proofs.Nodes.{Nodes}
-use Rattle.matching.specs.Nodes.{lower, nodesOf, string, Num}
+use Rattle.matching.specs.steps.Nodes.{lower, nodesOf, string, Num}
 use Rattle.matching.proofs.Endings.{slip-some}
 use Rattle.matching.proofs.NodeLaws.{nodes-numbered, node-of}
 use Rattle.layout.specs.Tables.{patterns, LevelIs}

@@ -9,11 +9,11 @@ use mathlib.Core.Path.{_≡_}
 use mathlib.Core.List.{List}
 use Prim.Native.Nat.{ℕ, suc, _≤_, _<_}
 use lib.ListN.{length, getD}
-use Rattle.words.specs.Members.{In, Asc}
+use Rattle.words.specs.steps.Members.{In, Asc}
 use Rattle.trays.specs.Limits.{maxSlips, maxSlip, maxLetters, workNeed}
 use Rattle.trays.specs.Slips.{slipsOf}
 use Rattle.trays.specs.Faults.{trayFault}
-use Rattle.matching.specs.Nodes.{nodesOf}
+use Rattle.matching.specs.steps.Nodes.{nodesOf}
 use Rattle.layout.specs.Layout.{AT, OWN, LEVEL, KID, NEAR, FAIL, HEAD, TWIN}
 use Rattle.layout.specs.Tables.{cell, members, patterns, AtIs, OwnIs, LevelIs, KidIs, NearIs, FailIs, HeadIs}
 

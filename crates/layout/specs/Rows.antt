@@ -4,7 +4,7 @@
 use mathlib.Core.List.{List, [], _++_, map}
 use Prim.Native.Nat.{ℕ, zero, suc, _-_}
 use Rattle.words.specs.Lists.{upFrom}
-use Rattle.matching.specs.Nodes.{string}
+use Rattle.matching.specs.steps.Nodes.{string}
 
 abbrev pub nodesAt : List (List ℕ) → (ℕ → ℕ) → ℕ → List (List ℕ)
 nodesAt ps level d = map (string ps) (upFrom (level d) (level (suc d) - level d))

@@ -14,11 +14,11 @@ use Prim.Native.Nat.{ℕ, suc, _+_, _-_, _*_, _≤_, _<_}
 use lib.ListN.{length, getD, take}
 use Rattle.words.specs.Lists.{those, tailOf}
 use Rattle.words.specs.Words.{same}
-use Rattle.words.specs.Members.{In}
+use Rattle.words.specs.steps.Members.{In}
 use Rattle.trays.specs.Slips.{slip, startOf, endOf}
 use Rattle.tables.specs.Tables.{table}
 use Rattle.matching.specs.Moves.{beginsSome, longestEnding}
-use Rattle.matching.specs.Nodes.{nodesOf, string, IsNode, Num}
+use Rattle.matching.specs.steps.Nodes.{nodesOf, string, IsNode, Num}
 use Rattle.greedy.specs.steps.Scans.{starters, enders}
 use Rattle.layout.specs.Layout.{MEMBERS, nearNodes, nearLetters, firstSign, lastSign}
 

@@ -8,8 +8,14 @@ use mathlib.Core.List.{List, [], _∷_, map}
 use Prim.Native.Nat.{ℕ}
 use Prim.Native.String.{String}
 use Rattle.words.specs.Quoted.{word}
-use Rattle.matching.specs.Moves.{moves}
+use Rattle.matching.specs.Moves.{stateFrom, moves}
 use Rattle.matching.specs.Occurrences.{Occurrence, occurrence, occurrences}
+
+-- states: the longest ending that begins a slip, be it a whole slip or not; a drop may stop before the empty state
+pub states :
+    map (λ t. stateFrom (map word ("ABAC" ∷ "BAD" ∷ [])) [] (word t)) ("ABA" ∷ "ABAD" ∷ "ABAA" ∷ "ABAX" ∷ [])
+    ≡ map word ("ABA" ∷ "BAD" ∷ "A" ∷ "" ∷ [])
+states = refl
 
 pub record Outcome : Type 0 where
   pub moved : ℕ

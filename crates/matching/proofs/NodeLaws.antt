@@ -1,4 +1,4 @@
--- The nodes of the patterns, as `specs/Nodes.antt` defines them, are a numbering: what `Numbered` says of any numbering holds of them.
+-- The nodes of the patterns, as `specs/steps/Nodes.antt` defines them, are a numbering: what `Numbered` says of any numbering holds of them.
 --   nodes-numbered   == the nodes ascend by `lower` and have exactly the empty string and the prefixes of the patterns
 --   node-root, is-root == node 0 is the empty string
 --   node-some        == a node with a number from 1 on has a letter and begins a pattern
@@ -21,7 +21,7 @@ use Rattle.words.proofs.Orders.{up, strings, lex-con}
 use Rattle.words.proofs.Strings.{begins-take, begins-prefix, begins-length}
 use Rattle.words.proofs.Picks.{getD-in}
 use Rattle.matching.specs.Moves.{beginsSome}
-use Rattle.matching.specs.Nodes.{lower, prefixes, nodesOf, string, IsNode, Num}
+use Rattle.matching.specs.steps.Nodes.{lower, prefixes, nodesOf, string, IsNode, Num}
 use Rattle.matching.proofs.States.{fail}
 use Rattle.matching.proofs.Numbering.{lower-tr, lower-shorter}
 use Rattle.matching.proofs.Numbered as Numbered

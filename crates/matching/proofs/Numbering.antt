@@ -21,7 +21,7 @@ use Rattle.words.proofs.Members.{In, Asc, Less, asc-append}
 use Rattle.words.proofs.Orders.{up, down, strings, lex-first, lex-then, lex-irr, lex-tr}
 use Rattle.words.proofs.Strings.{begins-take, begins-prefix, begins-length}
 use Rattle.words.proofs.Picks.{asc-turn}
-pub use Rattle.matching.specs.Nodes.{lower}
+pub use Rattle.matching.specs.steps.Nodes.{lower}
 use Rattle.matching.proofs.Levels.{NotAfter, Before, notAfter-nil, level, level-asc, level-length, level-some, in-level}
 use Rattle.matching.proofs.Ranks.{level-node, rank-some, rank-fits}
 pub use Rattle.matching.specs.steps.Levels.{levelsUp, nodeAt}

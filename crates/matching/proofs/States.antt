@@ -8,7 +8,7 @@
 use mathlib.Core.Path.{_≡_, refl, sym, ap, _∙_}
 use mathlib.Core.Bool.{true, false}
 use mathlib.Core.Logic.{_⊎_, inl, inr}
-use mathlib.Core.List.{List, [], _∷_, _++_}
+use mathlib.Core.List.{List, [], _∷_, _++_, append-nil, append-assoc}
 use Prim.Native.Nat.{ℕ, zero, suc, _+_, _*_, _≤_, _<_}
 use native.Mathlib.Omega.{arith}
 use lib.ListN.{length, getD, take, drop, length-append}
@@ -17,7 +17,7 @@ use Rattle.words.specs.Lists.{tailOf}
 use Rattle.words.proofs.Tests.{by-test, not-both}
 use Rattle.words.proofs.Strings.{begins-here}
 use Rattle.trays.specs.Slips.{slipsOf}
-use Rattle.matching.specs.Moves.{beginsSome, longestEnding, stepped, stepFrom, step, movesFrom, Few-moves}
+use Rattle.matching.specs.Moves.{beginsSome, longestEnding, stepped, stepFrom, step, stateFrom, movesFrom, Longest-endings, Few-moves}
 use Rattle.matching.proofs.Endings.{End, whole, below, by-end, nil-end, end-trans, end-length, end-both, end-append, end-letter, begins-some}
 
 abbrev pub Node : List (List ℕ) → List ℕ → Type 0
@@ -150,6 +150,13 @@ module _ (ps : List (List ℕ)) where
       rw (take-suc t e 0 h, longest-letter (take e t) (getD t e 0))
       (sym (step-state (suc (length (longestEnding (take e t) ps))) (longestEnding (take e t) ps) (getD t e 0) 0 (omega arith)))
 
+  state-from : (u t : List ℕ) → stateFrom ps (longestEnding u ps) t ≡ longestEnding (u ++ t) ps
+  state-from u [] = rw append-nil
+  state-from u (b ∷ t) =
+      let v = longestEnding u ps in
+      let e : step ps v b .state ≡ longestEnding (u ++ (b ∷ [])) ps = step-state (suc (length v)) v b 0 (omega arith) ∙ sym (longest-letter u b) in
+      rw e (state-from (u ++ (b ∷ [])) t ∙ ap (λ z. longestEnding z ps) (append-assoc u (b ∷ []) t))
+
   pub few-from : (s t : List ℕ) (n : ℕ) → movesFrom ps s t n ≤ n + length s + 2 * length t
   few-from s [] n = omega arith
   few-from s (b ∷ t) n =
@@ -177,6 +184,9 @@ module _ (ps : List (List ℕ)) where
       let k : length u < f = omega (arith, longest-length s) in
       rw (step-drop f a s b 0 e, step-more f u b 1 0, step-enough f (suc (length u)) u b 0 k (omega arith))
       (ap (movesFrom ps (step ps u b .state) t) (omega arith))
+
+pub longest-endings : Longest-endings
+longest-endings s es t h = state-from (slipsOf s es) [] t
 
 pub few-moves : Few-moves
 few-moves s es t h = omega (arith, few-from (slipsOf s es) [] t 0)

@@ -2,7 +2,9 @@
 --   beginsSome x ps      == x begins a pattern
 --   longestEnding t ps   == the longest ending of t that begins a pattern, empty if there is none
 --   stepFrom             == one letter read: drops until the letter extends the state or it is empty, counted
+--   stateFrom ps s t     == the state after the letters t are read, from the state s
 --   moves ps t           == letters read plus drops
+--   Few-moves, Longest-endings == what is claimed of both
 use mathlib.Core.Bool.{Bool, true, false}
 use mathlib.Core.List.{List, [], _∷_, _++_}
 use Prim.Native.Nat.{ℕ, zero, suc, _+_, _*_, _≤_}
@@ -16,7 +18,6 @@ use Rattle.trays.specs.Faults.{trayFault}
 abbrev pub beginsSome : List ℕ → List (List ℕ) → Bool
 beginsSome x ps = any (begins x) ps
 
--- Rules, moves: the state is the longest ending of the text so far that begins a slip.
 abbrev pub longestEnding : List ℕ → List (List ℕ) → List ℕ
 longestEnding [] ps = []
 longestEnding (x ∷ xs) ps = elim (beginsSome (x ∷ xs) ps) [ true ↦ x ∷ xs | false ↦ longestEnding xs ps ]
@@ -41,12 +42,20 @@ stepFrom (suc f) ps s b n =
 abbrev pub step : List (List ℕ) → List ℕ → ℕ → Stepped
 step ps s b = stepFrom (suc (length s)) ps s b 0
 
+abbrev pub stateFrom : List (List ℕ) → List ℕ → List ℕ → List ℕ
+stateFrom ps s [] = s
+stateFrom ps s (b ∷ bs) = stateFrom ps (step ps s b .state) bs
+
 abbrev pub movesFrom : List (List ℕ) → List ℕ → List ℕ → ℕ → ℕ
 movesFrom ps s [] n = n
 movesFrom ps s (b ∷ bs) n = let x = step ps s b in movesFrom ps (x .state) bs (n + suc (x .drops))
 
 abbrev pub moves : List (List ℕ) → List ℕ → ℕ
 moves ps t = movesFrom ps [] t 0
+
+-- Rules, moves: the state is the longest ending of the text so far that begins a slip.
+abbrev pub Longest-endings : Type 0
+Longest-endings = (s es t : List ℕ) → trayFault s es .number ≡ 0 → stateFrom (slipsOf s es) [] t ≡ longestEnding t (slipsOf s es)
 
 -- Rules: moves are at most 2 × the letters.
 abbrev pub Few-moves : Type 0

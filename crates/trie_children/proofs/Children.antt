@@ -12,7 +12,7 @@ use lib.ListN.{length, getD, length-append}
 use Rattle.words.proofs.Tests.{by-test}
 use Rattle.tables.specs.Tables.{Got}
 use Rattle.matching.specs.Moves.{beginsSome}
-use Rattle.matching.specs.Nodes.{nodesOf, string, Num}
+use Rattle.matching.specs.steps.Nodes.{nodesOf, string, Num}
 use Rattle.matching.proofs.NodeLaws.{node-of}
 use Rattle.layout.specs.Layout.{KID}
 use Rattle.layout.specs.Tables.{cell, Child}

@@ -16,7 +16,7 @@ use borrow.Author.Tests.{ltb-true, ltb-false, leb-true, leb-false}
 use Rattle.words.proofs.Tests.{both, one-of}
 use Rattle.tables.specs.Tables.{Cells, Only, Put, Room}
 use Rattle.tables.proofs.Tables.{only-refl, cells-put, put-here, put-other}
-use Rattle.matching.specs.Nodes.{nodesOf, string, Num}
+use Rattle.matching.specs.steps.Nodes.{nodesOf, string, Num}
 use Rattle.layout.specs.Layout.{maxNodes, KID}
 use Rattle.layout.specs.Tables.{cell, KidIs}
 use Rattle.layout.specs.Numbered.{patternsIn, Numbered, SameBelow}

@@ -11,7 +11,7 @@ use native.Mathlib.Omega.{arith}
 use lib.ListN.{length}
 use Rattle.tables.specs.Tables.{Got, Cells, Only, Put, Room}
 use Rattle.tables.proofs.Tables.{only-refl, only-trans, only-wider, only-put, put-here, put-other}
-use Rattle.matching.specs.Nodes.{nodesOf}
+use Rattle.matching.specs.steps.Nodes.{nodesOf}
 use Rattle.layout.specs.Layout.{NEAR, nearNodes, nearLetters, firstSign, lastSign}
 use Rattle.layout.specs.Tables.{cell, Child}
 use Rattle.layout.specs.Numbered.{patternsIn, Branched, SameBelow}

@@ -18,7 +18,7 @@ use lib.Seq.{take-suc}
 use borrow.Author.Tests.{lt-ltb, le-ltb, le-leb, lt-leb}
 use Rattle.trays.specs.Slips.{slip, startOf}
 use Rattle.tables.specs.Tables.{Got}
-use Rattle.matching.specs.Nodes.{nodesOf, string, IsNode, Num}
+use Rattle.matching.specs.steps.Nodes.{nodesOf, string, IsNode, Num}
 use Rattle.matching.proofs.NodeLaws.{nodes-numbered, is-root}
 use Rattle.matching.proofs.Numbered as T
 use Rattle.layout.specs.Layout.{AT, OWN, LEVEL, KID}

@@ -16,7 +16,7 @@ use Rattle.words.proofs.Members.{those-yes, those-no, in-those}
 use Rattle.trays.specs.Slips.{slipsOf, slip}
 use Rattle.tables.specs.Tables.{Got, Filled}
 use Rattle.tables.proofs.Tables.{table-at}
-use Rattle.matching.specs.Nodes.{string, IsNode, Num}
+use Rattle.matching.specs.steps.Nodes.{string, IsNode, Num}
 use Rattle.matching.proofs.NodeLaws.{node-one}
 use Rattle.layout.specs.Layout.{MEMBERS, HEAD, TWIN}
 use Rattle.layout.specs.Tables.{cell, members, owners}

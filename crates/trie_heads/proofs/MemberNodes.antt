@@ -18,7 +18,7 @@ use Rattle.trays.proofs.Accepted.{accepted-tells}
 use Rattle.trays.proofs.Spans.{accepted-spanned}
 use Rattle.tables.specs.Tables.{Got}
 use Rattle.tables.proofs.Tables.{table-at}
-use Rattle.matching.specs.Nodes.{string, IsNode, Num}
+use Rattle.matching.specs.steps.Nodes.{string, IsNode, Num}
 use Rattle.matching.proofs.NodeLaws.{node-root}
 use Rattle.layout.specs.Layout.{MEMBERS, AT}
 use Rattle.layout.specs.Tables.{cell, members}

@@ -1,7 +1,7 @@
 // The members of each node: for each node the lowest member whose letters it is, and for each member the next of the same letters.
 ghost use Prim.Native.Nat.{_+_};
 ghost use Rattle.trays.specs.Slips.{slip, slipsOf};
-ghost use Rattle.matching.specs.Nodes.{IsNode};
+ghost use Rattle.matching.specs.steps.Nodes.{IsNode};
 ghost use Rattle.layout.specs.Tables.{members};
 ghost use Rattle.layout.specs.Numbered.{patternsIn, Automaton};
 ghost use Rattle.trie_heads.specs.steps.Heads as N;

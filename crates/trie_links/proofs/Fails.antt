@@ -11,7 +11,7 @@ use native.Mathlib.Omega.{arith}
 use lib.ListN.{length}
 use Rattle.tables.specs.Tables.{Got, Cells, Only, Put, Room}
 use Rattle.tables.proofs.Tables.{only-refl, only-trans, only-wider, cells-put, put-here, put-other}
-use Rattle.matching.specs.Nodes.{nodesOf, string, IsNode, Num}
+use Rattle.matching.specs.steps.Nodes.{nodesOf, string, IsNode, Num}
 use Rattle.matching.proofs.States.{fail, step-state}
 use Rattle.matching.proofs.NodeLaws.{nodes-numbered, is-root, node-fails}
 use Rattle.matching.proofs.Paths.{fail-root, fail-from}

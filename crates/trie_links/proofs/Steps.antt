@@ -14,7 +14,7 @@ use lib.ListN.{length, getD, take, drop}
 use lib.Seq.{drop-cons}
 use Rattle.tables.specs.Tables.{Got}
 use Rattle.matching.specs.Moves.{beginsSome, longestEnding, stepped, stepFrom, step, movesFrom}
-use Rattle.matching.specs.Nodes.{string, IsNode, Num}
+use Rattle.matching.specs.steps.Nodes.{string, IsNode, Num}
 use Rattle.matching.proofs.States.{fail, step-hit, step-stop, step-drop, step-enough, longest-length, longest-next}
 use Rattle.matching.proofs.NodeLaws.{node-root, is-root, node-some, node-fails}
 use Rattle.layout.specs.Layout.{FAIL}

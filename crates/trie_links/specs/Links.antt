@@ -10,7 +10,7 @@ use Prim.Native.Nat.{ℕ, _≤_, _<_}
 use Rattle.words.specs.Lists.{tailOf}
 use Rattle.tables.specs.Tables.{Cells, Only}
 use Rattle.matching.specs.Moves.{longestEnding, step}
-use Rattle.matching.specs.Nodes.{string, IsNode}
+use Rattle.matching.specs.steps.Nodes.{string, IsNode}
 use Rattle.layout.specs.Layout.{maxNodes, KID, NEAR, FAIL}
 use Rattle.layout.specs.Tables.{cell, NearIs, FailUpTo}
 use Rattle.layout.specs.Numbered.{patternsIn, Branched, Automaton}

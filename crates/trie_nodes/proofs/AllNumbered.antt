@@ -8,7 +8,7 @@ use lib.ListN.{length, getD, take, length-map}
 use Rattle.words.proofs.Picks.{in-getD}
 use Rattle.trays.specs.Limits.{maxSlip, maxLetters}
 use Rattle.trays.specs.Slips.{slip, startOf}
-use Rattle.matching.specs.Nodes.{nodesOf}
+use Rattle.matching.specs.steps.Nodes.{nodesOf}
 use Rattle.matching.proofs.Numbering.{levelsUp, nodeAt, nodeAt-is}
 use Rattle.layout.specs.Layout.{LEVEL, AT, OWN}
 use Rattle.layout.specs.Tables.{cell, patterns, AtIs, OwnIs, LevelIs}

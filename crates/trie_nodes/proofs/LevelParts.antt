@@ -13,7 +13,7 @@ use lib.ListN.{length, getD, length-append, List·getD-append}
 use lib.Seq.{getD-append-add}
 use Rattle.words.proofs.Members.{In}
 use Rattle.words.proofs.Picks.{getD-in}
-use Rattle.matching.specs.Nodes.{nodesOf, string, Num}
+use Rattle.matching.specs.steps.Nodes.{nodesOf, string, Num}
 use Rattle.matching.proofs.Levels.{level, level-length}
 use Rattle.matching.proofs.Ranks.{rank-fits}
 use Rattle.matching.proofs.Numbering.{levelsUp, nodeAt, in-levelsUp}

@@ -19,7 +19,7 @@ use Rattle.words.proofs.Sums.{sum}
 use Rattle.words.proofs.Runs.{length-upFrom}
 use Rattle.trays.specs.Limits.{maxSlip, maxLetters}
 use Rattle.trays.specs.Slips.{slip}
-use Rattle.matching.specs.Nodes.{lower, prefixes, nodesOf}
+use Rattle.matching.specs.steps.Nodes.{lower, prefixes, nodesOf}
 use Rattle.matching.proofs.Numbering.{levelsUp, lower-irr, lower-tr}
 use Rattle.matching.proofs.Numbered.{str, Numbered}
 use Rattle.matching.proofs.NodeLaws.{nodes-numbered}

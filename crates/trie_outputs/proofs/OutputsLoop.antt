@@ -15,7 +15,7 @@ use Rattle.trays.specs.Limits.{maxSlips}
 use Rattle.trays.specs.Slips.{slipsOf, slip}
 use Rattle.tables.specs.Tables.{Got, Put, Room}
 use Rattle.tables.proofs.Tables.{put-only, put-here, put-other}
-use Rattle.matching.specs.Nodes.{nodesOf, string, IsNode, Num}
+use Rattle.matching.specs.steps.Nodes.{nodesOf, string, IsNode, Num}
 use Rattle.matching.proofs.States.{fail}
 use Rattle.matching.proofs.NodeLaws.{node-fails}
 use Rattle.matching.proofs.Finds.{endingOf}

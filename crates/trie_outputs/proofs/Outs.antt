@@ -26,7 +26,7 @@ use Rattle.words.proofs.Strings.{begins-refl}
 use Rattle.trays.specs.Slips.{slip}
 use Rattle.matching.specs.Moves.{beginsSome, longestEnding}
 use Rattle.matching.specs.Occurrences.{firstHere}
-use Rattle.matching.specs.Nodes.{nodesOf, string, IsNode, Num}
+use Rattle.matching.specs.steps.Nodes.{nodesOf, string, IsNode, Num}
 use Rattle.matching.proofs.Endings.{slip-some}
 use Rattle.matching.proofs.States.{fail, longest-whole, longest-skip}
 use Rattle.matching.proofs.Finds.{endingOf, ending-cons, ending-none, ending-longest}

@@ -9,7 +9,7 @@ use Rattle.words.specs.Words.{same}
 use Rattle.words.proofs.Members.{In, in-those}
 use Rattle.trays.specs.Slips.{slipsOf, slip}
 use Rattle.tables.specs.Tables.{Got}
-use Rattle.matching.specs.Nodes.{string}
+use Rattle.matching.specs.steps.Nodes.{string}
 use Rattle.layout.specs.Layout.{HEAD, TWIN}
 use Rattle.layout.specs.Tables.{cell, members, owners, Threaded}
 use Rattle.layout.specs.Numbered.{patternsIn}

@@ -3,7 +3,7 @@
 ghost use mathlib.Core.Path.{_≡_};
 ghost use lib.ListN.{length};
 ghost use Rattle.trays.specs.Slips.{slipsOf};
-ghost use Rattle.matching.specs.Nodes.{string};
+ghost use Rattle.matching.specs.steps.Nodes.{string};
 ghost use Rattle.layout.specs.Tables.{members, owners};
 ghost use Rattle.layout.specs.Numbered.{patternsIn, Headed};
 ghost use Rattle.trie_outputs.specs.steps.Outputs as O;

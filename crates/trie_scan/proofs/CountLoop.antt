@@ -10,7 +10,7 @@ use Rattle.trays.specs.Limits.{maxText}
 use Rattle.trays.specs.Slips.{slipsOf, slip}
 use Rattle.tables.specs.Tables.{Got}
 use Rattle.matching.specs.Moves as Moves
-use Rattle.matching.specs.Nodes.{nodesOf, string, IsNode}
+use Rattle.matching.specs.steps.Nodes.{nodesOf, string, IsNode}
 use Rattle.matching.specs.Occurrences as Occurrences
 use Rattle.matching.specs.Occurrences.{endingAt, occurrences}
 use Rattle.matching.proofs.States.{few-from}

@@ -14,7 +14,7 @@ use Rattle.words.specs.Words.{same}
 use Rattle.words.proofs.Members.{In, in-those}
 use Rattle.trays.specs.Slips.{slip}
 use Rattle.tables.specs.Tables.{Got}
-use Rattle.matching.specs.Nodes.{string, Num}
+use Rattle.matching.specs.steps.Nodes.{string, Num}
 use Rattle.matching.proofs.Finds.{endingOf}
 use Rattle.matching.proofs.NodeLaws.{node-some}
 use Rattle.layout.specs.Layout.{HEAD, TWIN, OUT}

@@ -21,7 +21,7 @@ use Rattle.trays.specs.Slips.{slipsOf, slip}
 use Rattle.trays.proofs.Accepted.{accepted-tells, slips-count}
 use Rattle.tables.specs.Tables.{Got}
 use Rattle.matching.specs.Moves.{longestEnding}
-use Rattle.matching.specs.Nodes.{string, IsNode, Num}
+use Rattle.matching.specs.steps.Nodes.{string, IsNode, Num}
 use Rattle.matching.specs.Occurrences.{occurrence, endingAt, occurrences}
 use Rattle.matching.proofs.Endings.{slip-some}
 use Rattle.matching.proofs.Finds.{endingOf, ending-longest}

@@ -3,7 +3,7 @@ ghost use mathlib.Core.Path.{_≡_};
 ghost use Prim.Native.Nat.{_+_, _≤_, _<_};
 ghost use lib.ListN.{length};
 ghost use Rattle.trays.specs.Slips.{slipsOf};
-ghost use Rattle.matching.specs.Nodes.{Num};
+ghost use Rattle.matching.specs.steps.Nodes.{Num};
 ghost use Rattle.layout.specs.Tables.{cell};
 ghost use Rattle.layout.specs.Layout as L;
 ghost use Rattle.layout.specs.Numbered.{patternsIn};

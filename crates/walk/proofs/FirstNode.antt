@@ -16,7 +16,7 @@ use Rattle.trays.specs.Limits.{maxSlip}
 use Rattle.trays.specs.Aside.{notStops}
 use Rattle.trays.proofs.Stops.{after-counts}
 use Rattle.tables.specs.Tables.{Got}
-use Rattle.matching.specs.Nodes.{string, Num}
+use Rattle.matching.specs.steps.Nodes.{string, Num}
 use Rattle.layout.specs.Layout.{LEVEL, OWN}
 use Rattle.layout.specs.Tables.{cell}
 use Rattle.layout.specs.Rows.{nodesAt}

@@ -13,7 +13,7 @@ use Rattle.tables.specs.Tables.{Cells, Only, Got}
 use Rattle.tables.proofs.Tables.{only-refl, only-trans}
 use Rattle.greedy.specs.Walk.{visit, walkFrom}
 use Rattle.greedy.proofs.Scans as S
-use Rattle.matching.specs.Nodes.{string, Num}
+use Rattle.matching.specs.steps.Nodes.{string, Num}
 use Rattle.layout.specs.Layout.{LEVEL, JOINS, allJoins}
 use Rattle.layout.specs.Tables.{cell}
 use Rattle.layout.specs.Numbered.{patternsIn}

@@ -22,7 +22,7 @@ use Rattle.trays.proofs.Accepted.{accepted-tells, span-fits, span-slip}
 use Rattle.trays.proofs.Kept.{kept-asc, in-kept}
 use Rattle.tables.specs.Tables.{Cells, Only}
 use Rattle.tables.proofs.Tables.{table-length, cells-below}
-use Rattle.matching.specs.Nodes.{string, Num}
+use Rattle.matching.specs.steps.Nodes.{string, Num}
 use Rattle.matching.proofs.NodeLaws.{node-some}
 use Rattle.greedy.specs.steps.Scans.{starters, enders}
 use Rattle.layout.specs.Layout.{KEPT, STARTS, STARTS-NEXT, ENDS, ENDS-NEXT, JOINS, allJoins, KID}

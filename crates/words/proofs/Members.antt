@@ -11,7 +11,7 @@ use native.Mathlib.Decide.{ℕ-discrete}
 use native.Mathlib.Omega.{arith}
 use Rattle.words.specs.Lists.{each, those, any, upFrom, insert, inOrder}
 use Rattle.words.proofs.Tests.{by-test, tell, either, or-left, or-right, not-both}
-pub use Rattle.words.specs.Members.{In, Asc, Less}
+pub use Rattle.words.specs.steps.Members.{In, Asc, Less}
 
 pub record Sorts {A : Type 0} (R : A → A → Type 0) (xs ys : List A) : Type 0 where
   pub asc : Asc R ys

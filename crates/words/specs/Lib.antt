@@ -2,4 +2,4 @@
 pub mod Lists
 pub mod Words
 pub mod Quoted
-pub mod Members
+pub mod steps

@@ -7,7 +7,7 @@ use mathlib.Core.Bool.{cond}
 use mathlib.Core.List.{List}
 use Prim.Native.Nat.{ℕ, _≤_}
 use lib.Dec.{eqb}
-use Rattle.words.specs.Members.{In, Asc}
+use Rattle.words.specs.steps.Members.{In, Asc}
 use Rattle.greedy.specs.Joins.{Join, rightOf, leftOf, lastOf}
 
 abbrev pub Apart : Join → Join → Type 0

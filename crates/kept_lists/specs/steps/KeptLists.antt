@@ -18,7 +18,7 @@ use Rattle.words.specs.Lists.{those}
 use Rattle.words.specs.Words.{begins, endsProperly}
 use Rattle.trays.specs.Slips.{slipsOf, slip, startOf, endOf}
 use Rattle.trays.specs.Aside.{kept}
-use Rattle.matching.specs.Nodes.{string, Num}
+use Rattle.matching.specs.steps.Nodes.{string, Num}
 use Rattle.layout.specs.Layout.{HEAD, STARTS, STARTS-NEXT, ENDS, ENDS-NEXT}
 use Rattle.layout.specs.Tables.{cell, members, StartsIs, EndsIs}
 use Rattle.layout.specs.Numbered.{patternsIn, SameBelow}

@@ -9,11 +9,11 @@ use mathlib.Core.Path.{_≡_}
 use mathlib.Core.List.{List}
 use Prim.Native.Nat.{ℕ, _≤_, _<_}
 use lib.ListN.{length}
-use Rattle.words.specs.Members.{In}
+use Rattle.words.specs.steps.Members.{In}
 use Rattle.trays.specs.Limits.{maxSlips}
 use Rattle.trays.specs.Slips.{slipsOf}
 use Rattle.trays.specs.Aside.{kept}
-use Rattle.matching.specs.Nodes.{nodesOf, Num}
+use Rattle.matching.specs.steps.Nodes.{nodesOf, Num}
 use Rattle.layout.specs.Layout.{FAIL, HEAD, MARK, KEPT}
 use Rattle.layout.specs.Tables.{cell, members}
 use Rattle.layout.specs.Numbered.{patternsIn, Automaton, SameBelow, Headed}

@@ -15,7 +15,7 @@ use Prim.Native.Nat.{ℕ, _+_, _*_, _^_, _≤_, _<_}
 use lib.Count.{ones}
 use lib.ListN.{length, take, drop, replicate}
 use Rattle.words.specs.Lists.{upFrom, over}
-use Rattle.words.specs.Members.{In}
+use Rattle.words.specs.steps.Members.{In}
 use Rattle.trays.specs.Limits.{maxShortest}
 use Rattle.tables.specs.Tables.{Cells, Only}
 use Rattle.shortest.specs.Orders.{without}

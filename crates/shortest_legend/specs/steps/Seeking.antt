@@ -12,7 +12,7 @@ use mathlib.Core.List.{List, map}
 use Prim.Native.Nat.{ℕ, _+_, _^_, _≤_, _<_}
 use lib.ListN.{length, getD, take, replicate}
 use Rattle.words.specs.Lists.{over}
-use Rattle.words.specs.Members.{Asc}
+use Rattle.words.specs.steps.Members.{Asc}
 use Rattle.trays.specs.Limits.{maxShortest, workNeed}
 use Rattle.trays.specs.declared.Settings.{Settings}
 use Rattle.trays.specs.Slips.{slipsOf}

@@ -6,7 +6,7 @@ use mathlib.Core.Path.{_≡_}
 use mathlib.Core.List.{List}
 use Prim.Native.Nat.{ℕ, _+_, _<_}
 use lib.ListN.{length, getD}
-use Rattle.words.specs.Members.{In}
+use Rattle.words.specs.steps.Members.{In}
 use Rattle.layout.specs.Layout.{HEAD}
 use Rattle.layout.specs.Tables.{cell, members, Threaded}
 use Rattle.layout.specs.Numbered.{Automaton, SameBelow, Headed}

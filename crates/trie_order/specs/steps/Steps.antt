@@ -7,7 +7,7 @@ use mathlib.Core.List.{List, [], _∷_, _++_, List·Memᴰ}
 use Prim.Native.Nat.{ℕ, _<_}
 use lib.ListN.{length, take, drop}
 use Rattle.words.specs.Lists.{insert, headOr, tailOf}
-use Rattle.words.specs.Members.{Asc, Less}
+use Rattle.words.specs.steps.Members.{Asc, Less}
 use Rattle.trays.specs.Slips.{slipsOf}
 use Rattle.trie_order.specs.Order.{precedes, Members}
 

@@ -15,7 +15,7 @@ use Prim.Native.Nat.{ℕ, _<_}
 use lib.ListN.{length}
 use Rattle.words.specs.Lists.{tailOf}
 use Rattle.trays.specs.Slips.{slipsOf}
-use Rattle.matching.specs.Nodes.{nodesOf, string, IsNode, Num}
+use Rattle.matching.specs.steps.Nodes.{nodesOf, string, IsNode, Num}
 use Rattle.matching.specs.Occurrences.{endingOf}
 use Rattle.layout.specs.Layout.{OUT, TALLY}
 use Rattle.layout.specs.Tables.{cell, members, patterns, owners}

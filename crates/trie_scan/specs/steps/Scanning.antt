@@ -15,11 +15,11 @@ use mathlib.Core.List.{List, [], _∷_, _++_, map}
 use Prim.Native.Nat.{ℕ, suc, _+_, _-_, _*_, _≤_, _<_}
 use lib.ListN.{length, take, drop}
 use Rattle.words.specs.Lists.{each, upFrom}
-use Rattle.words.specs.Members.{In}
+use Rattle.words.specs.steps.Members.{In}
 use Rattle.trays.specs.Limits.{maxText}
 use Rattle.trays.specs.Slips.{slipsOf, numbers}
 use Rattle.matching.specs.Moves.{longestEnding, moves}
-use Rattle.matching.specs.Nodes.{string, IsNode, Num}
+use Rattle.matching.specs.steps.Nodes.{string, IsNode, Num}
 use Rattle.matching.specs.Occurrences.{Occurrence, occurrence, endingAt, occurrences}
 use Rattle.matching.specs.Occurrences.{endingOf}
 use Rattle.layout.specs.Layout.{TWIN, OUT, SCAN}

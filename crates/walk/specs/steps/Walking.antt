@@ -14,7 +14,7 @@ use Rattle.trays.specs.Aside.{kept, notStops, counted}
 use Rattle.tables.specs.Tables.{Cells, Only}
 use Rattle.greedy.specs.Joins.{Join, rightOf, plainFor}
 use Rattle.greedy.specs.Walk.{walkFrom}
-use Rattle.matching.specs.Nodes.{string}
+use Rattle.matching.specs.steps.Nodes.{string}
 use Rattle.layout.specs.Layout.{LEVEL, STARTS, STARTS-NEXT, ENDS, ENDS-NEXT, JOINS, allJoins}
 use Rattle.layout.specs.Tables.{cell, members, StartsIs, EndsIs}
 use Rattle.layout.specs.Numbered.{patternsIn, Numbered}

@@ -13,7 +13,7 @@ use mathlib.Core.List.{List, [], _∷_}
 use Prim.Native.Nat.{ℕ, zero, suc, _+_, _-_, _≤_, _<_}
 use lib.Dec.{eqb}
 use lib.ListN.{length, getD}
-use Rattle.words.specs.Members.{In, Asc}
+use Rattle.words.specs.steps.Members.{In, Asc}
 use Rattle.trays.specs.Limits.{maxSlips}
 use Rattle.trays.specs.Slips.{startOf, endOf}
 use Rattle.layout.specs.Layout.{STARTS, STARTS-NEXT, ENDS, ENDS-NEXT}
