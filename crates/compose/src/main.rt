@@ -1,4 +1,4 @@
-// Reads a tray file on standard input and writes its sheet.
+// Reads a tray file on standard input and writes its sheet. With an argument it says how it is run.
 use file_rule::ENDS_NEED;
 use file_rule::MAX_FILE;
 use layout::WORK_NEED;
@@ -27,7 +27,7 @@ fn print_sheet(file: &[u8]) {
 }
 
 // One byte more than a tray file may have is read, so that a longer one is seen.
-fn main() {
+fn print_input() {
     let mut file = [0u8; MAX_FILE + 1];
     let came = input::read_all(0, &mut file);
     if came.failed {
@@ -36,4 +36,16 @@ fn main() {
     }
     let n = came.count;
     print_sheet(&file[..n]);
+}
+
+// Its own name is counted among the arguments.
+fn main() {
+    if os::arg_count() > 1 {
+        io::write_all(
+            2,
+            b"compose takes no argument; run it as: compose < TRAY-FILE\n",
+        );
+        return;
+    }
+    print_input();
 }

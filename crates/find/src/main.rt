@@ -1,4 +1,4 @@
-// Opens TRAY.TXT and TEXT.TXT and writes the sheet of the text's occurrences.
+// Opens TRAY.TXT and TEXT.TXT and writes the sheet of the text's occurrences. With an argument it says how it is run.
 use answers::MAX_TEXT;
 use file_rule::ENDS_NEED;
 use file_rule::MAX_FILE;
@@ -48,7 +48,7 @@ fn print_files(tray: i32, text: i32) {
 }
 
 // Both are opened before either is checked.
-fn main() {
+fn print_folder() {
     let tray = os::open_read(b"TRAY.TXT");
     let text = os::open_read(b"TEXT.TXT");
     if tray < 0 || text < 0 {
@@ -58,4 +58,16 @@ fn main() {
     print_files(tray, text);
     libc::close(tray);
     libc::close(text);
+}
+
+// Its own name is counted among the arguments.
+fn main() {
+    if os::arg_count() > 1 {
+        io::write_all(
+            2,
+            b"find takes no argument; run it in the folder that has TRAY.TXT and TEXT.TXT\n",
+        );
+        return;
+    }
+    print_folder();
 }
