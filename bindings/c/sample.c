@@ -1,125 +1,128 @@
-/* Reads a tray file on standard input, composes it, finds its slips in the legend, seeks the shortest legend, and merges it with another tray: every call of
- * kotsghane.h. No overlap of the tray is too short; what a least overlap does is shown of a tray of two slips. */
-#include "kotsghane.h"
+/* Reads a tray file on standard input, composes it, finds its slips in the legend, seeks the shortest legend, and merges it with another tray: every call.
+ * No overlap of the tray is too short; a tray of two slips shows what a least overlap does. */
+#include "kotsghane_structs.h"
+#include <inttypes.h>
 #include <stdio.h>
 
-static uint8_t file[KOTSGHANE_MAX_FILE + 1], letters[KOTSGHANE_MAX_FILE], legend[KOTSGHANE_MAX_LETTERS];
-static uint16_t ends[KOTSGHANE_FILE_ENDS], work[KOTSGHANE_WORK];
-static uint16_t joins[KOTSGHANE_JOIN * KOTSGHANE_MAX_SLIPS], places[KOTSGHANE_PLACE * KOTSGHANE_MAX_SLIPS];
-static uint32_t found[KOTSGHANE_OCCURRENCE * 8000];
+static uint8_t file[KOTSGHANE_MAX_FILE + 1];
+static kotsghane_tray_buffers tray_buffers, merged_buffers;
+static kotsghane_buffers buffers;
+static kotsghane_occurrence found[8000];
 
-/* Prints a refusal, if there is one. */
-static int refused(const char *call, const uint32_t *answer) {
-    if (answer[KOTSGHANE_NUMBER] != 0) {
-        printf("%s: refused by %u, detail %u\n", call, (unsigned)answer[KOTSGHANE_NUMBER], (unsigned)answer[KOTSGHANE_DETAIL]);
+/* Prints a refusal, if there is one: by its number, and in words. */
+static int refused(const char *call, uint32_t number, uint32_t detail) {
+    const char *what = kotsghane_detail_text(number);
+    if (number == KOTSGHANE_ACCEPTED) {
+        return 0;
     }
-    return answer[KOTSGHANE_NUMBER] != 0;
+    printf("%s: refused by %" PRIu32 ", detail %" PRIu32 "\n  %s", call, number, detail, kotsghane_refusal_text(number));
+    if (what != NULL) {
+        printf(": %s %" PRIu32, what, detail);
+    }
+    printf("\n");
+    return 1;
 }
 
-/* Prints the shortest legend of k slips with n letters, in a buffer of `room` letters. */
-static void say_shortest(size_t n, size_t k, size_t room) {
-    uint32_t shortest[KOTSGHANE_SHORTEST_NUMBERS];
-    kotsghane_shortest(letters, n, ends, k, 1, work, KOTSGHANE_WORK, legend, room, shortest);
-    if (refused("shortest", shortest)) {
+/* Prints every slip that is found in a text. */
+static void say_found(kotsghane_tray tray, const uint8_t *text, size_t length) {
+    kotsghane_found search = kotsghane_find_slips(tray, text, length, kotsghane_lend(&buffers), found, sizeof found / sizeof *found);
+    if (refused("find", search.number, search.detail)) {
         return;
     }
-    printf("shortest legend %.*s, of slips", (int)shortest[KOTSGHANE_SHORTEST_LEGEND], (const char *)legend);
-    for (uint32_t i = 0; i < shortest[KOTSGHANE_SHORTEST_COUNT]; i++) {
-        printf(" %u", (unsigned)shortest[KOTSGHANE_SHORTEST_ORDER + i]);
+    for (uint32_t i = 0; i < search.count; i++) {
+        kotsghane_letters slip = kotsghane_slip_letters(tray, found[i].slip);
+        printf("slip %" PRIu32 ", %.*s, ends at %" PRIu32 "\n", found[i].slip, (int)slip.letters_len, (const char *)slip.letters, found[i].end);
+    }
+}
+
+/* Prints the legend of the tray, its joins, the slips set aside, and every slip that is found in the legend. */
+static void say_composed(kotsghane_tray tray) {
+    kotsghane_composed composed = kotsghane_compose_tray(tray, 1, kotsghane_lend(&buffers));
+    if (refused("compose", composed.number, composed.detail)) {
+        return;
+    }
+    printf("legend %.*s, %" PRIu32 " letters saved\n", (int)composed.legend, (const char *)buffers.legend, composed.saved);
+    for (uint32_t j = 0; j < composed.joins; j++) {
+        kotsghane_join join = buffers.joins[j];
+        kotsghane_overlap pair = kotsghane_pair_overlap(tray, join.left, join.right, 1);
+        printf("join %u to %u by %u, overlap %" PRIu32 "\n", join.left, join.right, join.overlap, pair.overlap);
+    }
+    for (uint32_t slip = 1; slip <= composed.slips; slip++) {
+        kotsghane_place place = buffers.places[slip - 1];
+        if (!place.kept) {
+            printf("slip %" PRIu32 " is set aside and stands at %u, %u letters compared\n", slip, place.place, place.compared);
+        }
+    }
+    say_found(tray, buffers.legend, composed.legend);
+}
+
+/* Prints the shortest legend of the tray. */
+static void say_shortest(kotsghane_tray tray, kotsghane_lent lent) {
+    kotsghane_laid laid = kotsghane_shortest_legend(tray, 1, lent);
+    if (refused("shortest", laid.number, laid.detail)) {
+        return;
+    }
+    printf("shortest legend %.*s, of slips", (int)laid.legend, (const char *)lent.legend);
+    for (uint32_t i = 0; i < laid.count; i++) {
+        printf(" %" PRIu32, laid.order[i]);
     }
     printf("\n");
 }
 
 /* Prints the legend of AB and BC with a least overlap. */
 static void say_least(uint32_t least) {
-    static const uint8_t two[] = {'A', 'B', 'B', 'C'};
-    static const uint16_t two_ends[] = {2, 4};
-    uint32_t composed[KOTSGHANE_COMPOSED_NUMBERS], pair[KOTSGHANE_PAIR_NUMBERS];
-    kotsghane_compose(two, 4, two_ends, 2, least, work, KOTSGHANE_WORK, legend, sizeof legend, joins, sizeof joins / sizeof *joins, places,
-                      sizeof places / sizeof *places, composed);
-    kotsghane_pair(two, 4, two_ends, 2, 1, 2, least, pair);
-    if (refused("compose", composed) || refused("pair", pair)) {
+    static const uint8_t letters[] = {'A', 'B', 'B', 'C'};
+    static const uint16_t ends[] = {2, 4};
+    kotsghane_tray two = {letters, 4, ends, 2};
+    kotsghane_composed composed = kotsghane_compose_tray(two, least, kotsghane_lend(&buffers));
+    kotsghane_overlap pair = kotsghane_pair_overlap(two, 1, 2, least);
+    if (refused("compose", composed.number, composed.detail) || refused("pair", pair.number, pair.detail)) {
         return;
     }
-    printf("least overlap %u: legend %.*s, overlap %u\n", (unsigned)least, (int)composed[KOTSGHANE_COMPOSED_LEGEND], (const char *)legend,
-           (unsigned)pair[KOTSGHANE_PAIR_OVERLAP]);
+    printf("least overlap %" PRIu32 ": legend %.*s, overlap %" PRIu32 "\n", least, (int)composed.legend, (const char *)buffers.legend, pair.overlap);
 }
 
-/* Merges the tray of k slips with n letters with AES, VGP, VGP and PIVSPP, where `room` ends are lent, and prints the slips and their legend. */
-static void say_merged(size_t n, size_t k, size_t room) {
-    static const uint8_t more[] = {'A', 'E', 'S', 'V', 'G', 'P', 'V', 'G', 'P', 'P', 'I', 'V', 'S', 'P', 'P'};
-    static const uint16_t more_ends[] = {3, 6, 9, 15};
-    static uint8_t all[KOTSGHANE_MAX_LETTERS];
-    static uint16_t all_ends[KOTSGHANE_MAX_SLIPS];
-    uint32_t merged[KOTSGHANE_MERGED_NUMBERS], composed[KOTSGHANE_COMPOSED_NUMBERS];
-    kotsghane_merge(letters, n, ends, k, more, sizeof more, more_ends, 4, all, sizeof all, all_ends, room, merged);
-    if (refused("merge", merged)) {
+/* Merges the tray with AES, VGP, VGP and PIVSPP, and prints the slips and their legend. */
+static void say_merged(kotsghane_tray tray, kotsghane_lent_tray lent) {
+    static const uint8_t letters[] = {'A', 'E', 'S', 'V', 'G', 'P', 'V', 'G', 'P', 'P', 'I', 'V', 'S', 'P', 'P'};
+    static const uint16_t ends[] = {3, 6, 9, 15};
+    kotsghane_tray more = {letters, sizeof letters, ends, 4};
+    kotsghane_written merged = kotsghane_merge_trays(tray, more, lent);
+    if (refused("merge", merged.number, merged.detail)) {
         return;
     }
-    uint32_t size = merged[KOTSGHANE_MERGED_LETTERS], slips = merged[KOTSGHANE_MERGED_SLIPS], start = 0;
-    printf("merged, %u letters:", (unsigned)size);
-    for (uint32_t i = 0; i < slips; i++) {
-        printf(" %.*s", (int)(all_ends[i] - start), (const char *)all + start);
-        start = all_ends[i];
+    printf("merged, %u letters:", (unsigned)merged.tray.letters_len);
+    for (size_t i = 1; i <= merged.tray.ends_len; i++) {
+        kotsghane_letters slip = kotsghane_slip_letters(merged.tray, i);
+        printf(" %.*s", (int)slip.letters_len, (const char *)slip.letters);
     }
-    kotsghane_compose(all, size, all_ends, slips, 1, work, KOTSGHANE_WORK, legend, sizeof legend, joins, sizeof joins / sizeof *joins, places,
-                      sizeof places / sizeof *places, composed);
-    printf(", legend %.*s\n", (int)composed[KOTSGHANE_COMPOSED_LEGEND], (const char *)legend);
-}
-
-/* Prints every slip that is found in a text. */
-static void say_found(size_t n, size_t k, const uint8_t *text, size_t length) {
-    uint32_t search[KOTSGHANE_FOUND_NUMBERS], slip[KOTSGHANE_SLIP_NUMBERS];
-    kotsghane_find(letters, n, ends, k, text, length, work, KOTSGHANE_WORK, found, sizeof found / sizeof *found, search);
-    if (refused("find", search)) {
-        return;
-    }
-    for (uint32_t i = 0; i < search[KOTSGHANE_FOUND_COUNT]; i++) {
-        const uint32_t *at = found + KOTSGHANE_OCCURRENCE * i;
-        kotsghane_slip(letters, n, ends, k, at[1], slip);
-        uint32_t start = slip[KOTSGHANE_SLIP_START], end = slip[KOTSGHANE_SLIP_END];
-        printf("slip %u, %.*s, ends at %u\n", (unsigned)at[1], (int)(end - start), (const char *)letters + start, (unsigned)at[0]);
-    }
+    kotsghane_composed composed = kotsghane_compose_tray(merged.tray, 1, kotsghane_lend(&buffers));
+    printf(", legend %.*s\n", (int)composed.legend, (const char *)buffers.legend);
 }
 
 int main(void) {
-    uint32_t read[KOTSGHANE_READ_NUMBERS], composed[KOTSGHANE_COMPOSED_NUMBERS];
-    uint32_t slip[KOTSGHANE_SLIP_NUMBERS], pair[KOTSGHANE_PAIR_NUMBERS];
+    kotsghane_lent lent = kotsghane_lend(&buffers);
+    kotsghane_lent_tray lent_tray = kotsghane_lend_tray(&merged_buffers);
     size_t bytes = fread(file, 1, sizeof file, stdin);
-    kotsghane_read_tray(file, bytes, letters, KOTSGHANE_MAX_FILE, ends, KOTSGHANE_FILE_ENDS, read);
-    if (refused("read", read)) {
+    kotsghane_written written = kotsghane_read_tray_file(file, bytes, kotsghane_lend_tray(&tray_buffers));
+    kotsghane_tray tray = written.tray;
+    if (refused("read", written.number, written.detail)) {
         return 1;
     }
-    size_t n = read[KOTSGHANE_READ_LETTERS], k = read[KOTSGHANE_READ_SLIPS];
-    kotsghane_compose(letters, n, ends, k, 1, work, KOTSGHANE_WORK, legend, sizeof legend, joins, sizeof joins / sizeof *joins, places,
-                      sizeof places / sizeof *places, composed);
-    if (refused("compose", composed)) {
-        return 1;
-    }
-    size_t length = composed[KOTSGHANE_COMPOSED_LEGEND];
-    printf("legend %.*s, %u letters saved\n", (int)length, (const char *)legend, (unsigned)composed[KOTSGHANE_COMPOSED_SAVED]);
-    for (uint32_t j = 0; j < composed[KOTSGHANE_COMPOSED_JOINS]; j++) {
-        const uint16_t *join = joins + KOTSGHANE_JOIN * j;
-        kotsghane_pair(letters, n, ends, k, join[0], join[1], 1, pair);
-        printf("join %u to %u by %u, overlap %u\n", join[0], join[1], join[2], (unsigned)pair[KOTSGHANE_PAIR_OVERLAP]);
-    }
-    for (uint32_t i = 0; i < composed[KOTSGHANE_COMPOSED_SLIPS]; i++) {
-        const uint16_t *place = places + KOTSGHANE_PLACE * i;
-        if (place[1] == 0) {
-            printf("slip %u is set aside and stands at %u, %u letters compared\n", (unsigned)i + 1, place[0], place[2]);
-        }
-    }
-    say_found(n, k, legend, length);
-    say_shortest(n, k, sizeof legend);
-    say_shortest(n, k, 0);
+    say_composed(tray);
+    say_shortest(tray, lent);
+    lent.legend_len = 0;
+    say_shortest(tray, lent);
     say_least(1);
     say_least(2);
     say_least(KOTSGHANE_MAX_LEAST + 1);
-    say_merged(n, k, KOTSGHANE_MAX_SLIPS);
-    say_merged(n, k, KOTSGHANE_MAX_SLIPS - 1);
-    kotsghane_pair(letters, n, ends, k, 1, 1, 1, pair);
-    refused("pair", pair);
-    kotsghane_slip(letters, n, ends, k, 0, slip);
-    refused("slip", slip);
+    say_merged(tray, lent_tray);
+    lent_tray.ends_len = KOTSGHANE_MAX_SLIPS - 1;
+    say_merged(tray, lent_tray);
+    uint32_t pair[KOTSGHANE_PAIR_NUMBERS];
+    kotsghane_pair(tray.letters, tray.letters_len, tray.ends, tray.ends_len, 1, 1, 1, pair); /* a call without structs */
+    refused("pair", pair[KOTSGHANE_NUMBER], pair[KOTSGHANE_DETAIL]);
+    kotsghane_span span = kotsghane_slip_span(tray, 0);
+    refused("slip", span.number, span.detail);
     return 0;
 }
