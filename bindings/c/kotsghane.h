@@ -1,11 +1,11 @@
 /* Coin legends composed from worn readings: the calls of the proved library, for C and C++.
  *
- * `rt staticlib kotsghane` at the root of the repository writes target/staticlib/libkotsghane.a; link it. This file declares what the archive has: pointers,
- * lengths and numbers.
+ * `rt staticlib kotsghane` at the root of the repository writes target/staticlib/libkotsghane.a, for x86-64 programs; link it. This file declares what the
+ * archive has: functions over pointers, lengths and numbers. kotsghane_structs.h has the same calls with structs; most callers will want that one.
  *
- * A tray is letters and ends: slip 1 runs from the start to ends[0], slip i from ends[i - 2] to ends[i - 1]. A letter is a capital A to Z or the full stop. A
- * slip is set aside if its letters stand in a longer slip, or equal those of a slip with a lower number; the others are kept. The overlap of two slips is the
- * longest string that ends the left one and begins the right one; where that is full stops alone, it counts as empty.
+ * A tray is letters and ends: slip 1 runs from the start to ends[0], slip i from ends[i - 2] to ends[i - 1]. Slips are numbered from 1. A letter is a capital
+ * A to Z or the full stop. A slip is set aside if its letters stand in a longer slip, or equal those of a slip with a lower number; the others are kept. The
+ * overlap of two slips is the longest string that ends the left one and begins the right one; if that is full stops alone, it counts as empty.
  *
  * Every call takes any bytes, any ends and any lengths; what cannot be done is refused, by a number and a detail in the answer. docs/REFUSALS.md says what to
  * do about each. A refusal leaves every lent buffer as it was; only the work area may differ, and only after 8, 9, 14 and 20. On success the first part of
@@ -37,7 +37,7 @@ extern "C" {
 enum {
     KOTSGHANE_MAX_SLIPS = 200,     /* slips of a tray (1), and ends to lend for two trays merged (15) */
     KOTSGHANE_MAX_SLIP = 32,       /* letters of a slip (3) */
-    KOTSGHANE_MAX_LETTERS = 2000,  /* letters of a tray (4), and so of a legend; to lend for two trays merged (15) */
+    KOTSGHANE_MAX_LETTERS = 2000,  /* letters of a tray (4), and so of a legend; and letters to lend for two trays merged (15) */
     KOTSGHANE_MAX_TEXT = 2000,     /* letters of a text (12) */
     KOTSGHANE_WORK = 32000,        /* cells of the work area (7) */
     KOTSGHANE_MAX_FILE = 16384,    /* bytes of a tray file (16), and letters to lend for one (15) */
@@ -151,8 +151,8 @@ void kotsghane_pair(const uint8_t *letters, size_t letters_len, const uint16_t *
  * leading zeros, the length, likewise in columns 5 to 8, a blank, the letters, and LF, on the last line too. Callers who fetch the bytes from a file should
  * have room for one more than KOTSGHANE_MAX_FILE: then a file that is too long is refused, and not cut.
  *
- * Lend at least KOTSGHANE_MAX_FILE letters and KOTSGHANE_FILE_ENDS ends. Letters are filed as the die has them: small ones as capitals, U as V, J as I, and 0
- * for a byte that is none of these. No other call folds letters in this way. Refusals 15 to 19, of the file as it stands; the tray itself is judged by the
+ * Lend at least KOTSGHANE_MAX_FILE letters and KOTSGHANE_FILE_ENDS ends. Letters are filed as the die has them: small ones as capitals, U as V, J as I; a byte
+ * that is still no letter is filed as 0. No other call folds letters in this way. Refusals 15 to 19, of the file as it stands; the tray itself is judged by the
  * other calls, which refuse a 0 by 6. */
 void kotsghane_read_tray(const uint8_t *file, size_t file_len, uint8_t *letters, size_t letters_len, uint16_t *ends, size_t ends_len,
                          uint32_t answer[KOTSGHANE_READ_NUMBERS]);
@@ -160,7 +160,8 @@ void kotsghane_read_tray(const uint8_t *file, size_t file_len, uint8_t *letters,
 /* Merges two trays into letters and ends: the slips of the first, and then those of the second whose letters equal no slip written before, numbered anew
  * from 1. Equal slips of the first tray all stay; a slip that is only a part of another is not its equal. Lend at least KOTSGHANE_MAX_LETTERS letters and
  * KOTSGHANE_MAX_SLIPS ends. Refusal 15, which is reported first; 1 to 6 of the first tray, then of the second, by its own slip numbers; then 1 and 4 of the
- * outcome. Where the two trays, simply written one after the other, are accepted as one, that tray composes to the same legend. */
+ * outcome. The answer does not say which of the three was refused. Where the two trays, simply written one after the other, are accepted as one, that tray
+ * composes to the same legend. */
 void kotsghane_merge(const uint8_t *letters1, size_t letters1_len, const uint16_t *ends1, size_t ends1_len, const uint8_t *letters2,
                      size_t letters2_len, const uint16_t *ends2, size_t ends2_len, uint8_t *letters, size_t letters_len, uint16_t *ends,
                      size_t ends_len, uint32_t answer[KOTSGHANE_MERGED_NUMBERS]);

@@ -2,8 +2,10 @@
  * includes kotsghane.h, and what that says of trays, letters, the least overlap and what is lent holds here too. All functions are inline: there is nothing
  * more to link. They do not allocate, and have no state.
  *
- * There is one function for each call. It returns a struct, in which `number` is KOTSGHANE_ACCEPTED, or one of KOTSGHANE_REFUSED_...; then `detail` is the
- * detail of the refusal, and all counts are 0. kotsghane_refusal_text puts a number into words, and kotsghane_detail_text what its detail is.
+ * The functions are kotsghane_read_tray_file, kotsghane_compose_tray, kotsghane_shortest_legend, kotsghane_find_slips, kotsghane_slip_span,
+ * kotsghane_pair_overlap and kotsghane_merge_trays, one for each call. Each returns a struct, in which `number` is KOTSGHANE_ACCEPTED or, if the call is
+ * refused, one of KOTSGHANE_REFUSED_...; then `detail` is the detail of the refusal, and all counts are 0. kotsghane_refusal_text puts a number into words, and
+ * kotsghane_detail_text what its detail is. kotsghane_slip_letters gives the letters of one slip.
  *
  * Buffers are lent as a struct of pointers and lengths. The easy way is to declare a kotsghane_buffers, whose arrays are large enough for any tray, and to lend
  * all of it:
