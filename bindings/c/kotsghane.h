@@ -3,9 +3,10 @@
  * `rt staticlib kotsghane` at the root of the repository writes target/staticlib/libkotsghane.a, for x86-64 programs; link it. This file declares what the
  * archive has: functions over pointers, lengths and numbers. kotsghane_structs.h has the same calls with structs; most callers will want that one.
  *
- * A tray is letters and ends: slip 1 runs from the start to ends[0], slip i from ends[i - 2] to ends[i - 1]. Slips are numbered from 1. A letter is a capital
- * A to Z or the full stop. A slip is set aside if its letters stand in a longer slip, or equal those of a slip with a lower number; the others are kept. The
- * overlap of two slips is the longest string that ends the left one and begins the right one; if that is full stops alone, it counts as empty.
+ * A tray is letters and ends: slip 1 is letters[0] up to, but not including, letters[ends[0]], and each later slip i begins where the one before ends, at
+ * letters[ends[i - 2]], and ends before letters[ends[i - 1]]. Slips are numbered from 1. A letter is a capital A to Z or the full stop. A slip is set aside if
+ * its letters stand in a longer slip, or equal those of a slip with a lower number; the others are kept. The overlap of two slips is the longest string that
+ * ends the left one and begins the right one; if that is full stops alone, it counts as empty.
  *
  * Every call takes any bytes, any ends and any lengths; what cannot be done is refused, by a number and a detail in the answer. docs/REFUSALS.md says what to
  * do about each. A refusal leaves every lent buffer as it was; only the work area may differ, and only after 8, 9, 14 and 20. On success the first part of
@@ -118,9 +119,13 @@ enum { KOTSGHANE_READ_LETTERS = 2, KOTSGHANE_READ_SLIPS, KOTSGHANE_READ_NUMBERS 
 /* The answer of kotsghane_merge: the same. */
 enum { KOTSGHANE_MERGED_LETTERS = 2, KOTSGHANE_MERGED_SLIPS, KOTSGHANE_MERGED_NUMBERS };
 
-/* Composes a tray: kept slips are joined by overlaps of at least `least` letters, the longest first, and laid as a legend. Lend KOTSGHANE_WORK cells.
- * KOTSGHANE_MAX_LETTERS letters, KOTSGHANE_JOIN * KOTSGHANE_MAX_SLIPS numbers of joins and KOTSGHANE_PLACE * KOTSGHANE_MAX_SLIPS of places suffice for any
- * tray. Refusals 1 to 9, and 21, which is reported first. */
+/* Composes a tray. Ordered pairs of kept slips that overlap by at least `least` letters are taken by longer overlap, then by smaller overlap string, then by
+ * lower right slip, then by lower left slip. A pair becomes a join unless its left slip has been joined on its right already, its right slip on its left, or a
+ * ring would close. The chains of joined slips, single slips included, are laid one after another, by the number of their first slip. The place of a kept slip
+ * is where it was laid, that of a slip set aside the first place of the legend at which its letters stand. docs/RULES.md has examples.
+ *
+ * Lend KOTSGHANE_WORK cells. KOTSGHANE_MAX_LETTERS letters, KOTSGHANE_JOIN * KOTSGHANE_MAX_SLIPS numbers of joins and KOTSGHANE_PLACE * KOTSGHANE_MAX_SLIPS
+ * of places suffice for any tray. Refusals 1 to 9, and 21, which is reported first. */
 void kotsghane_compose(const uint8_t *letters, size_t letters_len, const uint16_t *ends, size_t ends_len, uint32_t least, uint16_t *work,
                        size_t work_len, uint8_t *legend, size_t legend_len, uint16_t *joins, size_t joins_len, uint16_t *places,
                        size_t places_len, uint32_t answer[KOTSGHANE_COMPOSED_NUMBERS]);
@@ -149,7 +154,8 @@ void kotsghane_pair(const uint8_t *letters, size_t letters_len, const uint16_t *
 
 /* Reads the bytes of a tray file into letters and ends. A tray file has a line for each slip: the slip number, right-justified in columns 1 to 4 without
  * leading zeros, the length, likewise in columns 5 to 8, a blank, the letters, and LF, on the last line too. Callers who fetch the bytes from a file should
- * have room for one more than KOTSGHANE_MAX_FILE: then a file that is too long is refused, and not cut.
+ * have room for one more than KOTSGHANE_MAX_FILE: then a file that is too long is refused, and not cut. No bytes at all are the tray without slips. A line that
+ * ends with CR LF has the CR among its letters.
  *
  * Lend at least KOTSGHANE_MAX_FILE letters and KOTSGHANE_FILE_ENDS ends. Letters are filed as the die has them: small ones as capitals, U as V, J as I; a byte
  * that is still no letter is filed as 0. No other call folds letters in this way. Refusals 15 to 19, of the file as it stands; the tray itself is judged by the

@@ -15,12 +15,14 @@
  *     static kotsghane_buffers buffers;
  *
  *     size_t bytes = fread(file, 1, sizeof file, stdin);
+ *     if (ferror(stdin)) ...
  *     kotsghane_written written = kotsghane_read_tray_file(file, bytes, kotsghane_lend_tray(&tray_buffers));
  *     if (written.number != KOTSGHANE_ACCEPTED) ...
  *     kotsghane_composed composed = kotsghane_compose_tray(written.tray, 1, kotsghane_lend(&buffers));
- *     if (composed.number != KOTSGHANE_ACCEPTED) ...
+ *     if (composed.number != KOTSGHANE_ACCEPTED) puts(kotsghane_refusal_text(composed.number)), ...
+ *     printf("%.*s\n", (int)composed.legend, (const char *)buffers.legend);
  *
- * Now the legend is the first composed.legend letters of buffers.legend, without a 0 after them; the joins are the first composed.joins records of
+ * The legend is the first composed.legend letters of buffers.legend, without a 0 after them; the joins are the first composed.joins records of
  * buffers.joins; and buffers.places has composed.slips records, that of slip i at buffers.places[i - 1]. To lend less, or buffers of your own, fill in a
  * kotsghane_lent and a kotsghane_lent_tray.
  */
@@ -37,11 +39,11 @@ extern "C" {
 typedef struct kotsghane_tray {
     const uint8_t *letters; /* of all slips, one after another */
     size_t letters_len;
-    const uint16_t *ends; /* for each slip, where it ends in the letters */
+    const uint16_t *ends; /* for each slip, the index after its last letter */
     size_t ends_len;      /* how many slips there are */
 } kotsghane_tray;
 
-/* Some letters, not followed by a 0. */
+/* Some letters, not followed by a 0. In a tray that was read from a file, a byte that is no letter is a 0 among them. */
 typedef struct kotsghane_letters {
     const uint8_t *letters;
     size_t letters_len;
@@ -56,7 +58,7 @@ typedef struct kotsghane_join {
 
 /* Where a slip stands in the legend. */
 typedef struct kotsghane_place {
-    uint16_t place;    /* of its first letter, from 1 */
+    uint16_t place;    /* of its first letter, from 1: where a kept slip was laid, or the first place at which one set aside stands */
     uint16_t kept;     /* 1, or 0 if the slip is set aside */
     uint16_t compared; /* letters compared to find the place, 0 if the slip is kept */
 } kotsghane_place;
@@ -228,9 +230,9 @@ static inline kotsghane_span kotsghane_slip_span(kotsghane_tray tray, uint32_t s
     return span;
 }
 
-/* The letters of one slip, from 1, of a tray that some call has accepted. The tray is not checked again: there are no letters where it has no such slip, or
- * where its ends do not fit. */
-static inline kotsghane_letters kotsghane_slip_letters(kotsghane_tray tray, size_t slip) {
+/* The letters of one slip, from 1, of any tray: of one that was refused too, say to show the slip that a refusal names. The tray is not checked: there are no
+ * letters where it has no such slip, or where its ends do not fit. */
+static inline kotsghane_letters kotsghane_slip_letters(kotsghane_tray tray, uint32_t slip) {
     kotsghane_letters letters = {tray.letters, 0};
     if (slip >= 1 && slip <= tray.ends_len) {
         size_t start = slip == 1 ? 0 : tray.ends[slip - 2], end = tray.ends[slip - 1];

@@ -92,7 +92,7 @@ static void say_merged(kotsghane_tray tray, kotsghane_lent_tray lent) {
         return;
     }
     printf("merged, %u letters:", (unsigned)merged.tray.letters_len);
-    for (size_t i = 1; i <= merged.tray.ends_len; i++) {
+    for (uint32_t i = 1; i <= merged.tray.ends_len; i++) {
         kotsghane_letters slip = kotsghane_slip_letters(merged.tray, i);
         printf(" %.*s", (int)slip.letters_len, (const char *)slip.letters);
     }
