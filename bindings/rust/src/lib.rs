@@ -41,7 +41,8 @@ mod written;
 pub use asking::read_tray;
 pub use finding::{find, find_slips, Finding, Found, Search};
 pub use limits::{
-    FILE_ENDS, MAX_FILE, MAX_LEAST, MAX_LETTERS, MAX_SHORTEST, MAX_SLIP, MAX_SLIPS, MAX_TEXT, PLACE_CELLS, WORK_CELLS,
+    FILE_ENDS, FOUND_CELLS, JOIN_CELLS, MAX_FILE, MAX_LEAST, MAX_LETTERS, MAX_SHORTEST, MAX_SLIP, MAX_SLIPS, MAX_TEXT,
+    PLACE_CELLS, WORK_CELLS,
 };
 pub use merging::merge_trays;
 pub use refusal::Refusal;

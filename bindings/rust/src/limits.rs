@@ -1,4 +1,4 @@
-//! The limits of the rules, each written once for Rust: the plain program takes them from this file too.
+//! The limits of the rules, each written once for this crate.
 
 /// How many cells of the work area are asked for (refusal 7).
 pub const WORK_CELLS: usize = 32_000;
@@ -27,5 +27,11 @@ pub const MAX_SHORTEST: usize = 10;
 /// The most letters that a least overlap may ask for (refusal 21).
 pub const MAX_LEAST: usize = 32;
 
-/// How many numbers a place has.
+/// How many numbers of 16 bits a [`Join`](crate::Join) has.
+pub const JOIN_CELLS: usize = 3;
+
+/// How many numbers of 16 bits a [`Place`](crate::Place) has.
 pub const PLACE_CELLS: usize = 3;
+
+/// How many numbers of 32 bits a [`Found`](crate::Found) has.
+pub const FOUND_CELLS: usize = 2;

@@ -1,66 +1,112 @@
-//! The limits, and how many numbers a place has, stand in other files too, for other readers. There they are the same numbers.
-use kotsghane::{
-    FILE_ENDS, MAX_FILE, MAX_LEAST, MAX_LETTERS, MAX_SHORTEST, MAX_SLIP, MAX_SLIPS, MAX_TEXT, PLACE_CELLS, WORK_CELLS,
-};
+//! The limits, and how many numbers a record has, stand in other places too, for other readers. There they are the same
+//! numbers.
 
-/// Each with its names in the definitions and in the C header.
-const LIMITS: [(&str, &str, usize); 9] = [
-    ("maxSlips", "MAX_SLIPS", MAX_SLIPS),
-    ("maxSlip", "MAX_SLIP", MAX_SLIP),
-    ("maxLetters", "MAX_LETTERS", MAX_LETTERS),
-    ("maxText", "MAX_TEXT", MAX_TEXT),
-    ("workNeed", "WORK", WORK_CELLS),
-    ("maxFile", "MAX_FILE", MAX_FILE),
-    ("endsNeed", "FILE_ENDS", FILE_ENDS),
-    ("maxShortest", "MAX_SHORTEST", MAX_SHORTEST),
-    ("maxLeast", "MAX_LEAST", MAX_LEAST),
+/// A limit: its name in the definitions, its name in the C header, and its number here and in the plain program.
+struct Limit {
+    defined: &'static str,
+    header: &'static str,
+    ours: usize,
+    plain: usize,
+}
+
+/// The limit that both crates give this name.
+macro_rules! limit {
+    ($defined:literal, $header:literal, $name:ident) => {
+        Limit {
+            defined: $defined,
+            header: $header,
+            ours: kotsghane::$name,
+            plain: plain::$name,
+        }
+    };
+}
+
+const LIMITS: [Limit; 9] = [
+    limit!("maxSlips", "MAX_SLIPS", MAX_SLIPS),
+    limit!("maxSlip", "MAX_SLIP", MAX_SLIP),
+    limit!("maxLetters", "MAX_LETTERS", MAX_LETTERS),
+    limit!("maxText", "MAX_TEXT", MAX_TEXT),
+    limit!("workNeed", "WORK", WORK_CELLS),
+    limit!("maxFile", "MAX_FILE", MAX_FILE),
+    limit!("endsNeed", "FILE_ENDS", FILE_ENDS),
+    limit!("maxShortest", "MAX_SHORTEST", MAX_SHORTEST),
+    limit!("maxLeast", "MAX_LEAST", MAX_LEAST),
 ];
 
-/// Each of these stands in that file of the repository, and no digit behind it.
-fn assert_stand<const N: usize>(path: &str, all: [String; N]) {
+/// How many numbers the records of composing have.
+const RECORDS: [Limit; 2] = [
+    limit!("joinCells", "JOIN", JOIN_CELLS),
+    limit!("placeCells", "PLACE", PLACE_CELLS),
+];
+
+/// How many numbers an occurrence has; the definitions have no name for it.
+const OCCURRENCE: Limit = limit!("", "OCCURRENCE", FOUND_CELLS);
+
+/// A file of the repository.
+fn file(path: &str) -> String {
     let whole = format!("{}/../../{path}", env!("CARGO_MANIFEST_DIR"));
-    let file = std::fs::read_to_string(whole).expect("a file of the repository");
-    for text in all {
-        let behind = file.split(&text).nth(1);
-        let whole = behind.is_some_and(|rest| !rest.starts_with(|c: char| c.is_ascii_digit()));
-        assert!(whole, "{path} has not: {}", text.trim());
+    std::fs::read_to_string(whole).expect("a file of the repository")
+}
+
+/// This text stands in that file of the repository, and no digit follows it.
+fn assert_stands(path: &str, text: &str) {
+    let file = file(path);
+    let rest = file.split_once(text).map(|(_, rest)| rest);
+    let whole = rest.is_some_and(|rest| !rest.starts_with(|c: char| c.is_ascii_digit()));
+    assert!(whole, "{path} does not have: {}", text.trim());
+}
+
+/// The definition of this limit stands in that file.
+fn assert_defined(path: &str, limit: &Limit) {
+    assert_stands(path, &format!("\n{} = {}\n", limit.defined, limit.ours));
+}
+
+#[test]
+fn the_plain_program_has_them() {
+    for limit in LIMITS.iter().chain(&RECORDS).chain([&OCCURRENCE]) {
+        assert_eq!(limit.plain, limit.ours, "{}", limit.header);
     }
 }
 
 #[test]
 fn the_definitions_have_them() {
-    let line = |(name, _, number)| format!("\n{name} = {number}\n");
-    assert_stand("crates/trays/specs/Limits.antt", LIMITS.map(line));
-    assert_stand(
-        "crates/answers/specs/Composing.antt",
-        [line(("placeCells", "", PLACE_CELLS))],
-    );
+    for limit in &LIMITS {
+        assert_defined("crates/trays/specs/Limits.antt", limit);
+    }
+    for record in &RECORDS {
+        assert_defined("crates/answers/specs/Composing.antt", record);
+    }
 }
 
 #[test]
 fn the_c_header_has_them() {
-    let part = |(_, name, number)| format!(" KOTSGHANE_{name} = {number}");
-    assert_stand("bindings/c/kotsghane.h", LIMITS.map(part));
-    assert_stand("bindings/c/kotsghane.h", [part(("", "PLACE", PLACE_CELLS))]);
+    for limit in LIMITS.iter().chain(&RECORDS).chain([&OCCURRENCE]) {
+        let line = format!(" KOTSGHANE_{} = {}", limit.header, limit.ours);
+        assert_stands("bindings/c/kotsghane.h", &line);
+    }
 }
 
+/// The sentences have the number as a literal here too, so that no constant can take them along.
 #[test]
 fn the_rules_have_the_longest_slip() {
-    assert_stand("docs/RULES.md", [format!("A slip has 1 to {MAX_SLIP} letters")]);
-    assert_stand("docs/REFUSALS.md", [format!("| 3 | a slip over {MAX_SLIP} letters |")]);
+    assert_eq!(kotsghane::MAX_SLIP, 32);
+    assert_stands("docs/RULES.md", "A slip has 1 to 32 letters");
+    assert_stands("docs/REFUSALS.md", "| 3 | a slip over 32 letters |");
 }
 
 #[test]
 fn the_rules_have_the_most_kept_slips() {
-    let row = format!("more than {MAX_SHORTEST} kept slips");
-    assert_stand("docs/RULES.md", [row.clone()]);
-    assert_stand("docs/REFUSALS.md", [row]);
+    assert_eq!(kotsghane::MAX_SHORTEST, 10);
+    let row = "more than 10 kept slips";
+    assert_stands("docs/RULES.md", row);
+    assert_stands("docs/REFUSALS.md", row);
 }
 
 #[test]
 fn the_rules_have_the_least_overlap() {
-    let row = format!("the least overlap is 0 or more than {MAX_LEAST} |");
-    let sentence = format!("a least overlap from 1 to {MAX_LEAST}");
-    assert_stand("docs/RULES.md", [sentence, format!("| 21 | {row}")]);
-    assert_stand("docs/REFUSALS.md", [format!("| 21 | {row}")]);
+    assert_eq!(kotsghane::MAX_LEAST, 32);
+    let row = "| 21 | the least overlap is 0 or more than 32 |";
+    assert_stands("docs/RULES.md", "a least overlap from 1 to 32");
+    assert_stands("docs/RULES.md", row);
+    assert_stands("docs/REFUSALS.md", row);
 }

@@ -1,6 +1,6 @@
 //! What is right, said once more and in another way than the library says it: a plain program that compares all pairs of
-//! slips, written only from the sentences of the rules. It shares no table, no loop and no order of work with the library.
-//! The numbers of the limits are those of the Rust crate.
+//! slips, written only from the sentences of the rules. It shares no table, no loop, no order of work and no number with the
+//! library: the limits are its own.
 //!
 //! - [`tray`], [`fold`], [`mod@file`], [`compose`], [`shortest`], [`find`], [`merge`], [`sheet`]: the plain program.
 //! - [`by_hand`]: what was worked out by hand.
@@ -14,7 +14,6 @@ pub mod compose;
 pub mod file;
 pub mod find;
 pub mod fold;
-#[path = "../../../bindings/rust/src/limits.rs"]
 mod limits;
 pub mod made;
 pub mod merge;
@@ -23,7 +22,8 @@ pub mod shortest;
 pub mod tray;
 
 pub use limits::{
-    FILE_ENDS, MAX_FILE, MAX_LEAST, MAX_LETTERS, MAX_SHORTEST, MAX_SLIP, MAX_SLIPS, MAX_TEXT, PLACE_CELLS, WORK_CELLS,
+    FILE_ENDS, FOUND_CELLS, JOIN_CELLS, MAX_FILE, MAX_LEAST, MAX_LETTERS, MAX_SHORTEST, MAX_SLIP, MAX_SLIPS, MAX_TEXT,
+    PLACE_CELLS, WORK_CELLS,
 };
 
 /// The least overlap that the programs pass: no overlap is too short.

@@ -1,12 +1,12 @@
 //! What `trials` must print of a case, by the plain program.
-use super::{Lending, MARK_BYTE, MARK_CELL, MARK_NUMBER};
+use super::{Lending, MARK_BYTE, MARK_CELL, MARK_NUMBER, WHOLE_LIST};
 use crate::compose::{self, compose_tray, Composition, Rooms};
 use crate::file::read_tray;
 use crate::find::{self, find_slips, Finding};
 use crate::merge::merge_trays;
 use crate::shortest::shortest_legend;
 use crate::tray::Tray;
-use crate::{Refusal, MAX_SHORTEST, PLACE_CELLS};
+use crate::{Refusal, FOUND_CELLS, JOIN_CELLS, MAX_SHORTEST, PLACE_CELLS};
 
 /// Small trays have all their slips and pairs asked for.
 const SMALL: usize = 12;
@@ -84,7 +84,7 @@ pub fn compose(tray: &Tray, least: usize, lent: &Lending) -> String {
     let rooms = Rooms {
         work,
         legend,
-        joins: joins / 3,
+        joins: joins / JOIN_CELLS,
         places: places / PLACE_CELLS,
     };
     let outcome = compose_tray(tray, least, rooms);
@@ -161,7 +161,7 @@ pub fn ask(tray: &Tray, least: usize, left: usize, right: usize) -> String {
     format!("A{check};{slip} [{text}];{pair}")
 }
 
-/// Finding with a list of numbers, two an occurrence; and with records where just so many of them are lent.
+/// Finding with a list of numbers, and with records where just this many of them are lent.
 pub fn find(tray: &Tray, text: &[u8], work: usize, list: usize) -> String {
     let fault = work_sum(find::fault_before_c(tray, text, work), work);
     let told = |records: usize, room: usize, marks: &[usize]| {
@@ -172,13 +172,14 @@ pub fn find(tray: &Tray, text: &[u8], work: usize, list: usize) -> String {
         let numbers: Vec<usize> = found.iter().flat_map(|x| [x.end, x.slip]).collect();
         format!("{answer} {}{fault}", Sum::over(&numbers, marks, room))
     };
-    let flat = told(list / 2, list, &[MARK_NUMBER]);
+    let flat = told(list / FOUND_CELLS, list, &[MARK_NUMBER]);
     let records = match list {
-        16_000 => 2_000,
+        WHOLE_LIST => 2_000,
         4 => 2,
         _ => return format!("F{flat}"),
     };
-    format!("F{flat} R{}", told(records, 2 * records, &[MARK_NUMBER, MARK_CELL]))
+    let marks = [MARK_NUMBER, MARK_CELL];
+    format!("F{flat} R{}", told(records, FOUND_CELLS * records, &marks))
 }
 
 /// A tray written into so many letters and ends: the answer, and the sums of both.

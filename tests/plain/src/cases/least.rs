@@ -1,7 +1,7 @@
 //! Cases with a least overlap: those worked out by hand, what is refused, and made-up trays.
 use super::shortest::{small, with_stops, FEW_KEPT};
 use super::specimens::named;
-use super::{lending, shortest, Case, PLACES, WHOLE};
+use super::{lending, shortest, Case, JOINS, PLACES, WHOLE};
 use crate::by_hand::least::{long, refused_first, DIE_GROUPS, JOINED, REFUSED, SHORT_ROOMS, WIDE};
 use crate::by_hand::pairs::PAIRS;
 use crate::by_hand::shortest::longest;
@@ -63,7 +63,7 @@ fn refused() -> Vec<Case> {
         cases.push(Case::Compose(
             sample.clone(),
             least,
-            lending(WORK_CELLS, room, 600, PLACES),
+            lending(WORK_CELLS, room, JOINS, PLACES),
         ));
         cases.push(Case::Shortest(sample.clone(), least, WORK_CELLS, room));
     }

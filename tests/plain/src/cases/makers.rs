@@ -8,7 +8,7 @@ use crate::made::texts::text;
 use crate::made::typed::{many_forms, spoil, typed_slips};
 use crate::made::{near, slips, valid, Chance, Shape, SHAPES};
 use crate::tray::Tray;
-use crate::{FILE_ENDS, MAX_FILE, MAX_SLIP, ONE_LETTER, PLACE_CELLS, WORK_CELLS};
+use crate::{FILE_ENDS, FOUND_CELLS, JOIN_CELLS, MAX_FILE, MAX_SLIP, ONE_LETTER, PLACE_CELLS, WORK_CELLS};
 
 /// A tray with room for every outcome.
 pub fn whole(tray: Tray) -> Case {
@@ -39,7 +39,7 @@ pub fn small_rooms(chance: &mut Chance, least: usize) -> Case {
     let rooms: Lending = lending(
         work,
         room(made.legend.len()),
-        room(3 * made.joins.len()),
+        room(JOIN_CELLS * made.joins.len()),
         room(PLACE_CELLS * all.len()),
     );
     Case::Compose(tray, least, rooms)
@@ -51,7 +51,7 @@ pub fn small_list(chance: &mut Chance, _: usize) -> Case {
     let n = chance.below(60);
     let text = text(chance, &all, n);
     let tray = Tray::of(&all);
-    let need = 2 * occurrences(&tray.slips(), &text).len();
+    let need = FOUND_CELLS * occurrences(&tray.slips(), &text).len();
     let work = chance.one(&[WORK_CELLS, WORK_CELLS, WORK_CELLS + 7, 31_999]);
     Case::Find(tray, text, work, near(chance, need))
 }

@@ -14,7 +14,7 @@
 //! LEAST is the least overlap. Every lent buffer is filled with a mark before the call, and behind it a sum over all its
 //! cells is told.
 use crate::tray::Tray;
-use crate::{ONE_LETTER, PLACE_CELLS};
+use crate::{FOUND_CELLS, JOIN_CELLS, ONE_LETTER, PLACE_CELLS};
 
 mod answers;
 mod code;
@@ -35,20 +35,23 @@ const MARK_CELL: usize = 7_777;
 /// What a lent number of 32 bits holds before the call.
 const MARK_NUMBER: usize = 77_777_777;
 
-/// How much is lent for composing: cells, letters, numbers of joins (three a record) and of places (`PLACE_CELLS` a record).
+/// How much is lent for composing: cells, letters, numbers of joins and numbers of places.
 #[derive(Clone, Copy, Debug)]
 pub struct Lending {
     numbers: [usize; 4],
 }
 
-/// The places of 200 slips have so many numbers.
+/// The numbers of 200 joins.
+const JOINS: usize = 200 * JOIN_CELLS;
+
+/// The numbers of 200 places.
 const PLACES: usize = 200 * PLACE_CELLS;
 
 /// Room for every tray.
-const WHOLE: Lending = lending(32_000, 2_000, 600, PLACES);
+const WHOLE: Lending = lending(32_000, 2_000, JOINS, PLACES);
 
 /// Room for every text of the program `find`.
-const WHOLE_LIST: usize = 16_000;
+const WHOLE_LIST: usize = 8_000 * FOUND_CELLS;
 
 const fn lending(work: usize, legend: usize, joins: usize, places: usize) -> Lending {
     Lending {
@@ -59,7 +62,9 @@ const fn lending(work: usize, legend: usize, joins: usize, places: usize) -> Len
 impl Lending {
     /// Lists of 200 records, and of 2, are tried as records too.
     fn has_records(&self) -> bool {
-        [2, 200].iter().any(|n| self.numbers[2..] == [3 * n, PLACE_CELLS * n])
+        [2, 200]
+            .iter()
+            .any(|n| self.numbers[2..] == [JOIN_CELLS * n, PLACE_CELLS * n])
     }
 }
 

@@ -1,5 +1,5 @@
 //! The specimen trays of the rules, trays that tell a misreading from the rule, and each limit with its neighbour.
-use super::{lending, Case, Lending, PLACES, WHOLE, WHOLE_LIST};
+use super::{lending, Case, Lending, JOINS, PLACES, WHOLE, WHOLE_LIST};
 use crate::by_hand::{COMPOSE, COMPOSE_FILE, SEARCHES, SPECIMENS, TYPED_FILE};
 use crate::made::files::tray_file;
 use crate::tray::Tray;
@@ -19,8 +19,8 @@ const LENDINGS: &[(&str, Lending)] = &[
     ("8 before 9", lending(32_000, 14, 8, FIVE - 1)),
     ("7 before 8 and 9", lending(31_999, 14, 8, FIVE - 1)),
     ("nothing", lending(0, 0, 0, 0)),
-    ("7 with 200 records of each", lending(31_999, 15, 600, PLACES)),
-    ("8 with 200 records of each", lending(32_000, 14, 600, PLACES)),
+    ("7 with 200 records of each", lending(31_999, 15, JOINS, PLACES)),
+    ("8 with 200 records of each", lending(32_000, 14, JOINS, PLACES)),
     ("2 records of each", lending(32_000, 15, 6, 2 * PLACE_CELLS)),
 ];
 
@@ -145,7 +145,7 @@ pub fn all() -> Vec<Case> {
     ));
     for (name, tray) in limits() {
         cases.extend(named(&name, Case::Compose(tray.clone(), ONE_LETTER, WHOLE)));
-        cases.push(Case::Compose(tray, ONE_LETTER, lending(WORK_CELLS, 0, 600, PLACES)));
+        cases.push(Case::Compose(tray, ONE_LETTER, lending(WORK_CELLS, 0, JOINS, PLACES)));
     }
     cases.extend(named("many letters compared", Case::Compose(runs(), ONE_LETTER, WHOLE)));
     for case in SEARCHES {
