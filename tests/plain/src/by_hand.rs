@@ -1,5 +1,5 @@
 //! What was worked out by hand from the rules: trays with their outcome, texts with theirs, and the sheets. The plain
-//! program and the library are both held to it.
+//! program and the library are both held to it. Limits stand here as literals: 32 letters of a slip are accepted, 33 are not.
 
 pub mod least;
 pub mod merging;

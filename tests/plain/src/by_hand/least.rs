@@ -2,10 +2,9 @@
 use super::shortest::{all_turned, group, turned, DieGroup, Turned, FALLING};
 use super::COMPOSE;
 use crate::tray::Tray;
-use crate::{MAX_LEAST, MAX_LETTERS, MAX_SLIP, WORK_CELLS};
 
 /// Least overlaps that are refused, whatever the tray and whatever is lent.
-pub const REFUSED: [usize; 3] = [0, MAX_LEAST + 1, 4_294_967_295];
+pub const REFUSED: [usize; 3] = [0, 33, 4_294_967_295];
 
 /// Refused too: as numbers of 8 or 16 bits they would be 1.
 pub const WIDE: [usize; 2] = [257, 65_537];
@@ -204,7 +203,7 @@ pub const JOINED: &[Joined] = &[
         &[(2, 7)],
     ),
     compose(
-        MAX_LEAST,
+        32,
         "the compose tray, at the most",
         "IMPCAESCAESAVGVGPIVSSIMP",
         &[],
@@ -230,7 +229,7 @@ pub const JOINED: &[Joined] = &[
     Joined {
         aside: &[(1, 1), (3, 2)],
         ..joined(
-            MAX_LEAST,
+            32,
             "slips set aside, at the most",
             &["A", "AB", "AB"],
             "AB",
@@ -238,8 +237,8 @@ pub const JOINED: &[Joined] = &[
             &[1, 1, 1],
         )
     },
-    joined(MAX_LEAST, "the empty tray, at the most", &[], "", &[], &[]),
-    joined(MAX_LEAST, "one slip, at the most", &["AVG"], "AVG", &[], &[1]),
+    joined(32, "the empty tray, at the most", &[], "", &[], &[]),
+    joined(32, "one slip, at the most", &["AVG"], "AVG", &[], &[1]),
 ];
 
 /// Least overlaps, small die groups and their shortest legends.
@@ -311,7 +310,7 @@ pub const DIE_GROUPS: &[(usize, DieGroup)] = &[
         ),
     ),
     (
-        MAX_LEAST,
+        32,
         group(
             "the compose tray, at the most",
             COMPOSE.slips,
@@ -328,10 +327,10 @@ pub const DIE_GROUPS: &[(usize, DieGroup)] = &[
             "JKIJHIGHFGEFDECDBCAB",
         ),
     ),
-    (MAX_LEAST, group("the empty tray, at the most", &[], &[], "")),
+    (32, group("the empty tray, at the most", &[], &[], "")),
 ];
 
-/// Two slips that share all letters but one, and have as many as a least overlap may ask for, or a slip may have.
+/// Two slips that share all letters but one, and have 32: as many as a slip may have, and as a least overlap may ask for.
 pub struct Long {
     /// How many letters each slip has.
     pub letters: usize,
@@ -344,7 +343,7 @@ pub struct Long {
 /// Neither of two kept slips stands in the other, so no two share all letters: they are joined with one letter less than
 /// they have as the least overlap, and not with as many.
 pub fn long() -> Long {
-    let letters = MAX_SLIP.min(MAX_LEAST);
+    let letters = 32;
     let text: Vec<u8> = (b'A'..=b'Z').cycle().take(letters + 1).collect();
     Long {
         letters,
@@ -355,12 +354,11 @@ pub fn long() -> Long {
 
 /// The compose tray, refused by 8: the least overlap, the letters lent for the legend, and the letters needed. The shortest
 /// legend has as many.
-pub const SHORT_ROOMS: &[(usize, usize, usize)] =
-    &[(2, 14, 15), (3, 16, 17), (4, 19, 20), (5, 23, 24), (MAX_LEAST, 0, 24)];
+pub const SHORT_ROOMS: &[(usize, usize, usize)] = &[(2, 14, 15), (3, 16, 17), (4, 19, 20), (5, 23, 24), (32, 0, 24)];
 
 /// Trays and rooms, two of which no other row would turn back. Each of [`REFUSED`] is refused first.
 pub fn refused_first() -> Vec<Turned> {
-    let ample = |name, tray| turned(name, &tray, [WORK_CELLS, MAX_LETTERS], [21, 0]);
+    let ample = |name, tray| turned(name, &tray, [32_000, 2_000], [21, 0]);
     let mut all = vec![
         ample("the compose tray", Tray::of(COMPOSE.slips)),
         ample("the empty tray", Tray::default()),

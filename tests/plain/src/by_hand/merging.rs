@@ -1,7 +1,6 @@
 //! Two trays merged: the tray that is written, and what is refused.
 use super::COMPOSE;
 use crate::tray::Tray;
-use crate::{MAX_LETTERS, MAX_SLIP, MAX_SLIPS};
 use std::ops::Range;
 
 /// Two small trays, and the letters and ends of the outcome.
@@ -144,15 +143,10 @@ pub struct Merged {
 }
 
 /// Just enough is lent.
-const EXACT: [usize; 2] = [MAX_LETTERS, MAX_SLIPS];
+const EXACT: [usize; 2] = [2_000, 200];
 
 /// Too little is lent: a letter, an end, one of each, all.
-const SHORT: [[usize; 2]; 4] = [
-    [MAX_LETTERS - 1, MAX_SLIPS],
-    [MAX_LETTERS, MAX_SLIPS - 1],
-    [MAX_LETTERS - 1, MAX_SLIPS - 1],
-    [0, 0],
-];
+const SHORT: [[usize; 2]; 4] = [[1_999, 200], [2_000, 199], [1_999, 199], [0, 0]];
 
 /// What is told of two trays where just enough is lent.
 fn merged(name: &str, first: &Tray, second: &Tray, told: Result<Tray, (usize, usize)>) -> Merged {
@@ -233,17 +227,12 @@ fn faulty() -> [(&'static str, Tray, (usize, usize)); 6] {
     equal_ends.ends[2] = equal_ends.ends[1];
     let mut letter_behind = three.clone();
     letter_behind.letters.push(b'G');
-    let long = "A".repeat(MAX_SLIP);
-    let too_long = long.clone() + "A";
+    let (long, too_long) = ("A".repeat(32), "A".repeat(33));
     [
-        ("201 slips", Tray::of(&["A"; MAX_SLIPS + 1]), (1, 0)),
+        ("201 slips", Tray::of(&["A"; 201]), (1, 0)),
         ("an end equals the one before", equal_ends, (2, 3)),
         ("a slip one letter too long", Tray::of(&["AB", &too_long]), (3, 2)),
-        (
-            "over 2,000 letters",
-            Tray::of(&vec![long; MAX_LETTERS / MAX_SLIP + 1]),
-            (4, 0),
-        ),
+        ("over 2,000 letters", Tray::of(&vec![long; 63]), (4, 0)),
         ("a letter behind the last end", letter_behind, (5, 0)),
         ("a small letter", Tray::of(&["AB", "CD", "Ef"]), (6, 3)),
     ]
@@ -304,7 +293,7 @@ pub fn all() -> Vec<Merged> {
     };
     let more_lent = |case: Merged| Merged {
         name: format!("{}, and more lent", case.name),
-        lent: [MAX_LETTERS + 40, MAX_SLIPS + 30],
+        lent: [2_040, 230],
         ..case
     };
     let mut all: Vec<Merged> = SMALL.iter().map(small).collect();

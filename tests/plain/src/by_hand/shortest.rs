@@ -1,7 +1,6 @@
 //! Small die groups and their shortest legends, and what is refused.
 use super::COMPOSE;
 use crate::tray::Tray;
-use crate::{MAX_SLIP, WORK_CELLS};
 
 /// A tray of few kept slips, and its shortest legend.
 pub struct DieGroup {
@@ -105,7 +104,7 @@ pub const DIE_GROUPS: &[DieGroup] = &[
     ),
 ];
 
-/// Ten of the longest slips, and their legend.
+/// Ten of the longest slips, of 32 letters, and their legend.
 pub struct Longest {
     /// The slips, each a letter further back in one text than the one before.
     pub slips: Vec<Vec<u8>>,
@@ -117,9 +116,9 @@ pub struct Longest {
 
 /// Neighbours share all letters but one. Ten different slips end at ten places of a legend, so no legend is shorter.
 pub fn longest() -> Longest {
-    let text: Vec<u8> = (b'A'..=b'Z').cycle().take(MAX_SLIP + 9).collect();
+    let text: Vec<u8> = (b'A'..=b'Z').cycle().take(32 + 9).collect();
     Longest {
-        slips: text.windows(MAX_SLIP).rev().map(<[u8]>::to_vec).collect(),
+        slips: text.windows(32).rev().map(<[u8]>::to_vec).collect(),
         order: (1..=10).rev().collect(),
         legend: text,
     }
@@ -163,16 +162,16 @@ fn turned_rooms() -> Vec<Turned> {
     let (sample, eleven) = (Tray::of(COMPOSE.slips), Tray::of(&FALLING));
     let (stops, empty) = (Tray::of(&["A.", ".B"]), Tray::default());
     vec![
-        turned("a legend of 14", &sample, [WORK_CELLS, 14], [8, 15]),
-        turned("no legend", &sample, [WORK_CELLS, 0], [8, 15]),
-        turned("a legend of 3, with stops", &stops, [WORK_CELLS, 3], [8, 4]),
+        turned("a legend of 14", &sample, [32_000, 14], [8, 15]),
+        turned("no legend", &sample, [32_000, 0], [8, 15]),
+        turned("a legend of 3, with stops", &stops, [32_000, 3], [8, 4]),
         turned("31,999 cells", &sample, [31_999, 15], [7, 0]),
         turned("no cells", &sample, [0, 15], [7, 0]),
         turned("no cells and the empty tray", &empty, [0, 0], [7, 0]),
         turned("7 before 8", &sample, [31_999, 14], [7, 0]),
-        turned("11 kept slips", &eleven, [WORK_CELLS, 2_000], [20, 0]),
-        turned("20 before 8", &eleven, [WORK_CELLS, 11], [20, 0]),
-        turned("20 and no legend", &eleven, [WORK_CELLS, 0], [20, 0]),
+        turned("11 kept slips", &eleven, [32_000, 2_000], [20, 0]),
+        turned("20 before 8", &eleven, [32_000, 11], [20, 0]),
+        turned("20 and no legend", &eleven, [32_000, 0], [20, 0]),
         turned("7 before 20", &eleven, [31_999, 2_000], [7, 0]),
         turned("7 before 20 and 8", &eleven, [31_999, 11], [7, 0]),
     ]
@@ -198,7 +197,7 @@ fn turned_trays() -> Vec<Turned> {
     let trays = [
         ("201 slips", eleven_and(&vec![slip(1); 190]), [1, 0]),
         ("an end equals the one before", equal_ends, [2, 5]),
-        ("a slip one letter too long", eleven_and(&[slip(MAX_SLIP + 1)]), [3, 12]),
+        ("a slip one letter too long", eleven_and(&[slip(33)]), [3, 12]),
         ("2,001 letters", eleven_and(&long), [4, 0]),
         ("a letter behind the last end", letter_behind, [5, 0]),
         ("a small letter", small_letter, [6, 7]),

@@ -1,52 +1,18 @@
 //! The edge trays, worked out by hand: rows `NAME: LEFT RIGHT LETTERS END END ..`, where 12A among the letters is twelve
 //! times A, and 12x3 among the ends is the twelve ends 3, 6, .. 36. A row without a colon is a heading.
 //!
-//! L is the most letters that a slip has. In braces stands a number that goes with it: `{2L+1}`, the quotient `{1999/L}`, the
-//! remainder `{1999%L}`; with a letter behind it, as in `{L A}`, that letter so many times.
+//! Every number is written out, those of the longest slip too: 32 letters are accepted, 33 are refused by 3.
 use crate::tray::Tray;
-use crate::MAX_SLIP;
 
 /// The rows. Nobody generates them, nor what is expected.
-pub fn rows() -> Vec<String> {
-    include_str!("../../fixtures/edges.in").lines().map(filled).collect()
+pub fn rows() -> Vec<&'static str> {
+    include_str!("../../fixtures/edges.in").lines().collect()
 }
 
 /// What is expected of each row: the name, then the refusal of the tray; of slip LEFT, and its letters; of the pair, and its
 /// overlap. At the end the bytes that are accepted as the one letter of a tray.
-pub fn expected() -> Vec<String> {
-    include_str!("../../fixtures/edges.out").lines().map(filled).collect()
-}
-
-/// The row with what its braces stand for.
-fn filled(row: &str) -> String {
-    let mut parts = row.split('{');
-    let mut made = parts.next().unwrap_or_default().to_string();
-    for part in parts {
-        let (inside, rest) = part.split_once('}').expect("a brace that is closed");
-        made += &match inside.split_once(' ') {
-            Some((sum, letter)) => letter.repeat(value(sum)),
-            None => value(inside).to_string(),
-        };
-        made += rest;
-    }
-    made
-}
-
-/// What stands in braces, without a letter.
-fn value(sum: &str) -> usize {
-    let (first, second) = sum.split_at(sum.find(['+', '-']).unwrap_or(sum.len()));
-    let part = |end: &str| first.strip_suffix(end);
-    let first = match (part("/L"), part("%L"), part("L")) {
-        (Some(n), _, _) => number(n) / MAX_SLIP,
-        (_, Some(n), _) => number(n) % MAX_SLIP,
-        (_, _, Some("")) => MAX_SLIP,
-        (_, _, Some(n)) => number(n) * MAX_SLIP,
-        _ => panic!("{sum} does not go with L"),
-    };
-    match second {
-        "" => first,
-        _ => first.wrapping_add_signed(second.parse().expect("a number with its sign")),
-    }
+pub fn expected() -> Vec<&'static str> {
+    include_str!("../../fixtures/edges.out").lines().collect()
 }
 
 /// What a row asks.

@@ -137,12 +137,12 @@ pub fn all() -> Vec<Case> {
 }
 
 fn edge_trays() -> Vec<Case> {
-    let case = |row: String| match edges::asked(&row) {
+    let case = |row: &str| match edges::asked(row) {
         Some(asked) => vec![
             Case::Heading(asked.name),
             Case::Ask(asked.tray, ONE_LETTER, asked.left, asked.right),
         ],
-        None => vec![Case::Heading(row)],
+        None => vec![Case::Heading(row.to_string())],
     };
     let rows = edges::rows().into_iter().flat_map(case);
     rows.chain([Case::Signs]).collect()

@@ -3,7 +3,7 @@ use super::{lending, Case, Lending, JOINS, PLACES, WHOLE, WHOLE_LIST};
 use crate::by_hand::{COMPOSE, COMPOSE_FILE, SEARCHES, SPECIMENS, TYPED_FILE};
 use crate::made::files::tray_file;
 use crate::tray::Tray;
-use crate::{FILE_ENDS, MAX_FILE, MAX_SLIP, ONE_LETTER, PLACE_CELLS, WORK_CELLS};
+use crate::{FILE_ENDS, MAX_FILE, ONE_LETTER, PLACE_CELLS, WORK_CELLS};
 
 /// The places of the compose tray have so many numbers.
 const FIVE: usize = 5 * PLACE_CELLS;
@@ -47,12 +47,12 @@ fn cut(letters: usize, most: usize) -> Tray {
     Tray::of(&starts.map(slip).collect::<Vec<Vec<u8>>>())
 }
 
-/// The longest slips, each a letter and then As, and one that stands in the last of them: at most places half of its letters
-/// or more agree.
+/// The longest slips, each a letter and then 31 As, and one that stands in the last of them: at most places half of its
+/// letters or more agree.
 fn runs() -> Tray {
     let run = |first: u8, letters: usize| [&[first][..], &vec![b'A'; letters - 1]].concat();
-    let mut all: Vec<Vec<u8>> = (b'B'..=b'Z').map(|first| run(first, MAX_SLIP)).collect();
-    all.push(run(b'Z', MAX_SLIP / 2));
+    let mut all: Vec<Vec<u8>> = (b'B'..=b'Z').map(|first| run(first, 32)).collect();
+    all.push(run(b'Z', 16));
     Tray::of(&all)
 }
 
@@ -67,11 +67,11 @@ fn limits() -> Vec<(String, Tray)> {
     vec![
         slips(200, 7),
         slips(201, 7),
-        slip(MAX_SLIP),
-        slip(MAX_SLIP + 1),
+        slip(32),
+        slip(33),
         full("2,000", 2_000, 10),
-        full("2,000", 2_000, MAX_SLIP),
-        full("2,001", 2_001, MAX_SLIP),
+        full("2,000", 2_000, 32),
+        full("2,001", 2_001, 32),
     ]
 }
 
