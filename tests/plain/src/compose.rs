@@ -94,7 +94,7 @@ pub fn kept_slips(slips: &[&[u8]]) -> Vec<usize> {
     (1..=slips.len()).filter(|&i| !is_aside(slips, i - 1)).collect()
 }
 
-/// The arcs between the kept slips, of at least so many letters: longer overlap first, then smaller overlap string, then
+/// The arcs between the kept slips, of at least this many letters: longer overlap first, then smaller overlap string, then
 /// lower right slip, then lower left slip.
 fn arcs(slips: &[&[u8]], kept: &[usize], least: usize) -> Vec<Join> {
     let mut all = Vec::with_capacity(kept.len() * kept.len());
@@ -147,7 +147,7 @@ impl Neighbours {
 }
 
 /// The plain rule over the slips of an accepted tray, and the legend. Overlaps under `least` letters count as empty; which
-/// slips are kept does not go by it.
+/// slips are kept does not depend on it.
 pub fn compose(slips: &[&[u8]], least: usize) -> Composition {
     let kept = kept_slips(slips);
     let mut chains = Neighbours {
@@ -194,7 +194,7 @@ pub fn fault_before_c(tray: &Tray, least: usize, work: usize) -> Option<Refusal>
     fault.or(row(7, work < WORK_CELLS))
 }
 
-/// Composes any tray with a least overlap in so much room, or refuses it.
+/// Composes any tray with a least overlap in these rooms, or refuses it.
 pub fn compose_tray(tray: &Tray, least: usize, rooms: Rooms) -> Result<Composition, Refusal> {
     unless(fault_before_c(tray, least, rooms.work))?;
     let made = compose(&tray.slips(), least);

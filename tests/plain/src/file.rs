@@ -28,7 +28,7 @@ fn letters(line: &[u8], k: usize) -> Result<&[u8], Refusal> {
     Ok(letters)
 }
 
-/// Reads a tray file where so many letters and ends are lent, or refuses it. An empty file is the empty tray.
+/// Reads a tray file where this many letters and ends are lent, or refuses it. An empty file is the empty tray.
 ///
 /// Rows 15 to 19 judge the file as it is typed. Only then are the letters folded: a byte that is no sign is read as 0, and
 /// the tray check turns it back.

@@ -71,7 +71,7 @@ pub fn fault_before_c(tray: &Tray, text: &[u8], work: usize) -> Option<Refusal> 
     tray.fault().or(text_fault(text)).or(row(7, work < WORK_CELLS))
 }
 
-/// Finds every occurrence, with so many cells and a list of so many records, or refuses.
+/// Finds every occurrence, with this many cells and a list of this many records, or refuses.
 pub fn find_slips(tray: &Tray, text: &[u8], work: usize, records: usize) -> Result<Finding, Refusal> {
     unless(fault_before_c(tray, text, work))?;
     let slips = tray.slips();

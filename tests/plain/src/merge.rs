@@ -13,7 +13,7 @@ pub fn merged_slips<'a>(first: &[&'a [u8]], second: &[&'a [u8]]) -> Vec<&'a [u8]
     written
 }
 
-/// Merges two trays of any kind where so many letters and ends are lent, or refuses. Row 15 comes first, then rows 1 to 6 of
+/// Merges two trays of any kind where this many letters and ends are lent, or refuses. Row 15 comes first, then rows 1 to 6 of
 /// the first tray, of the second, and of the outcome.
 pub fn merge_trays(first: &Tray, second: &Tray, letters_lent: usize, ends_lent: usize) -> Result<Tray, Refusal> {
     unless(row(15, letters_lent < MAX_LETTERS || ends_lent < MAX_SLIPS))?;

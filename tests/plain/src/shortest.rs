@@ -12,7 +12,7 @@ pub struct Shortest {
     pub legend: Vec<u8>,
 }
 
-/// The letters that a slip adds behind these slips, laid as one chain: those beyond the overlap with the last of them, which
+/// The letters that a slip adds after these slips, laid as one chain: those beyond the overlap with the last of them, which
 /// counts as empty if it has under `least` letters.
 fn added<'a>(slips: &[&'a [u8]], least: usize, laid: &[usize], next: usize) -> &'a [u8] {
     let slip = slips[next - 1];
@@ -36,7 +36,7 @@ struct Trial<'a> {
 }
 
 impl Trial<'_> {
-    /// Tries every order of the kept slips that begins with those laid, which have so many letters. The lowest slip goes
+    /// Tries every order of the kept slips that begins with those laid, which have this many letters. The lowest slip goes
     /// first, so that orders come as lists do, the smallest first; only a shorter legend is better than the best so far.
     fn orders(&mut self, laid: &mut Vec<usize>, letters: usize) {
         if laid.len() == self.kept.len() {
@@ -71,7 +71,7 @@ pub fn shortest_order(slips: &[&[u8]], least: usize, kept: &[usize]) -> Vec<usiz
     trial.best
 }
 
-/// The shortest legend of any tray with a least overlap, with so many cells and room for so many letters, or the refusal.
+/// The shortest legend of any tray with a least overlap, with this many cells and room for this many letters, or the refusal.
 pub fn shortest_legend(tray: &Tray, least: usize, work: usize, room: usize) -> Result<Shortest, Refusal> {
     unless(fault_before_c(tray, least, work))?;
     let slips = tray.slips();

@@ -61,7 +61,7 @@ fn pairs_by_hand() {
     }
 }
 
-/// Slips that share all letters but one are joined with so many as the least overlap, and not with one more. The slips of a
+/// Slips that share all letters but one are joined with this many as the least overlap, and not with one more. The slips of a
 /// pair may be equal, and then share all.
 #[test]
 fn long_slips() {
@@ -175,8 +175,8 @@ fn tray(chance: &mut Chance, n: usize) -> Tray {
     })
 }
 
-/// Arcs are taken by longer overlap, so a least overlap takes the last ones away: the joins are those of 1 that have so many
-/// letters, in the same order. What is kept is the same, and the legend is no shorter.
+/// Arcs are taken by longer overlap, so a least overlap takes the last ones away: the joins are those of 1 that have
+/// enough letters, in the same order. What is kept is the same, and the legend is no shorter.
 #[test]
 fn joins_of_one_letter_that_are_long_enough() {
     let (mut chance, mut fewer, mut some) = (Chance::new(54), 0, 0);

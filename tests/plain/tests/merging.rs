@@ -44,7 +44,7 @@ fn legends_by_hand() {
     }
 }
 
-/// The sentences once more, slip by slip: the first tray stands in front; behind it stand those slips of the second, in their
+/// The sentences once more, slip by slip: the first tray comes first; after it come those slips of the second, in their
 /// order, that equal no slip of the first and none of the second before them.
 #[test]
 fn first_of_equals() {

@@ -51,8 +51,8 @@ fn orders(numbers: &[usize]) -> Vec<Vec<usize>> {
     }
     let begun = |&first: &usize| {
         let others: Vec<usize> = numbers.iter().copied().filter(|&x| x != first).collect();
-        let behind = orders(&others).into_iter();
-        behind.map(move |rest| [vec![first], rest].concat())
+        let after = orders(&others).into_iter();
+        after.map(move |rest| [vec![first], rest].concat())
     };
     numbers.iter().flat_map(begun).collect()
 }

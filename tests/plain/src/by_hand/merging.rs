@@ -159,7 +159,7 @@ fn merged(name: &str, first: &Tray, second: &Tray, told: Result<Tray, (usize, us
     }
 }
 
-/// A run of numbered slips of so many letters, 2 or more: the first two tell the number, the others are Z.
+/// A run of numbered slips of this many letters, 2 or more: the first two tell the number, the others are Z.
 fn numbered(numbers: Range<u8>, letters: usize) -> Vec<String> {
     let slip = |n: u8| {
         let begins = [b'A' + n / 20, b'A' + n % 20].map(char::from);

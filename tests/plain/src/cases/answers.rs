@@ -26,14 +26,14 @@ impl Sum {
         sum
     }
 
-    /// Of a lent list: the outcome over its first part, marks behind it.
+    /// Of a lent list: the outcome over its first part, marks after it.
     fn over(outcome: &[usize], marks: &[usize], room: usize) -> u64 {
         let rest = marks.iter().cycle().skip(outcome.len() % marks.len());
         Sum::of(outcome.iter().chain(rest.take(room - outcome.len())).copied()).0
     }
 }
 
-/// Numbers, each behind a blank.
+/// Numbers, each after a blank.
 fn line(numbers: &[usize]) -> String {
     numbers.iter().map(|n| format!(" {n}")).collect()
 }
@@ -78,7 +78,7 @@ fn list_sums(made: &Composition, rooms: [usize; 3], width: usize) -> String {
     format!(" {legend} {joins} {}", Sum::over(&places, marks, rooms[2]))
 }
 
-/// Composing with lists of numbers; with lists of records too where just so many of them are lent.
+/// Composing with lists of numbers; with lists of records too, where [`Lending::has_records`].
 pub fn compose(tray: &Tray, least: usize, lent: &Lending) -> String {
     let [work, legend, joins, places] = lent.numbers;
     let rooms = Rooms {
@@ -161,7 +161,7 @@ pub fn ask(tray: &Tray, least: usize, left: usize, right: usize) -> String {
     format!("A{check};{slip} [{text}];{pair}")
 }
 
-/// Finding with a list of numbers, and with records where just this many of them are lent.
+/// Finding with a list of numbers; with lists of records too, where 2 or as many as `find` lists are lent.
 pub fn find(tray: &Tray, text: &[u8], work: usize, list: usize) -> String {
     let fault = work_sum(find::fault_before_c(tray, text, work), work);
     let told = |records: usize, room: usize, marks: &[usize]| {
@@ -182,7 +182,7 @@ pub fn find(tray: &Tray, text: &[u8], work: usize, list: usize) -> String {
     format!("F{flat} R{}", told(records, FOUND_CELLS * records, &marks))
 }
 
-/// A tray written into so many letters and ends: the answer, and the sums of both.
+/// A tray written into this many letters and ends: the answer, and the sums of both.
 fn written(outcome: Result<Tray, Refusal>, letters: usize, ends: usize) -> String {
     let answer = match &outcome {
         Ok(tray) => [0, 0, tray.letters.len(), tray.ends.len()],

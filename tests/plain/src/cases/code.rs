@@ -23,7 +23,7 @@ pub fn bytes(all: &[u8]) -> String {
     line
 }
 
-/// A tray of any kind: its letters with a comma at each end, or, where the ends fall or lie behind the letters, its letters
+/// A tray of any kind: its letters with a comma at each end, or, where the ends fall or lie past the letters, its letters
 /// and then its ends.
 pub fn tray(tray: &Tray) -> String {
     let ends: Vec<usize> = tray.ends.iter().map(|&end| usize::from(end)).collect();

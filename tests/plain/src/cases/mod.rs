@@ -3,15 +3,15 @@
 //! | line | what is asked |
 //! |---|---|
 //! | `- TEXT` | nothing: a heading, answered by itself |
-//! | `C LEAST WORK LEGEND JOINS PLACES TRAY` | composing, with so many cells, letters and numbers lent |
-//! | `L LEAST WORK LEGEND TRAY` | the shortest legend, with so many cells and letters lent |
-//! | `F WORK LIST TEXT TRAY` | finding, with so many cells and numbers lent |
+//! | `C LEAST WORK LEGEND JOINS PLACES TRAY` | composing, with this many cells, letters and numbers lent |
+//! | `L LEAST WORK LEGEND TRAY` | the shortest legend, with this many cells and letters lent |
+//! | `F WORK LIST TEXT TRAY` | finding, with this many cells and numbers lent |
 //! | `A LEAST LEFT RIGHT TRAY` | the tray check, the letters of slip LEFT, the overlap of LEFT and RIGHT |
-//! | `T LETTERS ENDS FILE` | reading a tray file, with so many letters and ends lent |
-//! | `M LETTERS ENDS TRAY;TRAY` | two trays merged, with so many letters and ends lent |
+//! | `T LETTERS ENDS FILE` | reading a tray file, with this many letters and ends lent |
+//! | `M LETTERS ENDS TRAY;TRAY` | two trays merged, with this many letters and ends lent |
 //! | `S` | which bytes are signs |
 //!
-//! LEAST is the least overlap. Every lent buffer is filled with a mark before the call, and behind it a sum over all its
+//! LEAST is the least overlap. Every lent buffer is filled with a mark before the call, and after it a sum over all its
 //! cells is told.
 use crate::tray::Tray;
 use crate::{FOUND_CELLS, JOIN_CELLS, ONE_LETTER, PLACE_CELLS};

@@ -11,7 +11,7 @@ use crate::shortest::{order_legend, shortest_order};
 use crate::tray::Tray;
 use crate::{MAX_LETTERS, ONE_LETTER, WORK_CELLS};
 
-/// The plain program tries all orders of so many kept slips in a moment.
+/// The plain program tries all orders of this many kept slips in a moment.
 pub const FEW_KEPT: usize = 7;
 
 /// A tray with room for every legend.

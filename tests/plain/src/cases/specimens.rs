@@ -5,7 +5,7 @@ use crate::made::files::tray_file;
 use crate::tray::Tray;
 use crate::{FILE_ENDS, MAX_FILE, ONE_LETTER, PLACE_CELLS, WORK_CELLS};
 
-/// The places of the compose tray have so many numbers.
+/// The numbers of five places, those of the compose tray.
 const FIVE: usize = 5 * PLACE_CELLS;
 
 /// What is lent for the compose tray.
@@ -37,7 +37,7 @@ const TEXTS: &[(&str, &str, usize, usize)] = &[
     ("13 before 7 and 14", "IMPCAESAVGa", 31_999, 0),
 ];
 
-/// So many letters in slips of `most` letters, of which the last may have fewer; no two of the first 26 begin alike.
+/// This many letters in slips of `most` letters, of which the last may have fewer; no two of the first 26 begin alike.
 fn cut(letters: usize, most: usize) -> Tray {
     let slip = |(i, start): (usize, usize)| {
         let long = most.min(letters - start);
@@ -104,6 +104,12 @@ fn files() -> Vec<(&'static str, Vec<u8>)> {
         ("1,638 slips without letters", tray_file(&vec![b""; 1_638])),
         ("a file of 16,384 bytes", filled(16_384)),
         ("a file of 16,385 bytes", filled(16_385)),
+    ]
+}
+
+/// Tray files with letters that are folded, or are none, each with enough room.
+fn folded_files() -> Vec<(&'static str, Vec<u8>)> {
+    vec![
         ("small letters", b"   1   3 avg\n".to_vec()),
         ("small u and j", b"   1   2 uj\n".to_vec()),
         ("U beside V", b"   1   3 UVA\n".to_vec()),
@@ -130,9 +136,10 @@ pub fn named(name: &str, case: Case) -> [Case; 2] {
     [Case::Heading(name.to_string()), case]
 }
 
-pub fn all() -> Vec<Case> {
+/// Trays composed.
+fn trays() -> Vec<Case> {
     let sample = Tray::of(COMPOSE.slips);
-    let mut cases = vec![Case::Heading("Specimens".to_string())];
+    let mut cases = Vec::new();
     for case in SPECIMENS {
         cases.extend(named(case.name, Case::Compose(Tray::of(case.slips), ONE_LETTER, WHOLE)));
     }
@@ -148,6 +155,13 @@ pub fn all() -> Vec<Case> {
         cases.push(Case::Compose(tray, ONE_LETTER, lending(WORK_CELLS, 0, JOINS, PLACES)));
     }
     cases.extend(named("many letters compared", Case::Compose(runs(), ONE_LETTER, WHOLE)));
+    cases
+}
+
+/// Slips found in texts.
+fn texts() -> Vec<Case> {
+    let sample = Tray::of(COMPOSE.slips);
+    let mut cases = Vec::new();
     for case in SEARCHES {
         cases.extend(named(
             case.name,
@@ -166,7 +180,13 @@ pub fn all() -> Vec<Case> {
             Case::Find(sample.clone(), vec![b'S'; n], WORK_CELLS, WHOLE_LIST),
         ));
     }
-    for (name, file) in files() {
+    cases
+}
+
+/// Tray files read.
+fn readings() -> Vec<Case> {
+    let mut cases = Vec::new();
+    for (name, file) in [files(), folded_files()].concat() {
         cases.extend(named(name, Case::Read(file, MAX_FILE, FILE_ENDS)));
     }
     for (letters, ends) in [
@@ -182,4 +202,9 @@ pub fn all() -> Vec<Case> {
     let long = vec![b'A'; 16_385];
     cases.extend(named("15 before 16", Case::Read(long, 16_383, 1_700)));
     cases
+}
+
+pub fn all() -> Vec<Case> {
+    let heading = vec![Case::Heading("Specimens".to_string())];
+    [heading, trays(), texts(), readings()].concat()
 }

@@ -102,7 +102,7 @@ pub fn two_campaigns(chance: &mut Chance, hoard: &Slips) -> [Slips; 2] {
     trays.map(within_limit)
 }
 
-/// Puts up to so many slips more into the second tray, each an equal of one in either, and shuffles it. It stays valid.
+/// Puts up to this many more slips into the second tray, each an equal of one in either, and shuffles it. It stays valid.
 fn add_equals(chance: &mut Chance, first: &Slips, mut second: Slips, most: usize) -> Slips {
     let own = second.clone();
     let mut letters = second.concat().len();
@@ -119,7 +119,7 @@ fn add_equals(chance: &mut Chance, first: &Slips, mut second: Slips, most: usize
     second
 }
 
-/// A word whose first two letters tell its number, and so many letters more, all of them the same.
+/// A word whose first two letters tell its number, and this many more letters, all of them the same.
 fn numbered(number: usize, more: usize) -> Vec<u8> {
     let letter = |n: usize| b'A' + (n % 26) as u8;
     let begins = [letter(number / 26), letter(number)];
@@ -226,7 +226,7 @@ impl Met {
         all.for_each(|(count, met)| *count += usize::from(met));
     }
 
-    /// Each was met so often.
+    /// Each was met this often.
     pub fn assert_all_from(&self, least: usize) {
         for (name, count) in SHOWN.iter().zip(self.0) {
             assert!(count >= least, "{name}: {count}");

@@ -14,9 +14,9 @@ pub enum Damage {
     LongSlip,
     /// A byte that is no sign.
     BadByte,
-    /// A letter behind the last end.
+    /// A letter after the last end.
     LastEndLow,
-    /// The last end behind the letters.
+    /// The last end past the letters.
     LastEndHigh,
     /// Letters cut off.
     LettersMissing,

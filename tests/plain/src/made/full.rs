@@ -11,7 +11,7 @@ pub fn different(chance: &mut Chance, shape: Shape, signs: &[u8]) -> Slips {
     all
 }
 
-/// So many slips of 10 letters, no two equal, which have the first eight in common.
+/// This many slips of 10 letters, no two equal, which have the first eight in common.
 pub fn common_beginning(chance: &mut Chance, count: usize) -> Slips {
     let shared = chance.word(SIGNS, 8);
     let ends = SIGNS.iter().flat_map(|&a| SIGNS.iter().map(move |&b| [a, b]));

@@ -36,7 +36,7 @@ pub fn with_aside(chance: &mut Chance, mut all: Slips, more: usize) -> Slips {
     all
 }
 
-/// A tray of which just so many slips are kept, over one of these sets of signs.
+/// A tray of which just this many slips are kept, over one of these sets of signs.
 pub fn just_kept(chance: &mut Chance, sets: &[&[u8]], kept: usize) -> Slips {
     let signs = chance.one(sets);
     let mut all = Slips::new();
@@ -48,7 +48,7 @@ pub fn just_kept(chance: &mut Chance, sets: &[&[u8]], kept: usize) -> Slips {
     all
 }
 
-/// A text over these signs, and so many stretches of it: it holds them all.
+/// A text over these signs, and this many stretches of it: it holds them all.
 pub fn stretches(chance: &mut Chance, signs: &[u8], count: usize) -> (Vec<u8>, Slips) {
     let letters = chance.between(7, 16);
     let text = chance.word(signs, letters);

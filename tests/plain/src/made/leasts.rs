@@ -17,7 +17,7 @@ pub fn any_least(chance: &mut Chance) -> usize {
 const SETS: [&[u8]; 5] = [b"AB", b"ABCD", b".AB", b"..ABCD", SIGNS];
 
 /// A valid tray of 2 to `most` slips of one length, up to `longest` letters: stretches of one text, shuffled. Each begins up
-/// to a whole slip behind the one before, and so shares with it anything from no letter to all but one.
+/// to a whole slip after the one before, and so shares with it anything from no letter to all but one.
 pub fn many_lengths(chance: &mut Chance, most: usize, longest: usize) -> Slips {
     let signs = chance.one(&SETS);
     let (count, length) = (chance.between(2, most), chance.between(2, longest));
@@ -33,7 +33,7 @@ pub fn many_lengths(chance: &mut Chance, most: usize, longest: usize) -> Slips {
     within_limit(all)
 }
 
-/// Two slips: the first ends and the second begins with about `least` letters. Before and behind these may stand others, up
+/// Two slips: the first ends and the second begins with about `least` letters. Before and after these may stand others, up
 /// to the longest slip; without any, both slips are equal.
 pub fn about_least(chance: &mut Chance, least: usize) -> Slips {
     let signs = chance.one(&SETS);
@@ -41,6 +41,6 @@ pub fn about_least(chance: &mut Chance, least: usize) -> Slips {
     let letters = chance.one(&[fewer, fewer, least, least + 1]).clamp(1, MAX_SLIP);
     let shared = chance.word(signs, letters);
     let mut run = |letter: u8| vec![letter; chance.below(MAX_SLIP - letters + 1)];
-    let (before, behind) = (run(b'X'), run(b'Y'));
-    vec![[before, shared.clone()].concat(), [shared, behind].concat()]
+    let (before, after) = (run(b'X'), run(b'Y'));
+    vec![[before, shared.clone()].concat(), [shared, after].concat()]
 }

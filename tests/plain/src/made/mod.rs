@@ -39,7 +39,7 @@ impl Chance {
         low + self.below(high - low + 1)
     }
 
-    /// So many of the 27 signs.
+    /// This many of the 27 signs.
     pub fn signs(&mut self, n: usize) -> Vec<u8> {
         let from = self.below(SIGNS.len());
         (0..n).map(|k| SIGNS[(from + k) % SIGNS.len()]).collect()

@@ -38,7 +38,7 @@ pub fn typed_slips(chance: &mut Chance, all: &[Vec<u8>]) -> Slips {
     all.iter().map(|slip| typed(chance, slip)).collect()
 }
 
-/// Puts up to so many bytes that are no signs into letters or a text.
+/// Puts up to this many bytes that are no signs into letters or a text.
 pub fn spoil(chance: &mut Chance, letters: &mut [u8], times: usize) {
     // None where there is no letter.
     for _ in 0..times.min(letters.len()) {
