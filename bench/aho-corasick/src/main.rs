@@ -4,7 +4,7 @@ mod families;
 
 use aho_corasick::{AhoCorasick, AhoCorasickBuilder};
 use families::{Family, FAMILIES};
-use kotsghane::{find, find_slips, Found, Search, Tray, MAX_SLIP, WORK_CELLS};
+use kotsghane::{find, find_slips, Found, Refusal, Search, Tray, MAX_SLIP, WORK_CELLS};
 use plain::made::texts::text;
 use plain::made::{valid, Chance};
 use plain::tray;
@@ -12,11 +12,11 @@ use std::cmp::Reverse;
 use std::hint::black_box;
 use std::time::Instant;
 
-/// So many inputs of each family, and so many calls on each, of which the fastest counts.
+/// How many inputs of each family, and how many calls on each, of which the fastest counts.
 const INPUTS: usize = 8;
 const CALLS: usize = 200;
 
-/// So many made-up trays and texts are compared besides.
+/// How many made-up trays and texts are compared besides.
 const COMPARED: usize = 4_000;
 
 /// The library's automaton over these slips, all else as the library has it.
@@ -28,10 +28,7 @@ fn built(slips: &[Vec<u8>], dfa: bool) -> AhoCorasick {
 fn theirs(automaton: &AhoCorasick, text: &[u8], found: &mut [Found]) -> usize {
     let mut count = 0;
     for (hit, record) in automaton.find_overlapping_iter(text).zip(found) {
-        *record = Found {
-            end: hit.end() as u32,
-            slip: hit.pattern() as u32 + 1,
-        };
+        *record = Found::new(hit.end(), hit.pattern() + 1);
         count += 1;
     }
     count
@@ -45,7 +42,7 @@ fn compare(slips: &[Vec<u8>], text: &[u8]) -> Vec<Found> {
         let mut list = vec![Found::default(); ours.found.len() + 1];
         let count = theirs(&built(slips, dfa), text, &mut list);
         list.truncate(count);
-        list.sort_by_key(|f| (f.end, Reverse(slips[f.slip as usize - 1].len()), f.slip));
+        list.sort_by_key(|f| (f.end(), Reverse(slips[f.slip() - 1].len()), f.slip()));
         assert!(list == ours.found, "occurrences differ from those of the library");
     }
     ours.found
@@ -104,7 +101,7 @@ impl Buffers {
         self.found.fill(Found::default());
     }
 
-    fn ours(&mut self, input: &Input, text: &[u8]) -> Search {
+    fn ours(&mut self, input: &Input, text: &[u8]) -> Result<Search, Refusal> {
         find(&input.tray.letters, &input.tray.ends, text, &mut self.work, &mut self.found)
     }
 
@@ -129,7 +126,7 @@ struct Kind {
 }
 
 /// Ours with an empty text is checking and building alone; NFA and DFA are building and searching, and what was built is
-/// freed behind the clock, but in the one column that says so.
+/// freed after the clock has stopped, except in the one column that says so.
 const KINDS: [Kind; 7] = [
     Kind {
         name: "ours",
@@ -161,7 +158,7 @@ const KINDS: [Kind; 7] = [
     },
 ];
 
-/// The time of a call; what it gives is dropped behind the clock.
+/// The time of a call; what it gives is dropped after the clock has stopped.
 fn clock<T>(call: impl FnOnce() -> T) -> f64 {
     let start = Instant::now();
     let given = black_box(call());

@@ -3,7 +3,7 @@
 //! and the merge of two trays.
 mod merging;
 
-use kotsghane::{compose, shortest, Composed, Join, Place, Settings, Shortest, WORK_CELLS};
+use kotsghane::{compose, shortest, Composed, Join, Place, Refusal, Settings, Shortest, WORK_CELLS};
 use plain::compose::{compose_tray, kept_slips, try_places, Rooms};
 use plain::made::full::{different, many_inside, mixed_lengths};
 use plain::made::{slips, Chance, Shape, Slips};
@@ -82,13 +82,13 @@ impl Buffers {
         self.places.fill(Place::default());
     }
 
-    fn ours(&mut self, tray: &Tray, places: usize) -> Composed {
+    fn ours(&mut self, tray: &Tray, places: usize) -> Result<Composed, Refusal> {
         let (letters, ends, settings) = (&tray.letters, &tray.ends, Settings::default());
         let (legend, joins, places) = (&mut self.legend, &mut self.joins, &mut self.places[..places]);
         compose(letters, ends, settings, &mut self.work, legend, joins, places)
     }
 
-    fn shortest(&mut self, tray: &Tray) -> Shortest {
+    fn shortest(&mut self, tray: &Tray) -> Result<Shortest, Refusal> {
         let (letters, ends, settings) = (&tray.letters, &tray.ends, Settings::default());
         shortest(letters, ends, settings, &mut self.work, &mut self.legend)
     }
@@ -105,7 +105,7 @@ const AMPLE: Rooms = Rooms {
 /// A tray with its outcome, and the least time of each kind of call on it, in microseconds.
 struct Timed {
     tray: Tray,
-    answer: Composed,
+    counts: Composed,
     outcome: Buffers,
     ours: f64,
     plain: f64,
@@ -118,21 +118,19 @@ struct Timed {
 /// Composes the tray by both programs, and compares what they give.
 fn compare(slips: &[Vec<u8>]) -> Timed {
     let (tray, mut outcome) = (Tray::of(slips), Buffers::new());
-    let answer = outcome.ours(&tray, 200);
-    assert_eq!((answer.number, answer.slips, tray.letters.len()), (0, 200, 2_000));
+    let counts = outcome.ours(&tray, 200).expect("a tray within the limits");
+    assert_eq!((counts.slips, tray.letters.len()), (200, 2_000));
     let made = compose_tray(&tray, ONE_LETTER, AMPLE).expect("a tray within the limits");
-    assert_eq!(outcome.legend[..answer.legend as usize], made.legend);
-    let joins = outcome.joins[..answer.joins as usize].iter();
-    assert!(joins
-        .map(|x| [x.left, x.right, x.overlap].map(usize::from))
-        .eq(made.joins.iter().map(|x| [x.left, x.right, x.overlap])));
-    let places = outcome.places.iter();
-    assert!(places
-        .map(|x| (usize::from(x.place), x.is_kept(), usize::from(x.compared)))
-        .eq(made.places.iter().map(|x| (x.place, x.kept, x.compared))));
+    assert_eq!(outcome.legend[..counts.legend], made.legend);
+    let joins = outcome.joins[..counts.joins].iter().copied();
+    assert!(joins.eq(made.joins.iter().map(|x| Join::new(x.left, x.right, x.overlap))));
+    let places = outcome.places.iter().copied();
+    assert!(places.eq(made.places.iter().map(|x| Place::new(x.place, x.kept, x.compared))));
+    let refusal = Buffers::new().ours(&tray, 199).unwrap_err();
+    assert_eq!((refusal.number(), refusal.detail() as usize), (9, counts.joins));
     Timed {
         tray,
-        answer,
+        counts,
         outcome,
         ours: f64::MAX,
         plain: f64::MAX,
@@ -150,7 +148,7 @@ fn clock<T>(least: &mut f64, call: impl FnOnce() -> T) {
 
 /// The places of all slips set aside, summed.
 fn trials(timed: &Timed) -> usize {
-    let legend = &timed.outcome.legend[..timed.answer.legend as usize];
+    let legend = &timed.outcome.legend[..timed.counts.legend];
     let slips = timed.tray.slips().into_iter().zip(&timed.outcome.places);
     let aside = slips.filter(|(_, place)| !place.is_kept());
     aside
@@ -183,10 +181,10 @@ fn round(trays: &mut [Timed], buffers: &mut Buffers) {
 
 fn print_row(name: &str, trays: &[Timed]) {
     let mean = |time: fn(&Timed) -> f64| trays.iter().map(time).sum::<f64>() / TRAYS as f64;
-    let aside: u32 = trays.iter().map(|t| t.answer.slips - t.answer.kept).sum();
+    let aside: usize = trays.iter().map(|t| t.counts.slips - t.counts.kept).sum();
     let (ours, plain) = (mean(|t| t.ours), mean(|t| t.plain));
     let (unwritten, trial) = (mean(|t| t.unwritten), mean(|t| t.trial));
-    let aside = aside / TRAYS as u32;
+    let aside = aside / TRAYS;
     println!(
         "| {name} | {aside} | {ours:.1} | {plain:.0} | {:.1} | {unwritten:.1} | {trial:.1} |",
         plain / ours,
@@ -245,11 +243,10 @@ fn seek(chance: &mut Chance, group: &Group, count: usize) -> Sought {
         tray = made();
     }
     let mut outcome = Buffers::new();
-    let answer = outcome.shortest(&tray);
+    let told = outcome.shortest(&tray).expect("few kept slips");
     let made = shortest_legend(&tray, ONE_LETTER, WORK_CELLS, 2_000).expect("few kept slips");
-    let order = answer.order[..answer.count as usize].iter();
-    assert!(order.map(|&slip| usize::from(slip)).eq(made.order));
-    assert_eq!(outcome.legend[..answer.legend as usize], made.legend);
+    assert_eq!(told.order[..told.count], made.order);
+    assert_eq!(outcome.legend[..told.legend], made.legend);
     Sought {
         tray,
         composing: f64::MAX,

@@ -1,93 +1,60 @@
 //! Two trays merged.
-use crate::{Refusal, Tray, Written, MAX_LETTERS, MAX_SLIPS};
+use crate::{sys, Refusal, Tray, Written, MAX_LETTERS, MAX_SLIPS};
 
-extern "C" {
-    // The first tray, the second and the outcome. Each slice is a pointer and a length in elements; `answer` points to as many
-    // numbers as its type says.
-    fn kotsghane_merge(
-        letters1: *const u8,
-        letters1_len: usize,
-        ends1: *const u16,
-        ends1_len: usize,
-        letters2: *const u8,
-        letters2_len: usize,
-        ends2: *const u16,
-        ends2_len: usize,
-        letters: *mut u8,
-        letters_len: usize,
-        ends: *mut u16,
-        ends_len: usize,
-        answer: *mut [u32; 4],
-    );
-}
-
-/// Merges two trays into lent letters and ends, or refuses: the slips of the first, and then those of the second whose letters
-/// equal no slip written before, numbered anew from 1. Equals within the first tray all stay; a slip that only
-/// stands in another is no equal. Where the two trays, simply written one after the other, are accepted as one tray, that
-/// tray composes to the same legend, by any settings.
+/// Merges two trays into lent letters and ends. [`Tray::merge`] does the same and makes the buffers itself.
 ///
-/// At least [`MAX_LETTERS`] letters and [`MAX_SLIPS`] ends are lent; fewer are refused first (15). Then the first tray is
-/// judged, then the second, whose detail counts its own slips, and then the outcome, which may have too many slips (1) or
-/// letters (4). On success the first part of each buffer is the outcome, and the rest is unchanged; on a refusal both hold what
+/// The outcome has the slips of the first tray, and then those of the second whose letters equal no slip written before,
+/// numbered from 1. Equal slips of the first tray all stay, and a slip that is only a part of another is no equal. It is
+/// written to the first part of each buffer; the rest is unchanged. If the two trays, written one after the other, are
+/// accepted as one tray, then that tray and the outcome have the same legend, whatever the settings.
+///
+/// # Errors
+///
+/// [`TrayBuffersTooSmall`](crate::RefusalKind::TrayBuffersTooSmall), if fewer than [`MAX_LETTERS`] letters or [`MAX_SLIPS`]
+/// ends are lent. Then what [`Tray::check`] refuses (`TooManySlips`, `EmptySlip`, `SlipTooLong`, `TooManyLetters`,
+/// `LastEndMismatch`, `BadSlipByte`) of the first tray, of the second, and of the outcome, which can only have too many slips
+/// or letters. The detail names a slip of its own tray; which tray it is, `check` tells for each. Both buffers then hold what
 /// they held.
 ///
 /// ```
-/// use kotsghane::{merge_trays, Tray, MAX_LETTERS, MAX_SLIPS};
+/// use kotsghane::{merge_trays, RefusalKind, Tray, MAX_LETTERS, MAX_SLIPS};
 ///
 /// let (first, second) = (Tray::of(&["ABC", "D", "D"]), Tray::of(&["D", "AB", "E", "E"]));
 /// let (mut letters, mut ends) = (vec![b'-'; MAX_LETTERS], vec![0; MAX_SLIPS]);
-/// let written = merge_trays(&first, &second, &mut letters, &mut ends);
-/// assert_eq!((written.number, written.letters, written.slips), (0, 8, 5));
+/// let written = merge_trays(&first, &second, &mut letters, &mut ends).unwrap();
+/// assert_eq!((written.letters, written.slips), (8, 5));
 /// assert_eq!(&letters[..9], b"ABCDDABE-");
 /// assert_eq!(ends[..6], [3, 4, 5, 7, 8, 0]);
 ///
-/// let written = merge_trays(&first, &second, &mut letters, &mut ends[1..]);
-/// assert_eq!(written.number, 15);
+/// let refusal = merge_trays(&first, &second, &mut letters, &mut ends[1..]).unwrap_err();
+/// assert_eq!(refusal.kind(), RefusalKind::TrayBuffersTooSmall);
 /// ```
-#[allow(unsafe_code)]
-pub fn merge_trays(first: &Tray, second: &Tray, letters: &mut [u8], ends: &mut [u16]) -> Written {
-    let mut answer = [0; 4];
-    // SAFETY: every pointer comes with the length of the slice that it was taken from, and the slices outlive the call. The
-    // two that are written overlap nothing else, as Rust has it for `&mut`; the two trays may be one, and are only read. The
-    // function is proved for every content and every length, keeps no pointer, and does not unwind.
-    unsafe {
-        kotsghane_merge(
-            first.letters().as_ptr(),
-            first.letters().len(),
-            first.ends().as_ptr(),
-            first.ends().len(),
-            second.letters().as_ptr(),
-            second.letters().len(),
-            second.ends().as_ptr(),
-            second.ends().len(),
-            letters.as_mut_ptr(),
-            letters.len(),
-            ends.as_mut_ptr(),
-            ends.len(),
-            &mut answer,
-        );
-    }
-    Written::of(answer)
+pub fn merge_trays(first: &Tray, second: &Tray, letters: &mut [u8], ends: &mut [u16]) -> Result<Written, Refusal> {
+    let (first, second) = ((first.letters(), first.ends()), (second.letters(), second.ends()));
+    sys::merge(first, second, letters, ends).map(Written::of)
 }
 
 impl Tray {
-    /// This tray and then those slips of the second that equal no slip before them, as [`merge_trays`] has it, or why not.
-    /// Refusal 15 cannot occur: the buffers are made here.
+    /// This tray and then those slips of the second that equal no slip before them, as [`merge_trays`] has it.
+    ///
+    /// # Errors
+    ///
+    /// What [`Tray::check`] refuses (`TooManySlips`, `EmptySlip`, `SlipTooLong`, `TooManyLetters`, `LastEndMismatch`,
+    /// `BadSlipByte`) of this tray, of the second, and of the outcome, which can only have too many slips or letters.
     ///
     /// ```
-    /// use kotsghane::{compose_tray, Tray};
+    /// use kotsghane::{RefusalKind, Tray};
     ///
     /// let (first, second) = (Tray::of(&["IMPCAES", "AES"]), Tray::of(&["CAESAVG", "AES", "SIMP"]));
     /// let merged = first.merge(&second).unwrap();
     /// assert_eq!(merged, Tray::of(&["IMPCAES", "AES", "CAESAVG", "SIMP"]));
-    /// assert_eq!(compose_tray(&merged).unwrap().text, "SIMPCAESAVG");
     ///
     /// let refusal = first.merge(&Tray::of(&["AVG", "avg"])).unwrap_err();
-    /// assert_eq!((refusal.number, refusal.detail), (6, 2));
+    /// assert_eq!((refusal.kind(), refusal.detail()), (RefusalKind::BadSlipByte, 2));
     /// ```
     pub fn merge(&self, second: &Tray) -> Result<Tray, Refusal> {
         let (mut letters, mut ends) = (vec![0; MAX_LETTERS], vec![0; MAX_SLIPS]);
-        let written = merge_trays(self, second, &mut letters, &mut ends);
-        written.tray(letters, ends)
+        let written = merge_trays(self, second, &mut letters, &mut ends)?;
+        Ok(written.tray(letters, ends))
     }
 }

@@ -1,20 +1,23 @@
-//! Trays and legends that own their letters.
-use crate::{compose, Join, Place, Refusal, Settings, MAX_LETTERS, MAX_SLIP, MAX_SLIPS, WORK_CELLS};
-use std::fmt;
+//! Trays that own their letters: how they are made, and what is asked of one slip or of a pair.
+use crate::{sys, Refusal, RefusalKind, Settings, MAX_SLIP};
 
 /// A tray: slips of letters, numbered from 1.
-#[derive(Clone, Debug, Default, PartialEq, Eq)]
+///
+/// Any slips can be put into a tray. [`Tray::check`] judges them, and so does every call that takes a tray. Letters stay as
+/// they are given, so a small letter is refused: only [`Tray::read`] turns it into a capital.
+#[derive(Clone, Debug, Default, PartialEq, Eq, Hash)]
 pub struct Tray {
     letters: Vec<u8>,
     ends: Vec<u16>,
 }
 
 impl Tray {
-    /// The tray of these slips. Any slips can be given: [`compose_tray`] and [`find_slips`](crate::find_slips) judge them.
-    /// Their letters stay as they are given, so that a small one is refused (6): only [`Tray::read`] folds.
+    /// The tray of these slips.
     ///
-    /// Ends have 16 bits, so of a slip that is too long only the letters up to the first too many are stored, and behind
-    /// 65,535 letters the ends stop rising. Such a tray is refused (3, or 1 or 2 before it) as if all were stored.
+    /// Ends have 16 bits. So only the first `MAX_SLIP + 1` letters of a slip that is too long are stored, and no end is above
+    /// `u16::MAX`, which it takes more than [`MAX_SLIPS`](crate::MAX_SLIPS) slips to reach. The tray is refused just as if all
+    /// its letters were stored.
+    #[must_use]
     pub fn of<S: AsRef<[u8]>>(slips: &[S]) -> Tray {
         let mut tray = Tray::default();
         for slip in slips {
@@ -25,96 +28,98 @@ impl Tray {
         tray
     }
 
-    /// The tray of these letters and ends, which may be of any kind.
+    /// The tray of these letters and ends, which may be of any kind. Slip 1 runs from the start to `ends[0]`, slip i from
+    /// `ends[i - 2]` to `ends[i - 1]`.
+    ///
+    /// ```
+    /// use kotsghane::Tray;
+    ///
+    /// let tray = Tray::from_parts(b"IMPCAESAES".to_vec(), vec![7, 10]);
+    /// assert_eq!(tray, Tray::of(&["IMPCAES", "AES"]));
+    /// ```
+    #[must_use]
     pub fn from_parts(letters: Vec<u8>, ends: Vec<u16>) -> Tray {
         Tray { letters, ends }
     }
 
     /// The letters of all slips.
+    #[must_use]
     pub fn letters(&self) -> &[u8] {
         &self.letters
     }
 
-    /// For each slip, where it ends in the letters.
+    /// Where each slip ends in the letters.
+    #[must_use]
     pub fn ends(&self) -> &[u16] {
         &self.ends
     }
-}
 
-/// A composed legend.
-#[derive(Clone, Debug, PartialEq, Eq)]
-pub struct Legend {
-    /// Its letters.
-    pub text: String,
-    /// The joins in the order made.
-    pub joins: Vec<Join>,
-    /// For each slip where it stands.
-    pub places: Vec<Place>,
-    /// How many slips are kept.
-    pub kept: usize,
-    /// The letters of the kept slips: those of the legend and those saved.
-    pub kept_letters: usize,
-    /// The letters saved by the joins.
-    pub saved: usize,
-}
-
-impl fmt::Display for Legend {
-    fn fmt(&self, f: &mut fmt::Formatter<'_>) -> fmt::Result {
-        f.write_str(&self.text)
+    /// Judges the tray, as every call does that takes one. A tray without slips is accepted.
+    ///
+    /// # Errors
+    ///
+    /// The first of these that holds: [`TooManySlips`](RefusalKind::TooManySlips), [`EmptySlip`](RefusalKind::EmptySlip),
+    /// [`SlipTooLong`](RefusalKind::SlipTooLong), [`TooManyLetters`](RefusalKind::TooManyLetters),
+    /// [`LastEndMismatch`](RefusalKind::LastEndMismatch), [`BadSlipByte`](RefusalKind::BadSlipByte).
+    ///
+    /// ```
+    /// use kotsghane::{RefusalKind, Tray};
+    ///
+    /// assert_eq!(Tray::of(&["AVG", "CAES."]).check(), Ok(()));
+    /// assert_eq!(Tray::default().check(), Ok(()));
+    ///
+    /// let refusal = Tray::of(&["AVG", "C?ES"]).check().unwrap_err();
+    /// assert_eq!((refusal.kind(), refusal.detail()), (RefusalKind::BadSlipByte, 2));
+    /// ```
+    pub fn check(&self) -> Result<(), Refusal> {
+        match self.slip(1) {
+            // Slip 1 is asked for after all that is judged of the tray. A tray that does not have it is empty and sound.
+            Err(refusal) if refusal.kind() == RefusalKind::NoSuchSlip => Ok(()),
+            told => told.map(|_| ()),
+        }
     }
-}
 
-/// Composes a tray, or says why not. Refusals 7 to 9 and 21 cannot occur: the buffers are made here and large enough for any
-/// tray, and no overlap is too short.
-///
-/// ```
-/// use kotsghane::{compose_tray, Tray};
-///
-/// let legend = compose_tray(&Tray::of(&["AKI", "ELE", "KIKI", "KIRA", "LEA"])).unwrap();
-/// assert_eq!((legend.text.as_str(), legend.saved), ("ELEAKIKIRA", 7));
-/// ```
-pub fn compose_tray(tray: &Tray) -> Result<Legend, Refusal> {
-    compose_tray_with(tray, Settings::default())
-}
-
-/// Composes a tray by these settings, or says why not, as [`compose_tray`] does. Refusal 21 may occur.
-///
-/// ```
-/// use kotsghane::{compose_tray_with, Settings, Tray};
-///
-/// let tray = Tray::of(&["AKI", "ELE", "KIKI", "KIRA", "LEA"]);
-/// let legend = compose_tray_with(&tray, Settings::least(2)).unwrap();
-/// assert_eq!((legend.text.as_str(), legend.saved), ("AKIKIRAELEA", 6));
-///
-/// let refusal = compose_tray_with(&tray, Settings::least(33)).unwrap_err();
-/// assert_eq!((refusal.number, refusal.detail), (21, 0));
-/// assert_eq!(refusal.to_string(), "the least overlap is 0 or more than 32");
-/// ```
-pub fn compose_tray_with(tray: &Tray, settings: Settings) -> Result<Legend, Refusal> {
-    let mut work = vec![0; WORK_CELLS];
-    let mut letters = vec![0; tray.letters.len().min(MAX_LETTERS)];
-    let mut joins = vec![Join::default(); tray.ends.len().min(MAX_SLIPS)];
-    let mut places = vec![Place::default(); tray.ends.len().min(MAX_SLIPS)];
-    let answer = compose(
-        &tray.letters,
-        &tray.ends,
-        settings,
-        &mut work,
-        &mut letters,
-        &mut joins,
-        &mut places,
-    );
-    if let Some(refusal) = answer.refusal() {
-        return Err(refusal);
+    /// The letters of one slip, numbered from 1. A number above `u32::MAX` is taken as `u32::MAX`, which no tray has.
+    ///
+    /// # Errors
+    ///
+    /// What [`Tray::check`] refuses (`TooManySlips`, `EmptySlip`, `SlipTooLong`, `TooManyLetters`, `LastEndMismatch`,
+    /// `BadSlipByte`); then [`NoSuchSlip`](RefusalKind::NoSuchSlip).
+    ///
+    /// ```
+    /// use kotsghane::{RefusalKind, Tray};
+    ///
+    /// let tray = Tray::of(&["AVG", "CAESAVG"]);
+    /// assert_eq!(tray.slip(2), Ok(&b"CAESAVG"[..]));
+    /// assert_eq!(tray.slip(3).unwrap_err().kind(), RefusalKind::NoSuchSlip);
+    /// ```
+    pub fn slip(&self, slip: usize) -> Result<&[u8], Refusal> {
+        let [start, end] = sys::slip(&self.letters, &self.ends, slip)?;
+        Ok(&self.letters[start..end])
     }
-    letters.truncate(answer.legend as usize);
-    joins.truncate(answer.joins as usize);
-    Ok(Legend {
-        text: letters.into_iter().map(char::from).collect(),
-        joins,
-        places,
-        kept: answer.kept as usize,
-        kept_letters: answer.letters as usize,
-        saved: answer.saved as usize,
-    })
+
+    /// How many letters end slip `left` and begin slip `right`, both numbered from 1. Full stops alone do not count, nor do
+    /// fewer letters than the least overlap. A number above `u32::MAX` is taken as `u32::MAX`, which is refused too.
+    ///
+    /// # Errors
+    ///
+    /// In this order: [`LeastOverlapOutOfRange`](RefusalKind::LeastOverlapOutOfRange); what [`Tray::check`] refuses
+    /// (`TooManySlips`, `EmptySlip`, `SlipTooLong`, `TooManyLetters`, `LastEndMismatch`, `BadSlipByte`);
+    /// [`NoSuchSlip`](RefusalKind::NoSuchSlip); [`SameSlipTwice`](RefusalKind::SameSlipTwice).
+    ///
+    /// ```
+    /// use kotsghane::{RefusalKind, Settings, Tray};
+    ///
+    /// let (tray, settings) = (Tray::of(&["IMPCAES", "CAESAVG"]), Settings::default());
+    /// assert_eq!((tray.overlap(1, 2, settings), tray.overlap(2, 1, settings)), (Ok(4), Ok(0)));
+    /// assert_eq!(tray.overlap(1, 2, Settings::least(5)), Ok(0));
+    /// assert_eq!(tray.overlap(2, 2, settings).unwrap_err().kind(), RefusalKind::SameSlipTwice);
+    ///
+    /// assert_eq!(Tray::of(&["A.", ".B"]).overlap(1, 2, settings), Ok(0));
+    /// assert_eq!(Tray::of(&["X.A", ".AB"]).overlap(1, 2, settings), Ok(2));
+    /// ```
+    pub fn overlap(&self, left: usize, right: usize, settings: Settings) -> Result<usize, Refusal> {
+        let [overlap] = sys::pair(&self.letters, &self.ends, left, right, settings)?;
+        Ok(overlap)
+    }
 }

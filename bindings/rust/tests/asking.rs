@@ -1,8 +1,9 @@
 //! One slip, pairs and tray files through the exported calls, against the plain program.
 mod lent;
 mod tally;
+mod told;
 
-use kotsghane::{compose_tray, read_tray, Read, Refusal, Tray, FILE_ENDS, MAX_FILE, MAX_SLIP};
+use kotsghane::{compose_tray, read_tray, Settings, Tray, FILE_ENDS, MAX_FILE, MAX_SLIP};
 use lent::Lent;
 use plain::by_hand::{COMPOSE, FILED, TYPED_FILE};
 use plain::made::damage::{damaged, DAMAGES};
@@ -12,34 +13,27 @@ use plain::made::typed::{has_other_forms, many_forms, spoil, typed_slips};
 use plain::made::{valid, Chance};
 use plain::{file, tray, ONE_LETTER};
 use tally::Tally;
+use told::{plainly, refused};
 
-fn refusal(plain: plain::Refusal) -> Refusal {
-    Refusal {
-        number: plain.number as u32,
-        detail: plain.detail as u32,
-    }
-}
+/// No overlap is too short.
+const DEFAULT: Settings = Settings::least(1);
 
 /// All slips and all pairs of a tray, with 0 and a number above the count; answers how many pairs there were.
 fn try_tray(plain: &tray::Tray, tally: &mut Tally) -> usize {
     let ours = Tray::from_parts(plain.letters.clone(), plain.ends.clone());
     let numbers = 0..=plain.ends.len() + 1;
     for i in numbers.clone() {
-        let told = ours.slip(i as u32);
-        match plain.slip(i) {
-            Err(plain) => assert_eq!(told, Err(refusal(plain))),
-            // That stretch of the tray itself: where it starts, and what stands there.
-            Ok(letters) => {
-                let span = told.expect("the plain program has it");
-                let start = if i == 1 { 0 } else { usize::from(plain.ends[i - 2]) };
-                assert_eq!(span.start, start);
-                assert_eq!(&plain.letters[span], letters);
-            }
+        let told = ours.slip(i);
+        assert_eq!(told.map_err(plainly), plain.slip(i));
+        if let Ok(letters) = told {
+            // That stretch of the tray itself: where it starts, and how long it is.
+            let start = if i == 1 { 0 } else { usize::from(plain.ends[i - 2]) };
+            assert!(std::ptr::eq(letters, &ours.letters()[start..start + letters.len()]));
         }
         for j in numbers.clone() {
-            let told = ours.overlap(i as u32, j as u32);
-            tally.count(told.err().map_or(0, |refusal| refusal.number));
-            assert_eq!(told, plain.pair(i, j, ONE_LETTER).map_err(refusal));
+            let told = ours.overlap(i, j, DEFAULT);
+            tally.count(&told);
+            assert_eq!(told.map_err(plainly), plain.pair(i, j, ONE_LETTER));
         }
     }
     numbers.count().pow(2)
@@ -78,13 +72,26 @@ fn pairs_with_many_stops_agree() {
 fn numbers_up_to_32_bits() {
     let tray = Tray::of(&["AVG", "CAESAVG"]);
     for number in [3, 255, 256, 65_537, u32::MAX] {
-        let refused = Err(Refusal {
-            number: 10,
-            detail: number,
-        });
-        assert_eq!(tray.slip(number), refused.clone());
-        assert_eq!(tray.overlap(number, 1).map(|_| 0..0), refused.clone());
-        assert_eq!(tray.overlap(2, number).map(|_| 0..0), refused);
+        let slip = number as usize;
+        assert_eq!(refused(&tray.slip(slip)), (10, number));
+        assert_eq!(refused(&tray.overlap(slip, 1, DEFAULT)), (10, number));
+        assert_eq!(refused(&tray.overlap(2, slip, DEFAULT)), (10, number));
+    }
+}
+
+/// Numbers that 32 bits do not hold are taken as the highest that they do; cut off, they would be those of slips.
+#[test]
+fn numbers_over_32_bits() {
+    let tray = Tray::of(&["AVG", "CAESAVG"]);
+    for more in [0, 1, 2, usize::MAX - (1 << 32)] {
+        let number = (1 << 32) + more;
+        assert_eq!(refused(&tray.slip(number)), (10, u32::MAX));
+        assert_eq!(refused(&tray.overlap(number, 1, DEFAULT)), (10, u32::MAX));
+        assert_eq!(refused(&tray.overlap(2, number, DEFAULT)), (10, u32::MAX));
+        assert_eq!(refused(&tray.overlap(number, number, DEFAULT)), (10, u32::MAX));
+        let settings = Settings::least(number);
+        assert_eq!(refused(&tray.overlap(1, 2, settings)), (21, 0));
+        assert_eq!(refused(&compose_tray(&tray, settings)), (21, 0));
     }
 }
 
@@ -92,11 +99,9 @@ fn numbers_up_to_32_bits() {
 fn try_file(chance: &mut Chance, made: &[u8], letters: usize, ends: usize, tally: &mut Tally) {
     let before = Lent::of(chance, letters, ends);
     let mut after = before.clone();
-    let answer: Read = read_tray(made, &mut after.letters, &mut after.ends);
-    tally.count(answer.number);
-    let (expected, wanted) = before.expected(&file::read_tray(made, letters, ends));
-    assert_eq!(answer, expected);
-    assert!(after == wanted, "the buffers differ");
+    let told = read_tray(made, &mut after.letters, &mut after.ends);
+    tally.count(&told);
+    before.assert_after(told, &after, &file::read_tray(made, letters, ends));
 }
 
 #[test]
@@ -148,18 +153,19 @@ fn each_byte_is_filed() {
     tally.assert_all_from(&[0], 1);
 }
 
-/// What was worked out by hand, and the tray check behind reading.
+/// What was worked out by hand, and the tray check after reading.
 #[test]
 fn letters_are_filed_as_the_die_has_them() {
     for (typed, filed) in FILED {
         let tray = Tray::read(tray_file(&[*typed])).expect("a file of one line");
         assert_eq!(tray, Tray::of(&[*filed]), "{typed:?}");
-        let bad = Refusal { number: 6, detail: 1 };
-        assert_eq!(tray.slip(1).err(), filed.contains(&0).then_some(bad), "{typed:?}");
+        let expected = if filed.contains(&0) { (6, 1) } else { (0, 0) };
+        assert_eq!(refused(&tray.slip(1)), expected, "{typed:?}");
+        assert_eq!(refused(&tray.check()), expected, "{typed:?}");
     }
     let tray = Tray::read(TYPED_FILE).expect("a whole file");
     assert_eq!(tray, Tray::of(COMPOSE.slips));
-    assert_eq!(compose_tray(&tray).expect("a valid tray").text, COMPOSE.legend);
+    assert_eq!(compose_tray(&tray, DEFAULT).expect("a valid tray").text, COMPOSE.legend);
 }
 
 #[test]
@@ -183,7 +189,7 @@ fn owned_trays_agree() {
             _ => damaged_file(&mut chance, &all, BLOTS[n / 2 % BLOTS.len()]),
         };
         let told = Tray::read(&made).map(|tray| (tray.letters().to_vec(), tray.ends().to_vec()));
-        let plain = file::read_tray(&made, MAX_FILE, FILE_ENDS).map_err(refusal);
-        assert_eq!(told, plain.map(|tray| (tray.letters, tray.ends)));
+        let plain = file::read_tray(&made, MAX_FILE, FILE_ENDS);
+        assert_eq!(told.map_err(plainly), plain.map(|tray| (tray.letters, tray.ends)));
     }
 }

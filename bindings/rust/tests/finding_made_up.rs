@@ -1,32 +1,34 @@
 //! Finding in thousands of made-up trays and texts, valid and damaged, in buffers of many lengths, against the plain program.
 mod searches;
 mod tally;
+mod told;
 
-use kotsghane::{find_slips, Search, Tray, MAX_SLIP};
+use kotsghane::{find_slips, Refusal, Search, Tray, MAX_SLIP};
 use plain::made::damage::{damaged, DAMAGES};
 use plain::made::texts::{damaged_text, text};
 use plain::made::{near, slips, valid, Chance, SHAPES};
 use plain::tray;
 use searches::{trial, Lent};
 use tally::Tally;
+use told::refused;
 
-/// The occurrences that an answer tells of.
-fn occurrences(answer: &Search) -> usize {
-    match answer.number {
-        14 => answer.detail as usize,
-        _ => answer.count as usize,
+/// The occurrences that there are, whether or not the list takes them; 0 after any other refusal.
+fn occurrences(told: &Result<Search, Refusal>) -> usize {
+    match refused(told) {
+        (14, detail) => detail as usize,
+        _ => told.unwrap_or_default().count,
     }
 }
 
 /// One tray and text, first without a list, then with one of about the length that the outcome needs.
 fn try_search(chance: &mut Chance, tray: &tray::Tray, text: &[u8], tally: &mut Tally) {
     let none = Lent::of(32_000, 0, chance);
-    let (answer, _) = trial(tray, text, &none);
-    tally.count(answer.number);
+    let (told, _) = trial(tray, text, &none);
+    tally.count(&told);
     let cells = [32_000, 32_000, 32_007, 31_999][chance.below(4)];
-    let records = near(chance, occurrences(&answer));
-    let (answer, _) = trial(tray, text, &Lent::of(cells, records, chance));
-    tally.count(answer.number);
+    let records = near(chance, occurrences(&told));
+    let (told, _) = trial(tray, text, &Lent::of(cells, records, chance));
+    tally.count(&told);
 }
 
 #[test]
@@ -103,8 +105,8 @@ fn each_buffer_one_short() {
         let n = chance.below(200);
         let text = text(&mut chance, &all, n);
         let tray = tray::Tray::of(&all);
-        let (answer, _) = trial(&tray, &text, &Lent::of(32_000, 0, &mut chance));
-        let count = occurrences(&answer);
+        let (told, _) = trial(&tray, &text, &Lent::of(32_000, 0, &mut chance));
+        let count = occurrences(&told);
         let mut cases = vec![(32_000, count, 0, 0), (31_999, count, 7, 0)];
         if count > 0 {
             cases.push((32_000, count - 1, 14, count as u32));
@@ -112,8 +114,8 @@ fn each_buffer_one_short() {
         }
         for (cells, records, number, detail) in cases {
             let before = Lent::of(cells, records, &mut chance);
-            let (answer, after) = trial(&tray, &text, &before);
-            assert_eq!((answer.number, answer.detail), (number, detail));
+            let (told, after) = trial(&tray, &text, &before);
+            assert_eq!(refused(&told), (number, detail));
             assert!(number == 0 || after.found == before.found);
         }
     }
@@ -137,18 +139,13 @@ fn owned_trays_agree() {
             2 => text.resize(2_001, b'A'),
             _ => {}
         }
-        let (answer, _) = trial(&tray, &text, &Lent::of(32_000, 0, &mut chance));
-        let before = Lent::of(32_000, occurrences(&answer), &mut chance);
-        let (answer, after) = trial(&tray, &text, &before);
-        tally.count(answer.number);
-        match find_slips(&Tray::from_parts(tray.letters, tray.ends), &text) {
-            Err(refusal) => assert_eq!(Some(refusal), answer.refusal()),
-            Ok(finding) => {
-                assert_eq!(answer.number, 0);
-                assert_eq!(finding.found, after.found);
-                assert_eq!(finding.moves, answer.moves as usize);
-            }
-        }
+        let (told, _) = trial(&tray, &text, &Lent::of(32_000, 0, &mut chance));
+        let before = Lent::of(32_000, occurrences(&told), &mut chance);
+        let (told, after) = trial(&tray, &text, &before);
+        tally.count(&told);
+        let owned = find_slips(&Tray::from_parts(tray.letters, tray.ends), &text);
+        let expected = told.map(|search| (after.found, search.moves));
+        assert_eq!(owned.map(|finding| (finding.found, finding.moves)), expected);
     }
     tally.assert_all_from(&[0, 12, 13], 100);
 }

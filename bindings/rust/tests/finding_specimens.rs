@@ -1,25 +1,27 @@
 //! Finding: the specimen of document 01 and its edges, as tables of named cases.
 mod searches;
+mod told;
 
-use kotsghane::{find_slips, Found, Refusal, Tray, MAX_SLIP};
+use kotsghane::{find_slips, Found, Tray};
 use plain::by_hand::{FIND, SEARCHES};
 use plain::made::Chance;
 use plain::tray;
-use searches::{occurrence, trial, Lent};
+use searches::{trial, Lent};
+use told::refused;
 
 #[test]
 fn specimen_texts() {
     let mut chance = Chance::new(21);
     for case in SEARCHES {
         let name = case.name;
-        let found: Vec<Found> = case.found.iter().map(|&(end, slip)| occurrence(end, slip)).collect();
+        let found: Vec<Found> = case.found.iter().map(|&(end, slip)| Found::new(end, slip)).collect();
         let finding = find_slips(&Tray::of(case.slips), case.text).expect(name);
         assert_eq!((&finding.found, finding.moves), (&found, case.moves), "{name}");
         let tray = tray::Tray::of(case.slips);
         for room in [found.len(), found.len() + 9] {
             let before = Lent::of(32_000, room, &mut chance);
-            let (answer, after) = trial(&tray, case.text.as_bytes(), &before);
-            assert_eq!((answer.number, answer.moves as usize), (0, case.moves), "{name}");
+            let (told, after) = trial(&tray, case.text.as_bytes(), &before);
+            assert_eq!(told.map(|search| search.moves), Ok(case.moves), "{name}");
             assert_eq!(after.found[..found.len()], found, "{name}");
         }
     }
@@ -88,10 +90,9 @@ fn edge_texts() {
     for case in edges() {
         let name = case.name;
         let before = Lent::of(case.cells, case.records, &mut chance);
-        let (answer, after) = trial(&tray, &case.text, &before);
-        assert_eq!((answer.number, answer.detail), (case.number, case.detail), "{name}");
+        let (told, after) = trial(&tray, &case.text, &before);
+        assert_eq!(refused(&told), (case.number, case.detail), "{name}");
         if case.number != 0 {
-            assert_eq!((answer.moves, answer.count), (0, 0), "{name}");
             assert!(after.found == before.found, "{name}");
         }
     }
@@ -108,13 +109,7 @@ fn the_tray_is_judged_first() {
     let cases: [Turned; 6] = [
         ("201 slips", &ones, (1..=201).collect(), 1, 0),
         ("an end equals the one before", b"AB", vec![1, 1, 2], 2, 2),
-        (
-            "a slip one letter too long",
-            &ones[..MAX_SLIP + 1],
-            vec![MAX_SLIP as u16 + 1],
-            3,
-            1,
-        ),
+        ("a slip of 33 letters", &ones[..33], vec![33], 3, 1),
         (
             "2,001 letters",
             &[b'A'; 2_001],
@@ -131,11 +126,12 @@ fn the_tray_is_judged_first() {
         for text in [&b""[..], b"AVG", b"avg", &bad] {
             for (cells, records) in [(32_000, 5), (31_999, 0)] {
                 let before = Lent::of(cells, records, &mut chance);
-                let (answer, _) = trial(&tray, text, &before);
-                assert_eq!((answer.number, answer.detail), (number, detail), "{name}");
+                let (told, after) = trial(&tray, text, &before);
+                assert_eq!(refused(&told), (number, detail), "{name}");
+                assert!(after == before, "{name}: a lent buffer differs");
             }
-            let refusal = find_slips(&Tray::from_parts(tray.letters.clone(), tray.ends.clone()), text);
-            assert_eq!(refusal, Err(Refusal { number, detail }), "{name}");
+            let told = find_slips(&Tray::from_parts(tray.letters.clone(), tray.ends.clone()), text);
+            assert_eq!(refused(&told), (number, detail), "{name}");
         }
     }
 }
@@ -147,20 +143,20 @@ fn four_hundred_thousand_occurrences() {
     let tray = tray::Tray::of(&["A"; 200]);
     for (room, number, detail) in [(400_000, 0, 0), (400_003, 0, 0), (399_999, 14, 400_000)] {
         let before = Lent::of(32_000, room, &mut chance);
-        let (answer, _) = trial(&tray, &text, &before);
-        assert_eq!((answer.number, answer.detail), (number, detail));
+        let (told, _) = trial(&tray, &text, &before);
+        assert_eq!(refused(&told), (number, detail));
     }
     let finding = find_slips(&Tray::of(&["A"; 200]), text).unwrap();
     assert_eq!((finding.found.len(), finding.moves), (400_000, 3_999));
-    assert_eq!(finding.found[399_999], occurrence(2_000, 200));
+    assert_eq!(finding.found[399_999], Found::new(2_000, 200));
 }
 
-/// The longest slips, which differ in the last letter, met and just missed.
+/// The longest slips, of 32 letters, which differ in the last letter, met and just missed.
 #[test]
 fn the_longest_slips() {
-    let slip = |last: &str| "AB".repeat(MAX_SLIP)[..MAX_SLIP - 1].to_string() + last;
+    let slip = |last: &str| "AB".repeat(16)[..31].to_string() + last;
     let (x, y) = (slip("C"), slip("D"));
     let text = x.clone() + &slip("B") + &slip("A") + &y;
     let finding = find_slips(&Tray::of(&[&x, &y]), &text).unwrap();
-    assert_eq!(finding.found, [occurrence(MAX_SLIP, 1), occurrence(4 * MAX_SLIP, 2)]);
+    assert_eq!(finding.found, [Found::new(32, 1), Found::new(128, 2)]);
 }

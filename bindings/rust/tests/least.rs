@@ -2,12 +2,10 @@
 mod buffers;
 mod sought;
 mod tally;
+mod told;
 
 use buffers::{trial, Buffers, AMPLE};
-use kotsghane::{
-    compose_tray, compose_tray_with, shortest_legend, shortest_legend_with, Join, Refusal, Settings, Tray, MAX_LEAST,
-    MAX_SLIP,
-};
+use kotsghane::{compose_tray, shortest_legend, Join, Settings, Tray, MAX_LEAST, MAX_SLIP};
 use plain::by_hand::least::{long, refused_first, DIE_GROUPS, JOINED, REFUSED, SHORT_ROOMS, WIDE};
 use plain::by_hand::pairs::PAIRS;
 use plain::by_hand::shortest::longest;
@@ -19,16 +17,12 @@ use plain::made::leasts::{about_least, any_least, many_lengths, LEASTS};
 use plain::made::stops::many_stops;
 use plain::made::{near, valid, Chance};
 use plain::tray;
-use sought::{refused, Lent};
+use sought::Lent;
 use tally::Tally;
-
-/// These settings, where the plain program counts so many letters.
-fn settings(least: usize) -> Settings {
-    Settings::least(least.try_into().expect("a number of 32 bits"))
-}
+use told::{plainly, refused};
 
 fn numbers(join: &Join) -> (usize, usize, usize) {
-    (join.left.into(), join.right.into(), join.overlap.into())
+    (join.left(), join.right(), join.overlap())
 }
 
 fn ours(tray: &tray::Tray) -> Tray {
@@ -40,18 +34,20 @@ fn trays_by_hand() {
     let mut chance = Chance::new(81);
     for case in JOINED {
         let name = case.name;
-        let made = compose_tray_with(&Tray::of(case.slips), settings(case.least)).expect(name);
+        let settings = Settings::least(case.least);
+        let made = compose_tray(&Tray::of(case.slips), settings).expect(name);
         assert_eq!(made.text, case.legend, "{name}");
         let joins: Vec<_> = made.joins.iter().map(numbers).collect();
         assert_eq!(joins, case.joins, "{name}");
         assert_eq!(made.places.len(), case.places.len(), "{name}");
         for (i, (place, &at)) in made.places.iter().zip(case.places).enumerate() {
             let aside = case.aside.iter().find(|&&(slip, _)| slip == i + 1);
-            let told = (place.place.into(), place.is_kept(), place.compared.into());
+            let told = (place.place(), place.is_kept(), place.compared());
             assert_eq!(told, (at, aside.is_none(), aside.map_or(0, |x| x.1)), "{name}");
         }
         let before = Buffers::of(AMPLE, &mut chance);
-        trial(&tray::Tray::of(case.slips), settings(case.least), &before);
+        let (told, _) = trial(&tray::Tray::of(case.slips), settings, &before);
+        assert_eq!(refused(&told), (0, 0), "{name}");
     }
 }
 
@@ -59,12 +55,16 @@ fn trays_by_hand() {
 fn die_groups_by_hand() {
     let mut chance = Chance::new(82);
     for (least, case) in DIE_GROUPS {
-        let (name, settings) = (case.name, settings(*least));
-        let made = shortest_legend_with(&Tray::of(case.slips), settings).expect(name);
-        let order: Vec<usize> = made.order.iter().map(|&slip| slip.into()).collect();
-        assert_eq!((made.text.as_str(), &order[..]), (case.legend, case.order), "{name}");
+        let (name, settings) = (case.name, Settings::least(*least));
+        let made = shortest_legend(&Tray::of(case.slips), settings).expect(name);
+        assert_eq!(
+            (made.text.as_str(), &made.order[..]),
+            (case.legend, case.order),
+            "{name}"
+        );
         let before = Lent::of(32_000, case.legend.len(), &mut chance);
-        sought::trial(&tray::Tray::of(case.slips), settings, &before);
+        let told = sought::trial(&tray::Tray::of(case.slips), settings, &before);
+        assert_eq!(refused(&told), (0, 0), "{name}");
     }
 }
 
@@ -72,46 +72,37 @@ fn die_groups_by_hand() {
 fn pairs_by_hand() {
     for case in PAIRS {
         let (left, right) = case.numbers;
-        let told = Tray::of(case.slips).overlap_from(left as u32, right as u32, case.least as u32);
-        let expected = case.told.map_err(|(number, detail)| Refusal {
-            number: number as u32,
-            detail: detail as u32,
-        });
-        assert_eq!(told, expected, "{:?} {:?} at {}", case.slips, case.numbers, case.least);
+        let told = Tray::of(case.slips).overlap(left, right, Settings::least(case.least));
+        let told = told.map_err(|refusal| (refusal.number() as usize, refusal.detail() as usize));
+        assert_eq!(told, case.told, "{:?} {:?} at {}", case.slips, case.numbers, case.least);
     }
 }
 
-/// Slips that share all letters but one are joined with so many as the least overlap, and not with one more. The slips of a
+/// Slips that share all letters but one are joined with this many as the least overlap, and not with one more. The slips of a
 /// pair may be equal, and then share all.
 #[test]
 fn long_slips() {
     let (case, ten) = (long(), longest());
-    let (tray, n) = (Tray::of(&case.slips), case.letters as u32);
-    let text = |least| {
-        compose_tray_with(&tray, Settings::least(least))
-            .expect("two slips")
-            .text
-    };
-    assert_eq!(text(n - 1).as_bytes(), case.text);
-    assert_eq!(text(n).as_bytes(), case.slips.concat());
-    assert_eq!(tray.overlap_from(1, 2, n - 1), Ok(case.letters - 1));
-    assert_eq!(tray.overlap_from(1, 2, n), Ok(0));
+    let (tray, n) = (Tray::of(&case.slips), case.letters);
+    let [fewer, all] = [n - 1, n].map(Settings::least);
+    let text = |settings| compose_tray(&tray, settings).expect("two slips").text;
+    assert_eq!(text(fewer).as_bytes(), case.text);
+    assert_eq!(text(all).as_bytes(), case.slips.concat());
+    assert_eq!(tray.overlap(1, 2, fewer), Ok(n - 1));
+    assert_eq!(tray.overlap(1, 2, all), Ok(0));
     let equal = Tray::of(&[&case.slips[0], &case.slips[0]]);
-    assert_eq!(equal.overlap_from(1, 2, n), Ok(case.letters));
-    let made = shortest_legend_with(&Tray::of(&ten.slips), Settings::least(n - 1)).expect("ten slips");
+    assert_eq!(equal.overlap(1, 2, all), Ok(n));
+    let made = shortest_legend(&Tray::of(&ten.slips), fewer).expect("ten slips");
     assert_eq!(made.text.as_bytes(), ten.legend);
-    if case.letters == MAX_SLIP {
-        let made = shortest_legend_with(&Tray::of(&ten.slips), Settings::least(n)).expect("ten slips");
-        assert_eq!(made.text.as_bytes(), ten.slips.concat());
-        assert_eq!(made.order, [1, 2, 3, 4, 5, 6, 7, 8, 9, 10]);
-    }
+    let made = shortest_legend(&Tray::of(&ten.slips), all).expect("ten slips");
+    assert_eq!(made.text.as_bytes(), ten.slips.concat());
+    assert_eq!(made.order, [1, 2, 3, 4, 5, 6, 7, 8, 9, 10]);
 }
 
 /// Row 21 is the first, whatever the tray and the rooms are, and every lent buffer holds what it held.
 #[test]
 fn refused_by_21() {
     let mut chance = Chance::new(83);
-    let refusal = Refusal { number: 21, detail: 0 };
     for case in refused_first() {
         let (name, mine) = (case.name, ours(&case.tray));
         let [joins, places] = [chance.below(3), chance.below(3)];
@@ -122,53 +113,55 @@ fn refused_by_21() {
             places,
         };
         for least in REFUSED.into_iter().chain(WIDE) {
-            let settings = settings(least);
+            let settings = Settings::least(least);
             let before = Buffers::of(rooms, &mut chance);
-            let (answer, after) = trial(&case.tray, settings, &before);
-            assert_eq!(answer.refusal(), Some(refusal), "{name}");
+            let (told, after) = trial(&case.tray, settings, &before);
+            assert_eq!(refused(&told), (21, 0), "{name}");
             assert!(after == before, "{name}: a lent buffer differs");
             let before = Lent::of(case.work, case.room, &mut chance);
-            let (answer, after) = sought::call(&case.tray, settings, &before);
-            assert_eq!(answer, refused(21, 0), "{name}");
+            let (told, after) = sought::call(&case.tray, settings, &before);
+            assert_eq!(refused(&told), (21, 0), "{name}");
             assert!(after == before, "{name}: a lent buffer differs");
-            assert_eq!(compose_tray_with(&mine, settings), Err(refusal), "{name}");
-            assert_eq!(shortest_legend_with(&mine, settings), Err(refusal), "{name}");
+            assert_eq!(refused(&compose_tray(&mine, settings)), (21, 0), "{name}");
+            assert_eq!(refused(&shortest_legend(&mine, settings)), (21, 0), "{name}");
             for (left, right) in [(1, 2), (0, 0), (1, 1), (1, 300)] {
-                assert_eq!(mine.overlap_from(left, right, settings.least), Err(refusal), "{name}");
+                let told = mine.overlap(left, right, settings);
+                assert_eq!(refused(&told), (21, 0), "{name}");
             }
         }
     }
-    let text = format!("the least overlap is 0 or more than {MAX_LEAST}");
-    assert_eq!(refusal.to_string(), text);
 }
 
-/// The letters needed go by the least overlap.
+/// The letters needed depend on the least overlap.
 #[test]
 fn refused_by_8() {
     let mut chance = Chance::new(84);
     let tray = tray::Tray::of(COMPOSE.slips);
     for &(least, room, need) in SHORT_ROOMS {
         let rooms = Rooms { legend: room, ..AMPLE };
-        let (answer, _) = trial(&tray, settings(least), &Buffers::of(rooms, &mut chance));
-        assert_eq!((answer.number, answer.detail as usize), (8, need), "{least}");
-        let answer = sought::trial(&tray, settings(least), &Lent::of(32_000, room, &mut chance));
-        assert_eq!(answer, refused(8, need), "{least}");
+        let settings = Settings::least(least);
+        let (told, _) = trial(&tray, settings, &Buffers::of(rooms, &mut chance));
+        assert_eq!(refused(&told), (8, need as u32), "{least}");
+        let told = sought::trial(&tray, settings, &Lent::of(32_000, room, &mut chance));
+        assert_eq!(refused(&told), (8, need as u32), "{least}");
     }
 }
 
 /// One tray in ample buffers, then in buffers of about the length that the outcome needs.
 fn try_tray(chance: &mut Chance, tray: &tray::Tray, least: usize, tally: &mut Tally) -> usize {
-    let (ample, _) = trial(tray, settings(least), &Buffers::of(AMPLE, chance));
-    tally.count(ample.number);
+    let settings = Settings::least(least);
+    let (told, _) = trial(tray, settings, &Buffers::of(AMPLE, chance));
+    tally.count(&told);
+    let ample = told.unwrap_or_default();
     let rooms = Rooms {
         work: chance.one(&[32_000, 32_000, 32_007, 31_999]),
-        legend: near(chance, ample.legend as usize),
-        joins: near(chance, ample.joins as usize),
+        legend: near(chance, ample.legend),
+        joins: near(chance, ample.joins),
         places: near(chance, tray.ends.len()),
     };
-    let (answer, _) = trial(tray, settings(least), &Buffers::of(rooms, chance));
-    tally.count(answer.number);
-    ample.joins as usize
+    let (told, _) = trial(tray, settings, &Buffers::of(rooms, chance));
+    tally.count(&told);
+    ample.joins
 }
 
 /// Each tray with every least overlap. Where it may be asked for, more letters never make more joins.
@@ -224,12 +217,14 @@ fn small_groups_agree() {
             _ => tray::Tray::of(&all),
         };
         let orders = LEASTS.map(|least| {
-            let ample = sought::trial(&tray, settings(least), &Lent::of(32_000, 2_000, &mut chance));
-            tally.count(ample.number);
+            let settings = Settings::least(least);
+            let told = sought::trial(&tray, settings, &Lent::of(32_000, 2_000, &mut chance));
+            tally.count(&told);
+            let ample = told.unwrap_or_default();
             let cells = chance.one(&[32_000, 32_000, 32_007, 31_999]);
-            let room = near(&mut chance, ample.legend as usize);
-            let answer = sought::trial(&tray, settings(least), &Lent::of(cells, room, &mut chance));
-            tally.count(answer.number);
+            let room = near(&mut chance, ample.legend);
+            let told = sought::trial(&tray, settings, &Lent::of(cells, room, &mut chance));
+            tally.count(&told);
             ample.order
         });
         turned += usize::from(orders[0] != orders[1]);
@@ -254,11 +249,10 @@ fn pairs_agree() {
         let above = tray.ends.len().min(5) + 1;
         for least in LEASTS.into_iter().chain([any]) {
             for (i, j) in (0..=above).flat_map(|i| (0..=above).map(move |j| (i, j))) {
-                let told = mine.overlap_from(i as u32, j as u32, least as u32);
-                let plain = tray.pair(i, j, least).map_err(|x| (x.number as u32, x.detail as u32));
-                assert_eq!(told.map_err(|x| (x.number, x.detail)), plain, "{i} and {j} at {least}");
-                tally.count(told.err().map_or(0, |refusal| refusal.number));
-                short += usize::from(told == Ok(0) && mine.overlap(i as u32, j as u32) != Ok(0));
+                let told = mine.overlap(i, j, Settings::least(least));
+                assert_eq!(told.map_err(plainly), tray.pair(i, j, least), "{i} and {j} at {least}");
+                tally.count(&told);
+                short += usize::from(told == Ok(0) && mine.overlap(i, j, Settings::default()) != Ok(0));
             }
         }
     }
@@ -266,7 +260,7 @@ fn pairs_agree() {
     assert!(short > 3_000, "pairs that share too few letters: {short}");
 }
 
-/// The comfortable forms that take no settings go by one letter.
+/// The settings by default are one letter, and the calls take them as that.
 #[test]
 fn one_letter_by_default() {
     assert_eq!(Settings::default(), Settings::least(1));
@@ -277,32 +271,28 @@ fn one_letter_by_default() {
             1 => Tray::of(&valid(&mut chance, 9, MAX_SLIP)),
             _ => Tray::of(&many_lengths(&mut chance, 9, 12)),
         };
-        let one = Settings::least(1);
-        assert_eq!(compose_tray(&tray), compose_tray_with(&tray, one));
-        assert_eq!(shortest_legend(&tray), shortest_legend_with(&tray, one));
-        assert_eq!(tray.overlap(1, 2), tray.overlap_from(1, 2, 1));
+        let (usual, one) = (Settings::default(), Settings::least(1));
+        assert_eq!(compose_tray(&tray, usual), compose_tray(&tray, one));
+        assert_eq!(shortest_legend(&tray, usual), shortest_legend(&tray, one));
+        assert_eq!(tray.overlap(1, 2, usual), tray.overlap(1, 2, one));
     }
 }
 
-/// Arcs are taken by longer overlap, so the joins are those of 1 that have so many letters, in the same order. What is kept
-/// does not go by the least overlap.
+/// Arcs are taken by longer overlap, so the joins are those of 1 that have enough letters, in the same order. What is kept
+/// does not depend on the least overlap.
 #[test]
 fn joins_of_one_letter_that_are_long_enough() {
     let (mut chance, mut some) = (Chance::new(90), 0);
     for n in 0..3_000 {
         let longest = [8, 12, MAX_SLIP][n % 3];
         let tray = Tray::of(&many_lengths(&mut chance, [6, 30, 200][n / 3 % 3], longest));
-        let at_one = compose_tray(&tray).expect("a valid tray");
+        let at_one = compose_tray(&tray, Settings::default()).expect("a valid tray");
         let least = chance.between(2, MAX_LEAST.min(longest));
-        let made = compose_tray_with(&tray, settings(least)).expect("a valid tray");
-        let enough: Vec<Join> = at_one
-            .joins
-            .iter()
-            .filter(|x| usize::from(x.overlap) >= least)
-            .copied()
-            .collect();
+        let made = compose_tray(&tray, Settings::least(least)).expect("a valid tray");
+        let long = at_one.joins.iter().filter(|x| x.overlap() >= least);
+        let enough: Vec<Join> = long.copied().collect();
         assert_eq!(made.joins, enough);
-        let kept = |places: &[kotsghane::Place]| places.iter().map(|x| x.kept).collect::<Vec<u16>>();
+        let kept = |places: &[kotsghane::Place]| places.iter().map(|x| x.is_kept()).collect::<Vec<bool>>();
         assert_eq!(kept(&made.places), kept(&at_one.places));
         assert_eq!(made.kept_letters, made.saved + made.text.len());
         some += usize::from(!enough.is_empty() && enough.len() < at_one.joins.len());

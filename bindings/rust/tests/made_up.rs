@@ -1,15 +1,17 @@
 //! Thousands of made-up trays, long and short, valid and damaged, in buffers of many lengths, against the plain program.
 mod buffers;
 mod tally;
+mod told;
 
 use buffers::{trial, Buffers, AMPLE};
-use kotsghane::{compose_tray, Refusal, Settings, Tray, MAX_SLIP};
+use kotsghane::{compose_tray, Settings, Tray, MAX_SLIP};
 use plain::compose::Rooms;
 use plain::made::damage::{damaged, stored, DAMAGES};
 use plain::made::stops::{many_stops, share_stops_alone};
 use plain::made::{near, slips, valid, Chance, SHAPES};
 use plain::tray;
 use tally::Tally;
+use told::refused;
 
 /// No overlap is too short.
 const DEFAULT: Settings = Settings::least(1);
@@ -17,17 +19,18 @@ const DEFAULT: Settings = Settings::least(1);
 /// One tray, first in ample buffers, then in buffers of about the length that the outcome needs.
 fn try_tray(chance: &mut Chance, tray: &tray::Tray, tally: &mut Tally) {
     let ample = Buffers::of(AMPLE, chance);
-    let (answer, _) = trial(tray, DEFAULT, &ample);
-    tally.count(answer.number);
+    let (told, _) = trial(tray, DEFAULT, &ample);
+    tally.count(&told);
+    let counts = told.unwrap_or_default();
     let rooms = Rooms {
         work: [32_000, 32_000, 32_007, 31_999][chance.below(4)],
-        legend: near(chance, answer.legend as usize),
-        joins: near(chance, answer.joins as usize),
+        legend: near(chance, counts.legend),
+        joins: near(chance, counts.joins),
         places: near(chance, tray.ends.len()),
     };
     let before = Buffers::of(rooms, chance);
-    let (answer, _) = trial(tray, DEFAULT, &before);
-    tally.count(answer.number);
+    let (told, _) = trial(tray, DEFAULT, &before);
+    tally.count(&told);
 }
 
 #[test]
@@ -92,11 +95,11 @@ fn stored_trays_agree() {
     let (mut chance, mut tally) = (Chance::new(11), Tally::default());
     for n in 0..2_000 {
         let all = stored(&mut chance, [4, 12, 200][n % 3]);
-        let (answer, _) = trial(&tray::Tray::of(&all), DEFAULT, &Buffers::of(AMPLE, &mut chance));
+        let (told, _) = trial(&tray::Tray::of(&all), DEFAULT, &Buffers::of(AMPLE, &mut chance));
         let too_long = all.iter().position(|slip| slip.len() > MAX_SLIP);
         let expected = too_long.map_or((0, 0), |i| (3, i as u32 + 1));
-        assert_eq!((answer.number, answer.detail), expected);
-        tally.count(answer.number);
+        assert_eq!(refused(&told), expected);
+        tally.count(&told);
     }
     tally.assert_all_from(&[0, 3], 700);
 }
@@ -109,8 +112,9 @@ fn each_buffer_one_short() {
         let tray = tray::Tray::of(&valid(&mut chance, 30, MAX_SLIP));
         let slips = tray.ends.len();
         let before = Buffers::of(AMPLE, &mut chance);
-        let (answer, _) = trial(&tray, DEFAULT, &before);
-        let (legend, joins) = (answer.legend as usize, answer.joins as usize);
+        let (told, _) = trial(&tray, DEFAULT, &before);
+        let composed = told.expect("an accepted tray");
+        let (legend, joins) = (composed.legend, composed.joins);
         let exact = Rooms {
             work: 32_000,
             legend,
@@ -126,17 +130,17 @@ fn each_buffer_one_short() {
         let mut cases = vec![
             (exact, 0, 0),
             (short(31_999, legend, joins, slips), 7, 0),
-            (short(32_000, legend - 1, joins, slips), 8, answer.legend),
-            (short(32_000, legend, joins, slips - 1), 9, answer.joins),
+            (short(32_000, legend - 1, joins, slips), 8, legend),
+            (short(32_000, legend, joins, slips - 1), 9, joins),
         ];
         if joins > 0 {
-            cases.push((short(32_000, legend, joins - 1, slips), 9, answer.joins));
+            cases.push((short(32_000, legend, joins - 1, slips), 9, joins));
             met += 1;
         }
         for (rooms, number, detail) in cases {
             let before = Buffers::of(rooms, &mut chance);
-            let (answer, _) = trial(&tray, DEFAULT, &before);
-            assert_eq!((answer.number, answer.detail), (number, detail), "{rooms:?}");
+            let (told, _) = trial(&tray, DEFAULT, &before);
+            assert_eq!(refused(&told), (number, detail as u32), "{rooms:?}");
         }
     }
     assert!(met > 200, "trays with a join: {met}");
@@ -153,17 +157,17 @@ fn owned_trays_agree() {
         };
         let slips = tray.ends.len();
         let before = Buffers::of(AMPLE, &mut chance);
-        let (answer, after) = trial(&tray, DEFAULT, &before);
-        match compose_tray(&Tray::from_parts(tray.letters, tray.ends)) {
-            Err(refusal) => assert_eq!(Some(refusal), answer.refusal()),
+        let (told, after) = trial(&tray, DEFAULT, &before);
+        match compose_tray(&Tray::from_parts(tray.letters, tray.ends), DEFAULT) {
+            Err(refusal) => assert_eq!(told, Err(refusal)),
             Ok(legend) => {
-                assert_eq!(answer.number, 0);
-                assert_eq!(legend.text.as_bytes(), &after.legend[..answer.legend as usize]);
-                assert_eq!(legend.joins, after.joins[..answer.joins as usize]);
+                let composed = told.expect("the comfortable form accepts it");
+                assert_eq!(legend.text.as_bytes(), &after.legend[..composed.legend]);
+                assert_eq!(legend.joins, after.joins[..composed.joins]);
                 assert_eq!(legend.places, after.places[..slips]);
-                assert_eq!(legend.kept, answer.kept as usize);
-                assert_eq!(legend.kept_letters, answer.letters as usize);
-                assert_eq!(legend.saved, answer.saved as usize);
+                assert_eq!(legend.kept, composed.kept);
+                assert_eq!(legend.kept_letters, composed.kept_letters);
+                assert_eq!(legend.saved, composed.saved);
             }
         }
     }
@@ -175,12 +179,13 @@ fn slips_beyond_sixteen_bits() {
     let long = "A".repeat(70_000);
     let cases: [(&str, Vec<&str>, u32, u32); 4] = [
         ("one long slip", vec!["AB", &long], 3, 2),
-        ("slips behind it", vec!["AB", &long, "CD", &long], 3, 2),
-        ("an empty slip behind it", vec!["AB", &long, ""], 2, 3),
+        ("slips after it", vec!["AB", &long, "CD", &long], 3, 2),
+        ("an empty slip after it", vec!["AB", &long, ""], 2, 3),
         ("too many long slips", vec![&long; 2_000], 1, 0),
     ];
     for (name, slips, number, detail) in cases {
-        let refusal = compose_tray(&Tray::of(&slips));
-        assert_eq!(refusal, Err(Refusal { number, detail }), "{name}");
+        let tray = Tray::of(&slips);
+        assert_eq!(refused(&compose_tray(&tray, DEFAULT)), (number, detail), "{name}");
+        assert_eq!(refused(&tray.check()), (number, detail), "{name}");
     }
 }

@@ -1,8 +1,9 @@
 //! Two trays merged: what was worked out by hand, and made-up trays against the plain program.
 mod lent;
 mod tally;
+mod told;
 
-use kotsghane::{compose_tray_with, merge_trays, Refusal, Settings, Tray, Written, MAX_LEAST, MAX_LETTERS, MAX_SLIPS};
+use kotsghane::{compose_tray, merge_trays, Refusal, Settings, Tray, Written, MAX_LEAST, MAX_LETTERS, MAX_SLIPS};
 use lent::Lent;
 use plain::by_hand::merging;
 use plain::made::campaigns::{any_two, Met};
@@ -11,24 +12,23 @@ use plain::made::Chance;
 use plain::merge::{self, long_tray};
 use plain::tray;
 use tally::Tally;
+use told::{plainly, refused};
 
 fn ours(tray: &tray::Tray) -> Tray {
     Tray::from_parts(tray.letters.clone(), tray.ends.clone())
 }
 
-/// One trial in the given buffers: answer and buffers, to the last element, are what the plain program says.
-fn trial(first: &tray::Tray, second: &tray::Tray, before: &Lent) -> Written {
+/// One trial in the given buffers: what is told and the buffers, to the last element, are what the plain program says.
+fn trial(first: &tray::Tray, second: &tray::Tray, before: &Lent) -> Result<Written, Refusal> {
     let mut after = before.clone();
-    let answer = merge_trays(&ours(first), &ours(second), &mut after.letters, &mut after.ends);
-    let told = merge::merge_trays(first, second, before.letters.len(), before.ends.len());
-    let (expected, wanted) = before.expected(&told);
-    assert_eq!(answer, expected);
-    assert!(after == wanted, "the buffers differ");
-    answer
+    let told = merge_trays(&ours(first), &ours(second), &mut after.letters, &mut after.ends);
+    let plain = merge::merge_trays(first, second, before.letters.len(), before.ends.len());
+    before.assert_after(told, &after, &plain);
+    told
 }
 
 /// One trial in buffers that hold anything and are just large enough, or larger.
-fn ample(chance: &mut Chance, [first, second]: &[tray::Tray; 2]) -> Written {
+fn ample(chance: &mut Chance, [first, second]: &[tray::Tray; 2]) -> Result<Written, Refusal> {
     let more = chance.one(&[[0, 0], [1, 1], [500, 37]]);
     let before = Lent::of(chance, MAX_LETTERS + more[0], MAX_SLIPS + more[1]);
     trial(first, second, &before)
@@ -39,22 +39,18 @@ fn trays_by_hand() {
     let mut chance = Chance::new(72);
     for case in merging::all() {
         let (name, [letters, ends]) = (&case.name, case.lent);
-        let answer = trial(&case.first, &case.second, &Lent::of(&mut chance, letters, ends));
-        let told = case.told.map(|tray| ours(&tray));
-        let refused = told.clone().err().unwrap_or_default();
-        assert_eq!((answer.number as usize, answer.detail as usize), refused, "{name}");
+        let told = trial(&case.first, &case.second, &Lent::of(&mut chance, letters, ends));
+        let (number, detail) = refused(&told);
+        let expected = case.told.map(|tray| ours(&tray));
+        let by_hand = expected.clone().err().unwrap_or_default();
+        assert_eq!((number as usize, detail as usize), by_hand, "{name}");
         if letters < MAX_LETTERS || ends < MAX_SLIPS {
             continue;
         }
         let owned = ours(&case.first).merge(&ours(&case.second));
-        assert_eq!(
-            owned.map_err(|x| (x.number as usize, x.detail as usize)),
-            told,
-            "{name}"
-        );
+        let owned = owned.map_err(|x| (x.number() as usize, x.detail() as usize));
+        assert_eq!(owned, expected, "{name}");
     }
-    let text = "under 16,384 letters or 1,700 ends are lent for a file, or 2,000 or 200 for two trays merged";
-    assert_eq!(Refusal { number: 15, detail: 0 }.to_string(), text);
 }
 
 #[test]
@@ -63,7 +59,7 @@ fn valid_trays_agree() {
     for n in 0..8_000 {
         let both = any_two(&mut chance, n);
         met.count(&both[0], &both[1]);
-        tally.count(ample(&mut chance, &both).number);
+        tally.count(&ample(&mut chance, &both));
     }
     tally.assert_all_from(&[0], 5_000);
     tally.assert_all_from(&[1, 4], 300);
@@ -82,7 +78,7 @@ fn damaged_trays_agree() {
             1 => [first, bad(n / 3)],
             _ => [bad(n / 3), bad(n / 30)],
         };
-        tally.count(ample(&mut chance, &both).number);
+        tally.count(&ample(&mut chance, &both));
     }
     tally.assert_all_from(&[1, 2, 3, 4, 5, 6], 300);
 }
@@ -98,9 +94,9 @@ fn any_rooms_agree() {
         }
         let near = |chance: &mut Chance, need: usize| chance.one(&[need, need - 1, need + 1, need + 60, need / 2, 0]);
         let (letters, ends) = (near(&mut chance, MAX_LETTERS), near(&mut chance, MAX_SLIPS));
-        let answer = trial(&both[0], &both[1], &Lent::of(&mut chance, letters, ends));
-        assert_eq!(answer.number == 15, letters < MAX_LETTERS || ends < MAX_SLIPS);
-        tally.count(answer.number);
+        let told = trial(&both[0], &both[1], &Lent::of(&mut chance, letters, ends));
+        assert_eq!(refused(&told) == (15, 0), letters < MAX_LETTERS || ends < MAX_SLIPS);
+        tally.count(&told);
     }
     tally.assert_all_from(&[15], 2_000);
     tally.assert_all_from(&[0], 300);
@@ -128,11 +124,7 @@ fn legend_of_the_long_tray() {
         let [first, second] = &both;
         let outcome = ours(first).merge(&ours(second));
         let plain = merge::merge_trays(first, second, MAX_LETTERS, MAX_SLIPS);
-        let numbers = |x: plain::Refusal| (x.number as u32, x.detail as u32);
-        assert_eq!(
-            outcome.clone().map_err(|x| (x.number, x.detail)),
-            plain.map(|x| ours(&x)).map_err(numbers)
-        );
+        assert_eq!(outcome.clone().map_err(plainly), plain.map(|x| ours(&x)));
         let long = long_tray(first, second);
         if long.fault().is_some() {
             shorter += usize::from(outcome.is_ok());
@@ -141,12 +133,12 @@ fn legend_of_the_long_tray() {
         let (outcome, long) = (outcome.expect("the long tray is accepted"), ours(&long));
         accepted += 1;
         met.count(&both[0], &both[1]);
-        let any = chance.between(1, MAX_LEAST) as u32;
-        for least in [1, 2, 3, 5, MAX_LEAST as u32, any, 0, MAX_LEAST as u32 + 1] {
-            let legend = |tray| compose_tray_with(tray, Settings::least(least)).map(|made| made.text);
+        let any = chance.between(1, MAX_LEAST);
+        for least in [1, 2, 3, 5, MAX_LEAST, any, 0, MAX_LEAST + 1] {
+            let legend = |tray| compose_tray(tray, Settings::least(least)).map(|made| made.text);
             assert_eq!(legend(&outcome), legend(&long), "at {least}");
         }
-        let made = compose_tray_with(&outcome, Settings::least(5)).expect("an accepted tray");
+        let made = compose_tray(&outcome, Settings::least(5)).expect("an accepted tray");
         joined += usize::from(!made.joins.is_empty());
     }
     assert!(accepted > 4_000, "accepted long trays: {accepted}");

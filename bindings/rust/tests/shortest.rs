@@ -1,8 +1,9 @@
 //! The shortest legend: what was worked out by hand, made-up trays against the plain program, and what is claimed of it.
 mod sought;
 mod tally;
+mod told;
 
-use kotsghane::{compose_tray, shortest_legend, Refusal, Settings, Tray, MAX_SLIP};
+use kotsghane::{compose_tray, shortest_legend, Settings, Tray, MAX_SLIP};
 use plain::by_hand::shortest::{all_turned, longest, DIE_GROUPS};
 use plain::compose::kept_slips;
 use plain::made::damage::{damaged, DAMAGES};
@@ -10,9 +11,10 @@ use plain::made::groups::{die_group, just_kept, stretches, with_aside, FEW, FEW_
 use plain::made::stops::share_stops_alone;
 use plain::made::{near, valid, Chance};
 use plain::shortest::order_legend;
-use plain::{tray, ONE_LETTER};
-use sought::{answer_of, call, refused, trial, Lent};
+use plain::{refusal, tray, ONE_LETTER};
+use sought::{call, numbers, told_of, trial, Lent};
 use tally::Tally;
+use told::refused;
 
 /// No overlap is too short.
 const DEFAULT: Settings = Settings::least(1);
@@ -22,22 +24,26 @@ fn die_groups() {
     let mut chance = Chance::new(61);
     for case in DIE_GROUPS {
         let (name, letters) = (case.name, case.legend.len());
-        let made = shortest_legend(&Tray::of(case.slips)).expect(name);
-        let order: Vec<usize> = made.order.iter().map(|&slip| slip.into()).collect();
-        assert_eq!((made.text.as_str(), &order[..]), (case.legend, case.order), "{name}");
+        let made = shortest_legend(&Tray::of(case.slips), DEFAULT).expect(name);
+        assert_eq!(
+            (made.text.as_str(), &made.order[..]),
+            (case.legend, case.order),
+            "{name}"
+        );
         assert_eq!(made.to_string(), case.legend, "{name}");
         let tray = tray::Tray::of(case.slips);
         for (cells, room) in [(32_000, letters), (32_100, letters + 9)] {
             let before = Lent::of(cells, room, &mut chance);
-            let (answer, after) = call(&tray, DEFAULT, &before);
-            assert_eq!(answer, answer_of(letters, case.order), "{name}");
+            let (told, after) = call(&tray, DEFAULT, &before);
+            assert_eq!(numbers(&told), Ok(told_of(letters, case.order)), "{name}");
             assert_eq!(&after.legend[..letters], case.legend.as_bytes(), "{name}");
             assert_eq!(after.legend[letters..], before.legend[letters..], "{name}");
         }
         if letters > 0 {
             let before = Lent::of(32_000, letters - 1, &mut chance);
-            let (answer, after) = call(&tray, DEFAULT, &before);
-            assert_eq!((answer, after.legend), (refused(8, letters), before.legend), "{name}");
+            let (told, after) = call(&tray, DEFAULT, &before);
+            assert_eq!(refused(&told), (8, letters as u32), "{name}");
+            assert_eq!(after.legend, before.legend, "{name}");
         }
     }
 }
@@ -45,7 +51,7 @@ fn die_groups() {
 #[test]
 fn the_longest_slips() {
     let case = longest();
-    let made = shortest_legend(&Tray::of(&case.slips)).expect("ten slips");
+    let made = shortest_legend(&Tray::of(&case.slips), DEFAULT).expect("ten slips");
     assert_eq!(made.text.as_bytes(), case.legend);
     assert_eq!(made.order, [10, 9, 8, 7, 6, 5, 4, 3, 2, 1]);
 }
@@ -56,8 +62,8 @@ fn turned_back() {
     for case in all_turned() {
         let name = case.name;
         let before = Lent::of(case.work, case.room, &mut chance);
-        let (answer, after) = call(&case.tray, DEFAULT, &before);
-        assert_eq!(answer, refused(case.number, case.detail), "{name}");
+        let (told, after) = call(&case.tray, DEFAULT, &before);
+        assert_eq!(numbers(&told), Err(refusal(case.number, case.detail)), "{name}");
         assert_eq!(after.legend, before.legend, "{name}");
         assert!(after.work == before.work || case.number > 7, "{name}");
     }
@@ -65,12 +71,12 @@ fn turned_back() {
 
 /// One tray, first in ample buffers, then in buffers of about the length that the legend needs.
 fn try_tray(chance: &mut Chance, tray: &tray::Tray, tally: &mut Tally) {
-    let answer = trial(tray, DEFAULT, &Lent::of(32_000, 2_000, chance));
-    tally.count(answer.number);
+    let told = trial(tray, DEFAULT, &Lent::of(32_000, 2_000, chance));
+    tally.count(&told);
     let cells = [32_000, 32_000, 32_007, 31_999][chance.below(4)];
-    let room = near(chance, answer.legend as usize);
-    let answer = trial(tray, DEFAULT, &Lent::of(cells, room, chance));
-    tally.count(answer.number);
+    let room = near(chance, told.unwrap_or_default().legend);
+    let told = trial(tray, DEFAULT, &Lent::of(cells, room, chance));
+    tally.count(&told);
 }
 
 #[test]
@@ -109,9 +115,9 @@ fn groups_of_8_to_12_kept_slips_agree() {
         if n % 4 == 0 {
             all = with_aside(&mut chance, all, 150);
         }
-        let answer = trial(&tray::Tray::of(&all), DEFAULT, &Lent::of(32_000, 2_000, &mut chance));
-        assert_eq!(answer.number, if kept > 10 { 20 } else { 0 });
-        tally.count(answer.number);
+        let told = trial(&tray::Tray::of(&all), DEFAULT, &Lent::of(32_000, 2_000, &mut chance));
+        assert_eq!(refused(&told), if kept > 10 { (20, 0) } else { (0, 0) });
+        tally.count(&told);
     }
     tally.assert_all_from(&[0, 20], 80);
 }
@@ -133,17 +139,18 @@ fn each_buffer_one_short() {
     for n in 0..400 {
         let sets = [FEW, FEW_AND_STOP][n % 2];
         let tray = tray::Tray::of(&die_group(&mut chance, sets, 7));
-        let (whole, _) = call(&tray, DEFAULT, &Lent::of(32_000, 2_000, &mut chance));
-        let letters = whole.legend as usize;
+        let (told, _) = call(&tray, DEFAULT, &Lent::of(32_000, 2_000, &mut chance));
+        let whole = numbers(&told);
+        let letters = told.expect("few kept slips").legend;
         let cases = [
             (32_000, letters, whole),
-            (31_999, letters, refused(7, 0)),
-            (32_000, letters - 1, refused(8, letters)),
-            (31_999, letters - 1, refused(7, 0)),
+            (31_999, letters, Err(refusal(7, 0))),
+            (32_000, letters - 1, Err(refusal(8, letters))),
+            (31_999, letters - 1, Err(refusal(7, 0))),
         ];
         for (cells, room, wanted) in cases {
-            let answer = trial(&tray, DEFAULT, &Lent::of(cells, room, &mut chance));
-            assert_eq!(answer, wanted, "{cells} cells, room for {room} letters");
+            let told = trial(&tray, DEFAULT, &Lent::of(cells, room, &mut chance));
+            assert_eq!(numbers(&told), wanted, "{cells} cells, room for {room} letters");
         }
     }
 }
@@ -158,14 +165,14 @@ fn owned_trays_agree() {
             1 => tray::Tray::of(&valid(&mut chance, 40, MAX_SLIP)),
             _ => tray::Tray::of(&die_group(&mut chance, FEW, 10)),
         };
-        let (answer, after) = call(&tray, DEFAULT, &Lent::of(32_000, 2_000, &mut chance));
-        tally.count(answer.number);
-        match shortest_legend(&Tray::from_parts(tray.letters, tray.ends)) {
-            Err(refusal) => assert_eq!(Some(refusal), answer.refusal()),
+        let (told, after) = call(&tray, DEFAULT, &Lent::of(32_000, 2_000, &mut chance));
+        tally.count(&told);
+        match shortest_legend(&Tray::from_parts(tray.letters, tray.ends), DEFAULT) {
+            Err(refusal) => assert_eq!(told, Err(refusal)),
             Ok(made) => {
-                assert_eq!(answer.number, 0);
-                assert_eq!(made.text.as_bytes(), &after.legend[..answer.legend as usize]);
-                assert_eq!(made.order, answer.order[..answer.count as usize]);
+                let told = told.expect("the comfortable form accepts it");
+                assert_eq!(made.text.as_bytes(), &after.legend[..told.legend]);
+                assert_eq!(made.order, told.order[..told.count]);
             }
         }
     }
@@ -181,14 +188,14 @@ fn no_text_is_shorter() {
         let signs = [&b"ABC"[..], b"AB", b"..AB"][n % 3];
         let (text, all) = stretches(&mut chance, signs, [3, 6, 10][n / 3 % 3]);
         let tray = Tray::of(&all);
-        let made = shortest_legend(&tray).expect("at most ten slips");
+        let made = shortest_legend(&tray, DEFAULT).expect("at most ten slips");
         let letters = made.text.len();
         let held = |slip: &Vec<u8>| made.text.as_bytes().windows(slip.len()).any(|part| part == slip);
         assert!(all.iter().all(held));
-        let composed = compose_tray(&tray).expect("an accepted tray").text.len();
+        let composed = compose_tray(&tray, DEFAULT).expect("an accepted tray").text.len();
         assert!(letters <= composed);
         shorter += usize::from(letters < composed);
-        let mut kept = made.order.iter().map(|&slip| &all[usize::from(slip) - 1]);
+        let mut kept = made.order.iter().map(|&slip| &all[slip - 1]);
         if kept.any(|slip| slip[0] == b'.') {
             beaten += usize::from(letters > text.len());
         } else {
@@ -239,12 +246,13 @@ fn other_orders_of_ten_kept_slips() {
         let sets = [FEW, FEW_AND_STOP][n % 2];
         let tray = tray::Tray::of(&just_kept(&mut chance, sets, 10));
         let slips = tray.slips();
-        let (answer, after) = call(&tray, DEFAULT, &Lent::of(32_000, 2_000, &mut chance));
-        let order: Vec<usize> = answer.order.iter().map(|&slip| slip.into()).collect();
+        let (told, after) = call(&tray, DEFAULT, &Lent::of(32_000, 2_000, &mut chance));
+        let told = told.expect("ten kept slips");
+        let order = told.order.to_vec();
         let mut ascending = order.clone();
         ascending.sort_unstable();
-        assert_eq!((answer.number, ascending), (0, kept_slips(&slips)));
-        let best = (answer.legend as usize, &order);
+        assert_eq!(ascending, kept_slips(&slips));
+        let best = (told.legend, &order);
         assert_eq!(after.legend[..best.0], order_legend(&slips, ONE_LETTER, &order));
         for other in others(&mut chance, &order) {
             let letters = order_legend(&slips, ONE_LETTER, &other).len();
@@ -259,11 +267,7 @@ fn other_orders_of_ten_kept_slips() {
 #[test]
 fn refused_by_20() {
     let slips: Vec<[u8; 1]> = (b'A'..=b'K').map(|letter| [letter]).collect();
-    let refusal = shortest_legend(&Tray::of(&slips)).unwrap_err();
-    assert_eq!(refusal, Refusal { number: 20, detail: 0 });
-    assert_eq!(refusal.to_string(), "the tray has over 10 kept slips");
-    assert_eq!(
-        shortest_legend(&Tray::of(&slips[1..])).expect("ten slips").text,
-        "BCDEFGHIJK"
-    );
+    assert_eq!(refused(&shortest_legend(&Tray::of(&slips), DEFAULT)), (20, 0));
+    let ten = shortest_legend(&Tray::of(&slips[1..]), DEFAULT);
+    assert_eq!(ten.expect("ten slips").text, "BCDEFGHIJK");
 }

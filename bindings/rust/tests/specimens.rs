@@ -1,26 +1,24 @@
 //! The specimen trays of document 01, as tables of named cases.
 mod buffers;
+mod told;
 
-use buffers::{join, place, trial, Buffers, AMPLE};
-use kotsghane::{compose_tray, Join, Place, Refusal, Settings, Tray, MAX_SLIP};
+use buffers::{trial, Buffers, AMPLE};
+use kotsghane::{compose_tray, Join, Place, Settings, Tray};
 use plain::by_hand::{COMPOSE, SPECIMENS};
 use plain::compose::Rooms;
 use plain::made::Chance;
 use plain::tray;
+use told::refused;
 
 /// No overlap is too short.
 const DEFAULT: Settings = Settings::least(1);
 
 fn record(&(left, right, overlap): &(usize, usize, usize)) -> Join {
-    join(&plain::compose::Join { left, right, overlap })
+    Join::new(left, right, overlap)
 }
 
 fn standing(&(at, mark, compared): &(usize, char, usize)) -> Place {
-    place(&plain::compose::Place {
-        place: at,
-        kept: mark == 'K',
-        compared,
-    })
+    Place::new(at, mark == 'K', compared)
 }
 
 #[test]
@@ -28,7 +26,7 @@ fn specimen_trays() {
     let mut chance = Chance::new(7);
     for case in SPECIMENS {
         let name = case.name;
-        let legend = compose_tray(&Tray::of(case.slips)).expect(name);
+        let legend = compose_tray(&Tray::of(case.slips), DEFAULT).expect(name);
         let joins: Vec<Join> = case.joins.iter().map(record).collect();
         let places: Vec<Place> = case.places.iter().map(standing).collect();
         assert_eq!(legend.text, case.legend, "{name}");
@@ -36,13 +34,14 @@ fn specimen_trays() {
         assert_eq!(legend.places, places, "{name}");
         assert_eq!(legend.kept, places.iter().filter(|p| p.is_kept()).count(), "{name}");
         assert_eq!(legend.kept_letters, legend.saved + case.legend.len(), "{name}");
-        trial(&tray::Tray::of(case.slips), DEFAULT, &Buffers::of(AMPLE, &mut chance));
+        let (told, _) = trial(&tray::Tray::of(case.slips), DEFAULT, &Buffers::of(AMPLE, &mut chance));
+        assert_eq!(refused(&told), (0, 0), "{name}");
     }
 }
 
 #[test]
 fn counts_of_the_compose_tray() {
-    let legend = compose_tray(&Tray::of(COMPOSE.slips)).unwrap();
+    let legend = compose_tray(&Tray::of(COMPOSE.slips), DEFAULT).unwrap();
     assert_eq!((legend.places.len(), legend.kept), (5, 4));
     assert_eq!((legend.kept_letters, legend.saved, legend.text.len()), (24, 9, 15));
     assert_eq!(legend.to_string(), COMPOSE.legend);
@@ -94,8 +93,8 @@ fn buffers_of_the_compose_tray() {
             places,
         };
         let before = Buffers::of(rooms, &mut chance);
-        let (answer, after) = trial(&tray, DEFAULT, &before);
-        assert_eq!((answer.number, answer.detail), (case.number, case.detail), "{name}");
+        let (told, after) = trial(&tray, DEFAULT, &before);
+        assert_eq!(refused(&told), (case.number, case.detail), "{name}");
         let mut expected = before.clone();
         if case.number == 0 {
             expected.legend[..15].copy_from_slice(COMPOSE.legend.as_bytes());
@@ -133,40 +132,29 @@ fn tens(n: u16) -> Vec<u16> {
     (1..=n).map(|i| 10 * i).collect()
 }
 
-/// The ends of so many letters in as few slips as the limit allows.
-fn fewest(letters: u16) -> Vec<u16> {
-    let ends = |end: &u16| *end % MAX_SLIP as u16 == 0 || *end == letters;
-    (1..=letters).filter(ends).collect()
+/// 62 slips of 32 letters, and one more that ends there.
+fn longest(last: u16) -> Vec<u16> {
+    (1..=62).map(|i| 32 * i).chain([last]).collect()
 }
 
-fn edges() -> Vec<Edge> {
-    let (many, longest) = ("ABCDEFGHI.".repeat(201), MAX_SLIP as u16);
+/// Rows 1 to 4, at the limit and past it.
+fn counted() -> Vec<Edge> {
+    let many = "ABCDEFGHI.".repeat(201);
     let ones: Vec<u16> = (1..=201).collect();
     vec![
         edge("200 slips", &many[..200], &ones[..200], 0, 0),
         edge("201 slips", &many[..201], &ones[..], 1, 0),
         edge("201 slips with equal ends", &many[..1], [1; 201], 1, 0),
         edge("200 slips and 2,000 letters", &many[..2_000], tens(200), 0, 0),
-        edge(
-            "2,000 letters in the longest slips",
-            &many[..2_000],
-            fewest(2_000),
-            0,
-            0,
-        ),
+        edge("2,000 letters in slips of 32", &many[..2_000], longest(2_000), 0, 0),
         edge("the first end is 0", "AB", [0, 2], 2, 1),
         edge("an end equals the one before", "AB", [1, 1, 2], 2, 2),
         edge("an end falls", "ABCD", [3, 2, 4], 2, 2),
         edge("2 before 3", &many[..60], [50, 50, 60], 2, 2),
-        edge("the longest slip", &many[..MAX_SLIP], [longest], 0, 0),
-        edge("one letter more", &many[..MAX_SLIP + 1], [longest + 1], 3, 1),
-        edge(
-            "one letter more in the second",
-            &many[..MAX_SLIP + 3],
-            [2, longest + 3],
-            3,
-            2,
-        ),
+        edge("a slip of 32 letters", &many[..32], [32], 0, 0),
+        edge("a slip of 33 letters", &many[..33], [33], 3, 1),
+        edge("32 letters in the second slip", &many[..34], [2, 34], 0, 0),
+        edge("33 letters in the second slip", &many[..35], [2, 35], 3, 2),
         edge("3 before 4", &many[..2_001], [2_001], 3, 1),
         edge(
             "2,001 letters",
@@ -175,14 +163,14 @@ fn edges() -> Vec<Edge> {
             4,
             0,
         ),
-        edge(
-            "2,001 letters in the longest slips",
-            &many[..2_001],
-            fewest(2_001),
-            4,
-            0,
-        ),
+        edge("2,001 letters in slips of 32", &many[..2_001], longest(2_001), 4, 0),
         edge("4 before 5", &many[..2_001], tens(200), 4, 0),
+    ]
+}
+
+/// Rows 5 and 6.
+fn spelled() -> Vec<Edge> {
+    vec![
         edge("letters and no slip", "A", [], 5, 0),
         edge("an end and no letters", "", [1], 5, 0),
         edge("the last end is low", "ABC", [1, 2], 5, 0),
@@ -203,25 +191,17 @@ fn edges() -> Vec<Edge> {
 #[test]
 fn edge_trays() {
     let mut chance = Chance::new(9);
-    for case in edges() {
+    for case in counted().into_iter().chain(spelled()) {
         let name = case.name;
         let before = Buffers::of(AMPLE, &mut chance);
-        let (answer, _) = trial(&case.tray, DEFAULT, &before);
-        assert_eq!((answer.number, answer.detail), (case.number, case.detail), "{name}");
+        let (told, _) = trial(&case.tray, DEFAULT, &before);
+        assert_eq!(refused(&told), (case.number, case.detail), "{name}");
+        let mine = Tray::from_parts(case.tray.letters.clone(), case.tray.ends.clone());
+        assert_eq!(refused(&mine.check()), (case.number, case.detail), "{name}");
         let short = Buffers::of(Rooms { work: 31_999, ..AMPLE }, &mut chance);
-        let (answer, _) = trial(&case.tray, DEFAULT, &short);
+        let (told, after) = trial(&case.tray, DEFAULT, &short);
         let expected = if case.number == 0 { 7 } else { case.number };
-        assert_eq!(answer.number, expected, "{name}, work area of 31,999");
-    }
-}
-
-#[test]
-fn every_refusal_has_its_own_text() {
-    let text = |number| Refusal { number, detail: 77 }.to_string();
-    let texts: Vec<String> = (1..=21).map(text).collect();
-    let with_detail = [2, 3, 6, 8, 9, 10, 11, 13, 14, 17, 18, 19];
-    for (i, text) in texts.iter().enumerate() {
-        assert_eq!(text.contains("77"), with_detail.contains(&(i + 1)), "{text}");
-        assert!(!texts[..i].contains(text), "{text}");
+        assert_eq!(refused(&told).0, expected, "{name}, work area of 31,999");
+        assert!(after == short, "{name}, work area of 31,999: a lent buffer differs");
     }
 }

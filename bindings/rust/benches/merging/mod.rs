@@ -1,6 +1,6 @@
 //! Times the merge of two trays beside the plain program's, and beside composing the outcome.
 use crate::{clock, Buffers, Family, CALLS, TRAYS};
-use kotsghane::{merge_trays, Tray, Written, MAX_LETTERS, MAX_SLIPS};
+use kotsghane::{merge_trays, Refusal, Tray, Written, MAX_LETTERS, MAX_SLIPS};
 use plain::made::full::{common_beginning, different};
 use plain::made::{Chance, Shape, Slips};
 use plain::merge;
@@ -62,7 +62,7 @@ impl Lent {
         }
     }
 
-    fn merge(&mut self, trays: &[Tray; 2]) -> Written {
+    fn merge(&mut self, trays: &[Tray; 2]) -> Result<Written, Refusal> {
         merge_trays(&trays[0], &trays[1], &mut self.letters, &mut self.ends)
     }
 }
@@ -86,12 +86,13 @@ fn compare(both: [Slips; 2]) -> Merging {
     let plain = both.map(|all| tray::Tray::of(&all));
     let ours = plain.clone().map(|x| Tray::from_parts(x.letters, x.ends));
     let (mut lent, outcome) = (Lent::new(), plain_merge(&plain));
-    let written = lent.merge(&ours);
-    lent.letters.truncate(written.letters as usize);
-    lent.ends.truncate(written.slips as usize);
-    match &outcome {
-        Some(tray) => assert!(lent.letters == tray.letters && lent.ends == tray.ends),
-        None => assert_eq!(written.number, 1),
+    match (lent.merge(&ours), &outcome) {
+        (Ok(written), Some(tray)) => {
+            assert_eq!(lent.letters[..written.letters], tray.letters);
+            assert_eq!(lent.ends[..written.slips], tray.ends);
+        }
+        (told, None) => assert_eq!(told.map_err(|refusal| refusal.number()), Err(1)),
+        (told, Some(_)) => panic!("the plain program merges them: {told:?}"),
     }
     Merging {
         plain,

@@ -1,5 +1,6 @@
 //! Lent buffers, and one trial: the library and the plain program on the same tray and the same state of buffers.
-use kotsghane::{compose, Composed, Join, Place, Settings};
+use crate::told::plainly;
+use kotsghane::{compose, Composed, Join, Place, Refusal, Settings};
 use plain::compose::{compose_tray, fault_before_c, Composition, Rooms};
 use plain::made::Chance;
 use plain::tray::Tray;
@@ -24,21 +25,13 @@ pub const AMPLE: Rooms = Rooms {
 impl Buffers {
     /// Buffers that hold anything.
     pub fn of(rooms: Rooms, chance: &mut Chance) -> Buffers {
-        let mut number = || chance.below(65_536) as u16;
-        let mut join = |_| Join {
-            left: number(),
-            right: number(),
-            overlap: number(),
-        };
+        let mut number = || chance.below(65_536);
+        let mut join = |_| Join::new(number(), number(), number());
         let joins = (0..rooms.joins).map(&mut join).collect();
-        let mut place = |_| Place {
-            place: number(),
-            kept: number(),
-            compared: number(),
-        };
+        let mut place = |_| Place::new(number(), number() % 2 == 0, number());
         let places = (0..rooms.places).map(&mut place).collect();
         Buffers {
-            work: (0..rooms.work).map(|_| number()).collect(),
+            work: (0..rooms.work).map(|_| number() as u16).collect(),
             legend: (0..rooms.legend).map(|_| number() as u8).collect(),
             joins,
             places,
@@ -69,57 +62,43 @@ impl Buffers {
 }
 
 pub fn join(from: &plain::compose::Join) -> Join {
-    Join {
-        left: from.left as u16,
-        right: from.right as u16,
-        overlap: from.overlap as u16,
-    }
+    Join::new(from.left, from.right, from.overlap)
 }
 
 pub fn place(from: &plain::compose::Place) -> Place {
-    Place {
-        place: from.place as u16,
-        kept: u16::from(from.kept),
-        compared: from.compared as u16,
-    }
+    Place::new(from.place, from.kept, from.compared)
 }
 
-/// The counts of what the plain program composed.
-pub fn counts(made: &Composition) -> Composed {
-    Composed {
-        slips: made.places.len() as u32,
-        kept: made.kept() as u32,
-        letters: made.kept_letters as u32,
-        saved: made.saved() as u32,
-        legend: made.legend.len() as u32,
-        joins: made.joins.len() as u32,
-        ..Composed::default()
-    }
+/// All counts.
+fn counts(told: Composed) -> [usize; 6] {
+    let letters = [told.kept_letters, told.saved, told.legend];
+    [told.slips, told.kept, letters[0], letters[1], letters[2], told.joins]
 }
 
-/// What is expected of a tray in these buffers: the answer, and what they hold afterwards but for the work area. A refusal
-/// leaves them as they were, and behind the outcome each is unchanged.
-fn expected(tray: &Tray, settings: Settings, before: &Buffers) -> (Composed, Buffers) {
+/// The same of what the plain program composed.
+fn plain_counts(made: &Composition) -> [usize; 6] {
+    let letters = [made.kept_letters, made.saved(), made.legend.len()];
+    let (slips, kept, joins) = (made.places.len(), made.kept(), made.joins.len());
+    [slips, kept, letters[0], letters[1], letters[2], joins]
+}
+
+/// What is expected of a tray in these buffers: the counts or the refusal, and what they hold afterwards but for the work
+/// area. A refusal leaves them as they were, and after the outcome each is unchanged.
+fn expected(tray: &Tray, settings: Settings, before: &Buffers) -> (Result<[usize; 6], plain::Refusal>, Buffers) {
     let mut after = before.clone();
-    let answer = match compose_tray(tray, settings.least as usize, before.rooms()) {
-        Ok(made) => {
-            after.write(&made);
-            counts(&made)
-        }
-        Err(refusal) => Composed {
-            number: refusal.number as u32,
-            detail: refusal.detail as u32,
-            ..Composed::default()
-        },
-    };
-    (answer, after)
+    let made = compose_tray(tray, settings.least, before.rooms());
+    let told = made.map(|made| {
+        after.write(&made);
+        plain_counts(&made)
+    });
+    (told, after)
 }
 
-/// One trial in the given buffers: the answer, and what the buffers hold afterwards. Checks that both are what the plain
+/// One trial in the given buffers: what is told, and what the buffers hold afterwards. Checks that both are what the plain
 /// program says; the work area is unchanged where the call is refused before place C.
-pub fn trial(tray: &Tray, settings: Settings, before: &Buffers) -> (Composed, Buffers) {
+pub fn trial(tray: &Tray, settings: Settings, before: &Buffers) -> (Result<Composed, Refusal>, Buffers) {
     let mut ours = before.clone();
-    let answer = compose(
+    let told = compose(
         &tray.letters,
         &tray.ends,
         settings,
@@ -129,12 +108,12 @@ pub fn trial(tray: &Tray, settings: Settings, before: &Buffers) -> (Composed, Bu
         &mut ours.places,
     );
     let (wanted, after) = expected(tray, settings, before);
-    assert_eq!(answer, wanted);
+    assert_eq!(told.map(counts).map_err(plainly), wanted);
     assert_eq!(ours.legend, after.legend);
     assert_eq!(ours.joins, after.joins);
     assert_eq!(ours.places, after.places);
     assert_eq!(ours.work.len(), before.work.len());
-    let before_c = fault_before_c(tray, settings.least as usize, before.work.len()).is_some();
+    let before_c = fault_before_c(tray, settings.least, before.work.len()).is_some();
     assert!(ours.work == before.work || !before_c);
-    (answer, ours)
+    (told, ours)
 }

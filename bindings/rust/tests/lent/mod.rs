@@ -1,8 +1,8 @@
 //! Letters and ends lent for a tray, and what is expected of a call that writes one into them.
-use kotsghane::Written;
+use crate::told::plainly;
+use kotsghane::{Refusal, Written};
 use plain::made::Chance;
 use plain::tray::Tray;
-use plain::Refusal;
 
 /// What is lent.
 #[derive(Clone, Debug, PartialEq, Eq)]
@@ -12,7 +12,7 @@ pub struct Lent {
 }
 
 impl Lent {
-    /// So many letters and ends, which hold anything.
+    /// This many letters and ends, which hold anything.
     pub fn of(chance: &mut Chance, letters: usize, ends: usize) -> Lent {
         Lent {
             letters: (0..letters).map(|_| chance.below(256) as u8).collect(),
@@ -20,23 +20,17 @@ impl Lent {
         }
     }
 
-    /// The answer where the plain program told this, and what is lent afterwards: the tray over the first part of each and
-    /// the rest unchanged, or all as it was.
-    pub fn expected(&self, told: &Result<Tray, Refusal>) -> (Written, Lent) {
-        let mut after = self.clone();
-        let mut answer = Written::default();
-        match told {
-            Ok(tray) => {
-                after.letters[..tray.letters.len()].copy_from_slice(&tray.letters);
-                after.ends[..tray.ends.len()].copy_from_slice(&tray.ends);
-                answer.letters = tray.letters.len() as u32;
-                answer.slips = tray.ends.len() as u32;
-            }
-            Err(plain) => {
-                answer.number = plain.number as u32;
-                answer.detail = plain.detail as u32;
-            }
+    /// Checks what a call told, and what is lent after it: the tray of the plain program over the first part of each and the
+    /// rest unchanged, or its refusal and all as it was.
+    pub fn assert_after(&self, told: Result<Written, Refusal>, after: &Lent, plain: &Result<Tray, plain::Refusal>) {
+        let mut wanted = self.clone();
+        if let Ok(tray) = plain {
+            wanted.letters[..tray.letters.len()].copy_from_slice(&tray.letters);
+            wanted.ends[..tray.ends.len()].copy_from_slice(&tray.ends);
         }
-        (answer, after)
+        let counts = told.map(|written| (written.letters, written.slips));
+        let expected = plain.as_ref().map(|tray| (tray.letters.len(), tray.ends.len()));
+        assert_eq!(counts.map_err(plainly), expected.map_err(|refusal| *refusal));
+        assert!(*after == wanted, "the buffers differ");
     }
 }

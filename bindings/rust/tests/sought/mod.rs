@@ -1,6 +1,7 @@
 //! What is lent for a shortest legend, and one trial: the library and the plain program on the same tray and the same state of
 //! buffers.
-use kotsghane::{shortest, Settings, Shortest, MAX_SHORTEST};
+use crate::told::plainly;
+use kotsghane::{shortest, Refusal, Settings, Shortest, MAX_SHORTEST};
 use plain::compose::fault_before_c;
 use plain::made::Chance;
 use plain::shortest::shortest_legend;
@@ -14,7 +15,7 @@ pub struct Lent {
 }
 
 impl Lent {
-    /// So many cells and letters, which hold anything.
+    /// This many cells and letters, which hold anything.
     pub fn of(cells: usize, letters: usize, chance: &mut Chance) -> Lent {
         let mut number = |n: usize| chance.below(n);
         Lent {
@@ -24,58 +25,49 @@ impl Lent {
     }
 }
 
-/// The answer to a legend of so many letters with this order.
-pub fn answer_of(letters: usize, order: &[usize]) -> Shortest {
+/// The letters of a legend, its kept slips counted, and their order, 0 past the count.
+pub type Told = (usize, usize, [usize; MAX_SHORTEST]);
+
+/// What is told of a legend of this many letters with this order.
+pub fn told_of(letters: usize, order: &[usize]) -> Told {
     let mut numbers = [0; MAX_SHORTEST];
-    numbers.iter_mut().zip(order).for_each(|(to, &slip)| *to = slip as u16);
-    Shortest {
-        legend: letters as u32,
-        count: order.len() as u32,
-        order: numbers,
-        ..Shortest::default()
-    }
+    numbers[..order.len()].copy_from_slice(order);
+    (letters, order.len(), numbers)
 }
 
-/// The answer that is refused, all else 0.
-pub fn refused(number: usize, detail: usize) -> Shortest {
-    Shortest {
-        number: number as u32,
-        detail: detail as u32,
-        ..Shortest::default()
-    }
+/// The numbers of what was told, or the refusal as the plain program has it.
+pub fn numbers(told: &Result<Shortest, Refusal>) -> Result<Told, plain::Refusal> {
+    told.map(|told| (told.legend, told.count, told.order)).map_err(plainly)
 }
 
-/// What is expected: the answer, and the legend's buffer afterwards. A refusal leaves it as it was, and behind the outcome
-/// it is unchanged.
-fn expected(tray: &Tray, settings: Settings, before: &Lent) -> (Shortest, Vec<u8>) {
+/// What is expected: the numbers or the refusal, and the legend's buffer afterwards. A refusal leaves it as it was, and after
+/// the outcome it is unchanged.
+fn expected(tray: &Tray, settings: Settings, before: &Lent) -> (Result<Told, plain::Refusal>, Vec<u8>) {
     let mut after = before.legend.clone();
-    let least = settings.least as usize;
-    let answer = match shortest_legend(tray, least, before.work.len(), before.legend.len()) {
-        Ok(made) => {
-            after[..made.legend.len()].copy_from_slice(&made.legend);
-            answer_of(made.legend.len(), &made.order)
-        }
-        Err(refusal) => refused(refusal.number, refusal.detail),
-    };
-    (answer, after)
+    let made = shortest_legend(tray, settings.least, before.work.len(), before.legend.len());
+    let told = made.map(|made| {
+        after[..made.legend.len()].copy_from_slice(&made.legend);
+        told_of(made.legend.len(), &made.order)
+    });
+    (told, after)
 }
 
-/// The call in the given buffers: the answer, and what the buffers hold afterwards. Checks that the work area has as many
+/// The call in the given buffers: what is told, and what the buffers hold afterwards. Checks that the work area has as many
 /// cells as before, and the same where the call is refused before place C.
-pub fn call(tray: &Tray, settings: Settings, before: &Lent) -> (Shortest, Lent) {
+pub fn call(tray: &Tray, settings: Settings, before: &Lent) -> (Result<Shortest, Refusal>, Lent) {
     let mut ours = before.clone();
-    let answer = shortest(&tray.letters, &tray.ends, settings, &mut ours.work, &mut ours.legend);
+    let told = shortest(&tray.letters, &tray.ends, settings, &mut ours.work, &mut ours.legend);
     assert_eq!(ours.work.len(), before.work.len());
-    let before_c = fault_before_c(tray, settings.least as usize, before.work.len()).is_some();
+    let before_c = fault_before_c(tray, settings.least, before.work.len()).is_some();
     assert!(ours.work == before.work || !before_c);
-    (answer, ours)
+    (told, ours)
 }
 
 /// The same, compared with what the plain program says.
-pub fn trial(tray: &Tray, settings: Settings, before: &Lent) -> Shortest {
-    let (answer, ours) = call(tray, settings, before);
+pub fn trial(tray: &Tray, settings: Settings, before: &Lent) -> Result<Shortest, Refusal> {
+    let (told, ours) = call(tray, settings, before);
     let (wanted, after) = expected(tray, settings, before);
-    assert_eq!(answer, wanted);
+    assert_eq!(numbers(&told), wanted);
     assert_eq!(ours.legend, after);
-    answer
+    told
 }

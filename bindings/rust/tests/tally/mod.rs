@@ -1,11 +1,13 @@
 //! How often each refusal was met.
+use kotsghane::Refusal;
 
 /// By number; 0 for none.
 #[derive(Default)]
 pub struct Tally([usize; 22]);
 
 impl Tally {
-    pub fn count(&mut self, number: u32) {
+    pub fn count<T>(&mut self, told: &Result<T, Refusal>) {
+        let number = told.as_ref().err().map_or(0, Refusal::number);
         self.0[number as usize] += 1;
     }
 

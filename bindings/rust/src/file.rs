@@ -1,0 +1,59 @@
+//! Tray files.
+use crate::{sys, Refusal, Tray, Written, FILE_ENDS, MAX_FILE};
+
+/// Reads a tray file into lent letters and ends. [`Tray::read`] does the same and makes the buffers itself.
+///
+/// A line of the file has the slip number in columns 1 to 4, the length in columns 5 to 8, a blank, the letters, and LF, on
+/// the last line too. Numbers are right-justified, without leading zeros. An empty file is the empty tray.
+///
+/// Letters are filed as the die has them: small letters as capitals, then U as V and J as I. A byte that is no letter then is
+/// filed as 0. The tray that was read is not judged here: [`Tray::check`] and all other calls refuse such a byte
+/// (`BadSlipByte`). The tray is written to the first part of each buffer, and the rest is unchanged.
+///
+/// # Errors
+///
+/// In this order: [`TrayBuffersTooSmall`](crate::RefusalKind::TrayBuffersTooSmall), if fewer than [`MAX_FILE`] letters or
+/// [`FILE_ENDS`] ends are lent; [`FileTooLong`](crate::RefusalKind::FileTooLong); and of the first bad line
+/// [`BadLine`](crate::RefusalKind::BadLine), [`WrongSlipNumber`](crate::RefusalKind::WrongSlipNumber) or
+/// [`WrongLength`](crate::RefusalKind::WrongLength). Both buffers then hold what they held.
+///
+/// ```
+/// use kotsghane::{read_tray, FILE_ENDS, MAX_FILE};
+///
+/// let (mut letters, mut ends) = (vec![0; MAX_FILE], vec![0; FILE_ENDS]);
+/// let written = read_tray(b"   1   3 avg\n   2   4 uj.7\n", &mut letters, &mut ends).unwrap();
+/// assert_eq!((written.letters, written.slips), (7, 2));
+/// assert_eq!((&letters[..7], &ends[..2]), (&b"AVGVI.\0"[..], &[3, 7][..]));
+/// ```
+pub fn read_tray(file: &[u8], letters: &mut [u8], ends: &mut [u16]) -> Result<Written, Refusal> {
+    sys::read_tray(file, letters, ends).map(Written::of)
+}
+
+impl Tray {
+    /// The tray of a tray file. Letters are filed as [`read_tray`] has it: small letters as capitals, U as V, J as I, and 0
+    /// for a byte that is no letter. The tray is not judged: [`Tray::check`] and all other calls do that.
+    ///
+    /// # Errors
+    ///
+    /// [`FileTooLong`](crate::RefusalKind::FileTooLong); or of the first bad line [`BadLine`](crate::RefusalKind::BadLine),
+    /// [`WrongSlipNumber`](crate::RefusalKind::WrongSlipNumber) or [`WrongLength`](crate::RefusalKind::WrongLength).
+    ///
+    /// ```
+    /// use kotsghane::{RefusalKind, Tray};
+    ///
+    /// assert_eq!(Tray::read("   1   3 AVG\n   2   3 AES\n"), Ok(Tray::of(&["AVG", "AES"])));
+    /// assert_eq!(Tray::read("   1   3 avg\n   2   2 uj\n"), Ok(Tray::of(&["AVG", "VI"])));
+    ///
+    /// let refusal = Tray::read("   1   3 AVG\n   3   3 AES\n").unwrap_err();
+    /// assert_eq!((refusal.kind(), refusal.detail()), (RefusalKind::WrongSlipNumber, 2));
+    ///
+    /// // A digit is read, and then refused by the tray check.
+    /// let tray = Tray::read("   1   3 avg\n   2   3 a3s\n").unwrap();
+    /// assert_eq!(tray.check().unwrap_err().kind(), RefusalKind::BadSlipByte);
+    /// ```
+    pub fn read(file: impl AsRef<[u8]>) -> Result<Tray, Refusal> {
+        let (mut letters, mut ends) = (vec![0; MAX_FILE], vec![0; FILE_ENDS]);
+        let written = read_tray(file.as_ref(), &mut letters, &mut ends)?;
+        Ok(written.tray(letters, ends))
+    }
+}
