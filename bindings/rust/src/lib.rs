@@ -78,6 +78,7 @@ mod records;
 mod refusal;
 mod settings;
 mod shortest;
+mod slips;
 #[allow(unsafe_code)]
 mod sys;
 mod tray;
@@ -98,5 +99,6 @@ pub use records::{Found, Join, Place};
 pub use refusal::{Refusal, RefusalKind};
 pub use settings::Settings;
 pub use shortest::{shortest, shortest_legend, Shortest, ShortestLegend};
+pub use slips::Slips;
 pub use tray::Tray;
 pub use written::Written;

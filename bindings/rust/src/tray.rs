@@ -1,10 +1,23 @@
 //! Trays that own their letters: how they are made, and what is asked of one slip or of a pair.
-use crate::{sys, Refusal, RefusalKind, Settings, MAX_SLIP};
+use crate::{sys, Refusal, RefusalKind, Settings, Slips, MAX_SLIP};
 
 /// A tray: slips of letters, numbered from 1.
 ///
 /// Any slips can be put into a tray. [`Tray::check`] judges them, and so does every call that takes a tray. Letters stay as
 /// they are given, so a small letter is refused: only [`Tray::read`] turns it into a capital.
+///
+/// ```
+/// use kotsghane::Tray;
+///
+/// let mut tray = Tray::of(&["IMPCAES", "AES"]);
+/// tray.push("CAESAVG");
+/// tray.extend(["VGPIVS", "SIMP"]);
+/// assert_eq!(tray.len(), 5);
+/// assert_eq!(tray.slip(3), Ok(&b"CAESAVG"[..]));
+///
+/// let short: Tray = tray.slips().filter(|slip| slip.len() < 5).collect();
+/// assert_eq!(short, Tray::of(&["AES", "SIMP"]));
+/// ```
 #[derive(Clone, Debug, Default, PartialEq, Eq, Hash)]
 pub struct Tray {
     letters: Vec<u8>,
@@ -13,19 +26,9 @@ pub struct Tray {
 
 impl Tray {
     /// The tray of these slips.
-    ///
-    /// Ends have 16 bits. So only the first `MAX_SLIP + 1` letters of a slip that is too long are stored, and no end is above
-    /// `u16::MAX`, which it takes more than [`MAX_SLIPS`](crate::MAX_SLIPS) slips to reach. The tray is refused just as if all
-    /// its letters were stored.
     #[must_use]
     pub fn of<S: AsRef<[u8]>>(slips: &[S]) -> Tray {
-        let mut tray = Tray::default();
-        for slip in slips {
-            let slip = slip.as_ref();
-            tray.letters.extend_from_slice(&slip[..slip.len().min(MAX_SLIP + 1)]);
-            tray.ends.push(tray.letters.len().try_into().unwrap_or(u16::MAX));
-        }
-        tray
+        slips.iter().collect()
     }
 
     /// The tray of these letters and ends, which may be of any kind. Slip 1 runs from the start to `ends[0]`, slip i from
@@ -42,6 +45,21 @@ impl Tray {
         Tray { letters, ends }
     }
 
+    /// Adds a slip after the last one.
+    ///
+    /// Ends have 16 bits. So only the first `MAX_SLIP + 1` letters of a slip that is too long are stored, and no end is above
+    /// `u16::MAX`, which it takes more than [`MAX_SLIPS`](crate::MAX_SLIPS) slips to reach. A tray made of slips is refused
+    /// just as if all its letters were stored.
+    pub fn push(&mut self, slip: impl AsRef<[u8]>) {
+        let slip = slip.as_ref();
+        let stored = &slip[..slip.len().min(MAX_SLIP + 1)];
+        // Counted from the last end, not from the letters: if these differ, they still do, and the tray is still refused.
+        let last = self.ends.last().map_or(0, |&end| usize::from(end));
+        let end = (last + stored.len()).try_into().unwrap_or(u16::MAX);
+        self.letters.extend_from_slice(stored);
+        self.ends.push(end);
+    }
+
     /// The letters of all slips.
     #[must_use]
     pub fn letters(&self) -> &[u8] {
@@ -52,6 +70,34 @@ impl Tray {
     #[must_use]
     pub fn ends(&self) -> &[u16] {
         &self.ends
+    }
+
+    /// How many slips there are.
+    #[must_use]
+    pub fn len(&self) -> usize {
+        self.ends.len()
+    }
+
+    /// Whether there is no slip.
+    #[must_use]
+    pub fn is_empty(&self) -> bool {
+        self.ends.is_empty()
+    }
+
+    /// The letters of each slip, slip 1 first. Nothing is judged: where the ends of a slip do not rise, or lie past the
+    /// letters, the slip is empty.
+    ///
+    /// ```
+    /// use kotsghane::Tray;
+    ///
+    /// let tray = Tray::of(&["AVG", "CAESAVG"]);
+    /// for (number, slip) in (1..).zip(tray.slips()) {
+    ///     println!("{number} {}", String::from_utf8_lossy(slip));
+    /// }
+    /// assert!(tray.slips().rev().eq([&b"CAESAVG"[..], b"AVG"]));
+    /// ```
+    pub fn slips(&self) -> Slips<'_> {
+        Slips::new(self)
     }
 
     /// Judges the tray, as every call does that takes one. A tray without slips is accepted.
@@ -121,5 +167,30 @@ impl Tray {
     pub fn overlap(&self, left: usize, right: usize, settings: Settings) -> Result<usize, Refusal> {
         let [overlap] = sys::pair(&self.letters, &self.ends, left, right, settings)?;
         Ok(overlap)
+    }
+}
+
+impl<S: AsRef<[u8]>> Extend<S> for Tray {
+    /// Adds slips after the last one, as [`Tray::push`] does.
+    fn extend<I: IntoIterator<Item = S>>(&mut self, slips: I) {
+        slips.into_iter().for_each(|slip| self.push(slip));
+    }
+}
+
+impl<S: AsRef<[u8]>> FromIterator<S> for Tray {
+    /// The tray of these slips, stored as [`Tray::push`] has it.
+    fn from_iter<I: IntoIterator<Item = S>>(slips: I) -> Tray {
+        let mut tray = Tray::default();
+        tray.extend(slips);
+        tray
+    }
+}
+
+impl<'a> IntoIterator for &'a Tray {
+    type Item = &'a [u8];
+    type IntoIter = Slips<'a>;
+
+    fn into_iter(self) -> Slips<'a> {
+        self.slips()
     }
 }

@@ -1,0 +1,146 @@
+//! Trays as callers build and judge them, against the plain program.
+mod told;
+
+use kotsghane::{Tray, MAX_SLIP};
+use plain::made::damage::{damaged, stored, DAMAGES};
+use plain::made::stops::many_stops;
+use plain::made::typed::many_forms;
+use plain::made::{slips, valid, Chance, Slips, SHAPES};
+use plain::tray;
+use told::{plainly, refused};
+
+fn ours(tray: &tray::Tray) -> Tray {
+    Tray::from_parts(tray.letters.clone(), tray.ends.clone())
+}
+
+/// Slips of a valid tray, the n-th of many kinds. U and J are among the letters of many.
+fn any_slips(chance: &mut Chance, n: usize) -> Slips {
+    let most = [6, 40, 200][n % 3];
+    match n / 3 % 4 {
+        0 => valid(chance, most, MAX_SLIP),
+        1 => many_stops(chance, most, MAX_SLIP),
+        2 => many_forms(chance, most, MAX_SLIP),
+        _ => {
+            let signs = chance.signs(27);
+            slips(SHAPES[n % 5], chance, 200, 10, 10, &signs)
+        }
+    }
+}
+
+/// From both ends, by number, and through all that an iterator gives.
+#[test]
+fn slips_of_a_tray() {
+    let mut chance = Chance::new(92);
+    for n in 0..3_000 {
+        let all = any_slips(&mut chance, n);
+        let tray = Tray::of(&all);
+        assert_eq!((tray.len(), tray.is_empty()), (all.len(), false));
+        assert!(tray.slips().eq(all.iter()));
+        assert!(tray.slips().rev().eq(all.iter().rev()));
+        assert!((&tray).into_iter().eq(tray.slips()));
+        let mut left = tray.slips();
+        let (at, last) = (chance.below(all.len()), all.len() - 1);
+        assert_eq!(left.nth(at), Some(&all[at][..]));
+        assert_eq!(left.len(), last - at);
+        assert_eq!(left.next_back(), (at < last).then(|| &all[last][..]));
+        assert_eq!(left.clone().count(), left.len());
+        assert_eq!(tray.slip(at + 1), Ok(&all[at][..]));
+    }
+    let empty = Tray::default();
+    assert_eq!((empty.len(), empty.is_empty(), empty.slips().next()), (0, true, None));
+}
+
+/// Nothing is judged: a slip whose ends do not rise, or lie past the letters, is empty, and all others are stretches.
+#[test]
+fn slips_of_any_tray() {
+    let (mut chance, mut empty, mut whole) = (Chance::new(93), 0, 0);
+    for n in 0..4_000 {
+        let plain = damaged(&mut chance, DAMAGES[n % DAMAGES.len()], 30);
+        let tray = ours(&plain);
+        assert_eq!(tray.slips().len(), plain.ends.len());
+        let mut start = 0;
+        for (slip, &end) in tray.slips().zip(&plain.ends) {
+            let end = usize::from(end);
+            if start < end && end <= plain.letters.len() {
+                assert_eq!(slip, &plain.letters[start..end]);
+                whole += 1;
+            } else {
+                assert_eq!(slip, b"");
+                empty += 1;
+            }
+            start = end;
+        }
+        assert!(tray
+            .slips()
+            .rev()
+            .eq(tray.slips().collect::<Vec<_>>().into_iter().rev()));
+    }
+    assert!(empty > 5_000 && whole > 50_000, "{empty} empty, {whole} whole");
+}
+
+/// One by one, all at once, and some after others: the same tray. Slips that are too long or empty among them.
+#[test]
+fn trays_of_slips() {
+    let mut chance = Chance::new(94);
+    for n in 0..2_000 {
+        let mut all = match n % 2 {
+            0 => any_slips(&mut chance, n / 2),
+            _ => stored(&mut chance, 60),
+        };
+        if n % 5 == 0 {
+            all.push(vec![]);
+        }
+        let tray = Tray::of(&all);
+        let mut pushed = Tray::default();
+        all.iter().for_each(|slip| pushed.push(slip));
+        assert_eq!(pushed, tray);
+        assert_eq!(all.iter().collect::<Tray>(), tray);
+        assert_eq!(all.iter().map(|slip| &slip[..]).collect::<Tray>(), tray);
+        let (first, second) = all.split_at(chance.below(all.len()));
+        let mut extended = Tray::of(first);
+        extended.extend(second);
+        assert_eq!(extended, tray);
+        assert_eq!(refused(&tray.check()), fault(&all));
+        if all.iter().all(|slip| slip.len() <= MAX_SLIP) {
+            assert_eq!(tray, ours(&tray::Tray::of(&all)));
+        }
+    }
+}
+
+/// What the plain program refuses of a tray with all letters of these slips.
+fn fault(all: &Slips) -> (u32, u32) {
+    let fault = tray::Tray::of(all).fault();
+    fault.map_or((0, 0), |refusal| (refusal.number as u32, refusal.detail as u32))
+}
+
+/// A slip more does not hide that ends and letters do not belong together.
+#[test]
+fn slips_after_a_wrong_end() {
+    for (letters, ends) in [("ABC", &[1, 2][..]), ("ABC", &[1, 4]), ("A", &[]), ("", &[1])] {
+        let mut tray = Tray::from_parts(letters.into(), ends.to_vec());
+        assert_eq!(refused(&tray.check()), (5, 0), "{letters}");
+        for slip in ["D", "EF", "GHI"] {
+            tray.push(slip);
+            assert_eq!(refused(&tray.check()), (5, 0), "{letters}, and {slip}");
+        }
+    }
+}
+
+/// Rows 1 to 6, and nothing else, of valid and damaged trays, of the empty one, and of letters without a slip.
+#[test]
+fn checks_agree() {
+    let (mut chance, mut met) = (Chance::new(95), [0; 7]);
+    for n in 0..8_000 {
+        let plain = match n % 4 {
+            0 => tray::Tray::of(&any_slips(&mut chance, n / 4)),
+            _ => damaged(&mut chance, DAMAGES[n / 4 % DAMAGES.len()], [1, 12, 200][n % 3]),
+        };
+        let told = ours(&plain).check().map_err(plainly);
+        assert_eq!(told.err(), plain.fault());
+        met[told.err().map_or(0, |refusal| refusal.number)] += 1;
+    }
+    assert!(met.iter().all(|&count| count > 300), "{met:?}");
+    assert_eq!(Tray::default().check(), Ok(()));
+    let letters_alone = Tray::from_parts(b"A".to_vec(), vec![]);
+    assert_eq!(refused(&letters_alone.check()), (5, 0));
+}
