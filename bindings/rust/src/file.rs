@@ -1,5 +1,15 @@
-//! Tray files.
-use crate::{sys, Refusal, Tray, Written, FILE_ENDS, MAX_FILE};
+//! Tray files, read and written.
+use crate::{sys, Refusal, Tray, Written, FILE_ENDS, MAX_FILE, MAX_LETTERS, MAX_SLIP, MAX_SLIPS};
+
+/// The bytes of a line besides its letters: nine columns and LF.
+const LINE: usize = 10;
+
+/// The highest number in four columns.
+const FOUR_COLUMNS: usize = 9_999;
+
+// Every accepted tray fits in a file that is read again.
+const _: () = assert!(MAX_SLIPS * LINE + MAX_LETTERS <= MAX_FILE && MAX_SLIPS <= FILE_ENDS);
+const _: () = assert!(MAX_SLIPS <= FOUR_COLUMNS && MAX_SLIP <= FOUR_COLUMNS);
 
 /// Reads a tray file into lent letters and ends. [`Tray::read`] does the same and makes the buffers itself.
 ///
@@ -55,5 +65,33 @@ impl Tray {
         let (mut letters, mut ends) = (vec![0; MAX_FILE], vec![0; FILE_ENDS]);
         let written = read_tray(file.as_ref(), &mut letters, &mut ends)?;
         Ok(written.tray(letters, ends))
+    }
+
+    /// The tray file of an accepted tray. [`Tray::read`] reads it again, and gives the same tray except that U is V there and
+    /// J is I.
+    ///
+    /// # Errors
+    ///
+    /// What [`Tray::check`] refuses: `TooManySlips`, `EmptySlip`, `SlipTooLong`, `TooManyLetters`, `LastEndMismatch`,
+    /// `BadSlipByte`.
+    ///
+    /// ```
+    /// use kotsghane::Tray;
+    ///
+    /// let tray = Tray::of(&["IMPCAES", "AUG"]);
+    /// let file = tray.to_file().unwrap();
+    /// assert_eq!(file, b"   1   7 IMPCAES\n   2   3 AUG\n");
+    /// assert_eq!(Tray::read(file), Ok(Tray::of(&["IMPCAES", "AVG"])));
+    /// ```
+    pub fn to_file(&self) -> Result<Vec<u8>, Refusal> {
+        self.check()?;
+        let mut file = Vec::with_capacity(self.len() * LINE + self.letters().len());
+        for (slip, number) in self.slips().zip(1..) {
+            let columns: String = format!("{number:4}{:4} ", slip.len());
+            file.extend_from_slice(columns.as_bytes());
+            file.extend_from_slice(slip);
+            file.push(b'\n');
+        }
+        Ok(file)
     }
 }

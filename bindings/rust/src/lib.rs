@@ -42,6 +42,7 @@
 //! | [`find_slips`] | [`find`] | finds every occurrence of every slip in a text |
 //! | [`Tray::read`] | [`read_tray`] | reads a tray file |
 //! | [`Tray::merge`] | [`merge_trays`] | merges two trays |
+//! | [`Tray::to_file`] | | writes a tray file |
 //! | [`Tray::check`] | | judges a tray |
 //! | [`Tray::slip`] | | gives the letters of a slip |
 //! | [`Tray::overlap`] | | counts the letters that a pair shares |

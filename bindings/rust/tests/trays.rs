@@ -1,8 +1,9 @@
-//! Trays as callers build and judge them, against the plain program.
+//! Trays as callers build, judge and store them, against the plain program.
 mod told;
 
-use kotsghane::{Tray, MAX_SLIP};
+use kotsghane::{Tray, FILE_ENDS, MAX_FILE, MAX_SLIP};
 use plain::made::damage::{damaged, stored, DAMAGES};
+use plain::made::files::tray_file;
 use plain::made::stops::many_stops;
 use plain::made::typed::many_forms;
 use plain::made::{slips, valid, Chance, Slips, SHAPES};
@@ -143,4 +144,44 @@ fn checks_agree() {
     assert_eq!(Tray::default().check(), Ok(()));
     let letters_alone = Tray::from_parts(b"A".to_vec(), vec![]);
     assert_eq!(refused(&letters_alone.check()), (5, 0));
+}
+
+/// The file is the plain program's, and reading it gives the same tray with V for U and I for J. Every file has room.
+#[test]
+fn files_of_trays() {
+    let (mut chance, mut other, mut longest) = (Chance::new(96), 0, 0);
+    for n in 0..4_000 {
+        let all = any_slips(&mut chance, n);
+        let tray = Tray::of(&all);
+        let file = tray.to_file().expect("a valid tray");
+        assert!(file == tray_file(&all), "{all:?}");
+        assert!(file.len() <= MAX_FILE && tray.len() <= FILE_ENDS);
+        let on_the_die = |&letter: &u8| match letter {
+            b'U' => b'V',
+            b'J' => b'I',
+            same => same,
+        };
+        let letters: Vec<u8> = tray.letters().iter().map(on_the_die).collect();
+        let expected = Tray::from_parts(letters, tray.ends().to_vec());
+        assert_eq!(Tray::read(&file).as_ref(), Ok(&expected));
+        assert_eq!(expected.to_file().and_then(Tray::read).as_ref(), Ok(&expected));
+        other += usize::from(expected != tray);
+        longest = longest.max(file.len());
+    }
+    assert!(other > 1_000, "trays with U or J: {other}");
+    assert_eq!(longest, 4_000, "200 lines of ten letters");
+    assert_eq!(Tray::default().to_file(), Ok(vec![]));
+}
+
+/// What is not accepted is not written.
+#[test]
+fn files_of_damaged_trays() {
+    let (mut chance, mut met) = (Chance::new(97), [0; 7]);
+    for n in 0..4_000 {
+        let plain = damaged(&mut chance, DAMAGES[n % DAMAGES.len()], [12, 200][n % 2]);
+        let told = ours(&plain).to_file().map_err(plainly);
+        assert_eq!(told.as_ref().err(), plain.fault().as_ref());
+        met[told.err().map_or(0, |refusal| refusal.number)] += 1;
+    }
+    assert!(met[1..].iter().all(|&count| count > 300), "{met:?}");
 }
