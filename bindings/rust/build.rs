@@ -7,9 +7,10 @@ fn main() {
     let archive = folder.join("libkotsghane.a");
     println!("cargo:rerun-if-changed=build.rs");
     println!("cargo:rerun-if-changed={}", archive.display());
-    if !archive.exists() {
-        panic!("target/staticlib/libkotsghane.a is missing: run `rt staticlib kotsghane` at the repository's root");
-    }
+    assert!(
+        archive.exists(),
+        "target/staticlib/libkotsghane.a is missing: run `rt staticlib kotsghane` at the repository's root"
+    );
     println!("cargo:rustc-link-search=native={}", folder.display());
     println!("cargo:rustc-link-lib=static=kotsghane");
 }

@@ -88,6 +88,11 @@ mod written;
 #[doc = include_str!("../../../docs/REFUSALS.md")]
 pub mod refusals {}
 
+/// The example in the README is tested too.
+#[cfg(doctest)]
+#[doc = include_str!("../README.md")]
+mod readme {}
+
 pub use composing::{compose, compose_tray, Composed, Legend};
 pub use file::read_tray;
 pub use finding::{find, find_slips, Finding, Search};
