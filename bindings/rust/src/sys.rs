@@ -319,3 +319,32 @@ pub(crate) fn merge(
     }
     answer.told()
 }
+
+#[cfg(test)]
+mod tests {
+    use super::Answer;
+
+    fn answer(number: u32, counts: [u32; 2]) -> Answer<2> {
+        let detail = 7 * u32::from(number > 0);
+        Answer { number, detail, counts }
+    }
+
+    #[test]
+    fn counts_or_a_refusal() {
+        assert_eq!(answer(0, [3, 4]).told(), Ok([3, 4]));
+        let refusal = answer(21, [0, 0]).told().unwrap_err();
+        assert_eq!((refusal.number(), refusal.detail()), (21, 7));
+    }
+
+    #[test]
+    #[should_panic(expected = "are of different versions: refusal 22")]
+    fn a_number_that_the_table_does_not_have() {
+        let _ = answer(22, [0, 0]).told();
+    }
+
+    #[test]
+    #[should_panic(expected = "are of different versions: refusal 1")]
+    fn a_refusal_with_counts() {
+        let _ = answer(1, [1, 0]).told();
+    }
+}
