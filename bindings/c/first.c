@@ -11,7 +11,7 @@ static int refused(uint32_t number, uint32_t detail, kotsghane_tray tray) {
     const char *what = kotsghane_detail_text(number);
     printf("Refused: %s", kotsghane_refusal_text(number));
     if (what != NULL) printf(" (%s %lu)", what, (unsigned long)detail);
-    if (number == KOTSGHANE_REFUSED_BAD_BYTE_IN_SLIP) {
+    if (number == KOTSGHANE_REFUSED_BAD_SLIP_BYTE) {
         kotsghane_letters s = kotsghane_slip_letters(tray, detail);
         fputs(": ", stdout); /* what is no letter was filed as 0, and is printed as a question mark */
         for (size_t i = 0; i < s.letters_len; i++) putchar(s.letters[i] == 0 ? '?' : s.letters[i]);

@@ -50,28 +50,28 @@ enum {
 /* The number of a refusal says which condition holds. Where several do, one is reported: docs/REFUSALS.md has their order. The detail is 0 where none is named
  * here; a slip is the lowest at fault, a line or a place the first. */
 enum kotsghane_refusal {
-    KOTSGHANE_ACCEPTED = 0,                          /* not refused */
-    KOTSGHANE_REFUSED_TOO_MANY_SLIPS = 1,            /* the tray has more than KOTSGHANE_MAX_SLIPS slips */
-    KOTSGHANE_REFUSED_EMPTY_SLIP = 2,                /* a slip has no letters: its end is not above the one before it (0 before the first). Detail: the slip */
-    KOTSGHANE_REFUSED_SLIP_TOO_LONG = 3,             /* a slip has more than KOTSGHANE_MAX_SLIP letters. Detail: the slip */
-    KOTSGHANE_REFUSED_TOO_MANY_LETTERS = 4,          /* the tray has more than KOTSGHANE_MAX_LETTERS letters */
-    KOTSGHANE_REFUSED_LAST_END_MISMATCH = 5,         /* the last end, 0 if there is none, is not the count of letters */
-    KOTSGHANE_REFUSED_BAD_BYTE_IN_SLIP = 6,          /* a byte is neither A to Z nor the full stop. Detail: the slip */
-    KOTSGHANE_REFUSED_WORK_AREA_TOO_SMALL = 7,       /* fewer than KOTSGHANE_WORK cells are lent */
-    KOTSGHANE_REFUSED_LEGEND_BUFFER_TOO_SMALL = 8,   /* the legend is longer than its buffer. Detail: how many letters the legend has */
-    KOTSGHANE_REFUSED_JOINS_OR_PLACES_TOO_SMALL = 9, /* more joins, or more slips, than fit the lists lent. Detail: how many joins, perhaps 0 */
-    KOTSGHANE_REFUSED_NO_SUCH_SLIP = 10,             /* a slip number is 0 or above the count of slips. Detail: that number, perhaps 0 */
-    KOTSGHANE_REFUSED_SAME_SLIP_TWICE = 11,          /* a pair is one slip with itself. Detail: the slip */
-    KOTSGHANE_REFUSED_TEXT_TOO_LONG = 12,            /* the text has more than KOTSGHANE_MAX_TEXT bytes */
-    KOTSGHANE_REFUSED_BAD_BYTE_IN_TEXT = 13,         /* a byte is neither A to Z nor the full stop. Detail: its place, from 1 */
-    KOTSGHANE_REFUSED_FOUND_LIST_TOO_SMALL = 14,     /* more occurrences than their list takes. Detail: how many occurrences */
-    KOTSGHANE_REFUSED_TRAY_BUFFERS_TOO_SMALL = 15,   /* too few letters or ends are lent for a tray that is read or merged */
-    KOTSGHANE_REFUSED_FILE_TOO_LONG = 16,            /* the tray file has more than KOTSGHANE_MAX_FILE bytes */
-    KOTSGHANE_REFUSED_BAD_LINE = 17,                 /* a line is not laid out as kotsghane_read_tray says. Detail: the line, from 1 */
-    KOTSGHANE_REFUSED_WRONG_SLIP_NUMBER = 18,        /* the slip number on a line is not the number of the line. Detail: the line */
-    KOTSGHANE_REFUSED_WRONG_LENGTH = 19,             /* the length on a line is not the count of its letters. Detail: the line */
-    KOTSGHANE_REFUSED_TOO_MANY_KEPT = 20,            /* more than KOTSGHANE_MAX_SHORTEST slips are kept, and the shortest legend is sought */
-    KOTSGHANE_REFUSED_LEAST_OUT_OF_RANGE = 21        /* the least overlap is 0 or more than KOTSGHANE_MAX_LEAST */
+    KOTSGHANE_ACCEPTED = 0,                             /* not refused */
+    KOTSGHANE_REFUSED_TOO_MANY_SLIPS = 1,               /* the tray has more than KOTSGHANE_MAX_SLIPS slips */
+    KOTSGHANE_REFUSED_EMPTY_SLIP = 2,                   /* a slip has no letters: its end is not above the one before (0 before the first). Detail: slip */
+    KOTSGHANE_REFUSED_SLIP_TOO_LONG = 3,                /* a slip has more than KOTSGHANE_MAX_SLIP letters. Detail: the slip */
+    KOTSGHANE_REFUSED_TOO_MANY_LETTERS = 4,             /* the tray has more than KOTSGHANE_MAX_LETTERS letters */
+    KOTSGHANE_REFUSED_LAST_END_MISMATCH = 5,            /* the last end, 0 if there is none, is not the count of letters */
+    KOTSGHANE_REFUSED_BAD_SLIP_BYTE = 6,                /* a byte is neither A to Z nor the full stop. Detail: the slip */
+    KOTSGHANE_REFUSED_WORK_AREA_TOO_SMALL = 7,          /* fewer than KOTSGHANE_WORK cells are lent */
+    KOTSGHANE_REFUSED_LEGEND_BUFFER_TOO_SMALL = 8,      /* the legend is longer than its buffer. Detail: how many letters the legend has */
+    KOTSGHANE_REFUSED_JOIN_OR_PLACE_LIST_TOO_SMALL = 9, /* more joins, or more slips, than fit the lists lent. Detail: how many joins, perhaps 0 */
+    KOTSGHANE_REFUSED_NO_SUCH_SLIP = 10,                /* a slip number is 0 or above the count of slips. Detail: that number, perhaps 0 */
+    KOTSGHANE_REFUSED_SAME_SLIP_TWICE = 11,             /* a pair is one slip with itself. Detail: the slip */
+    KOTSGHANE_REFUSED_TEXT_TOO_LONG = 12,               /* the text has more than KOTSGHANE_MAX_TEXT bytes */
+    KOTSGHANE_REFUSED_BAD_TEXT_BYTE = 13,               /* a byte is neither A to Z nor the full stop. Detail: its place, from 1 */
+    KOTSGHANE_REFUSED_FOUND_LIST_TOO_SMALL = 14,        /* more occurrences than their list takes. Detail: how many occurrences */
+    KOTSGHANE_REFUSED_TRAY_BUFFERS_TOO_SMALL = 15,      /* too few letters or ends are lent for a tray that is read or merged */
+    KOTSGHANE_REFUSED_FILE_TOO_LONG = 16,               /* the tray file has more than KOTSGHANE_MAX_FILE bytes */
+    KOTSGHANE_REFUSED_BAD_LINE = 17,                    /* a line is not laid out as kotsghane_read_tray says. Detail: the line, from 1 */
+    KOTSGHANE_REFUSED_WRONG_SLIP_NUMBER = 18,           /* the slip number on a line is not the number of the line. Detail: the line */
+    KOTSGHANE_REFUSED_WRONG_LENGTH = 19,                /* the length on a line is not the count of its letters. Detail: the line */
+    KOTSGHANE_REFUSED_TOO_MANY_KEPT_SLIPS = 20,         /* more than KOTSGHANE_MAX_SHORTEST slips are kept, and the shortest legend is sought */
+    KOTSGHANE_REFUSED_LEAST_OVERLAP_OUT_OF_RANGE = 21   /* the least overlap is 0 or more than KOTSGHANE_MAX_LEAST */
 };
 
 /* How many numbers a record of each list has, and which. */

@@ -307,22 +307,22 @@ static inline const char *kotsghane_refusal_text(uint32_t number) {
     case KOTSGHANE_REFUSED_SLIP_TOO_LONG: return "a slip has too many letters";
     case KOTSGHANE_REFUSED_TOO_MANY_LETTERS: return "the tray has too many letters";
     case KOTSGHANE_REFUSED_LAST_END_MISMATCH: return "the last end is not the count of letters";
-    case KOTSGHANE_REFUSED_BAD_BYTE_IN_SLIP: return "a slip has a byte that is neither A to Z nor the full stop";
+    case KOTSGHANE_REFUSED_BAD_SLIP_BYTE: return "a slip has a byte that is neither A to Z nor the full stop";
     case KOTSGHANE_REFUSED_WORK_AREA_TOO_SMALL: return "the work area is too small";
     case KOTSGHANE_REFUSED_LEGEND_BUFFER_TOO_SMALL: return "the legend is longer than its buffer";
-    case KOTSGHANE_REFUSED_JOINS_OR_PLACES_TOO_SMALL: return "the list of joins or that of places is too small";
+    case KOTSGHANE_REFUSED_JOIN_OR_PLACE_LIST_TOO_SMALL: return "the list of joins or that of places is too small";
     case KOTSGHANE_REFUSED_NO_SUCH_SLIP: return "the tray has no slip with this number";
     case KOTSGHANE_REFUSED_SAME_SLIP_TWICE: return "the pair is one slip with itself";
     case KOTSGHANE_REFUSED_TEXT_TOO_LONG: return "the text is too long";
-    case KOTSGHANE_REFUSED_BAD_BYTE_IN_TEXT: return "the text has a byte that is neither A to Z nor the full stop";
+    case KOTSGHANE_REFUSED_BAD_TEXT_BYTE: return "the text has a byte that is neither A to Z nor the full stop";
     case KOTSGHANE_REFUSED_FOUND_LIST_TOO_SMALL: return "the list of occurrences is too small";
     case KOTSGHANE_REFUSED_TRAY_BUFFERS_TOO_SMALL: return "the letters or ends lent for a tray are too few";
     case KOTSGHANE_REFUSED_FILE_TOO_LONG: return "the tray file is too long";
     case KOTSGHANE_REFUSED_BAD_LINE: return "a line of the tray file is not laid out as it must be";
     case KOTSGHANE_REFUSED_WRONG_SLIP_NUMBER: return "the slip number on a line of the tray file is not the number of the line";
     case KOTSGHANE_REFUSED_WRONG_LENGTH: return "the length on a line of the tray file is not the count of its letters";
-    case KOTSGHANE_REFUSED_TOO_MANY_KEPT: return "too many slips are kept for the shortest legend to be sought";
-    case KOTSGHANE_REFUSED_LEAST_OUT_OF_RANGE: return "the least overlap is 0 or too large";
+    case KOTSGHANE_REFUSED_TOO_MANY_KEPT_SLIPS: return "too many slips are kept for the shortest legend to be sought";
+    case KOTSGHANE_REFUSED_LEAST_OVERLAP_OUT_OF_RANGE: return "the least overlap is 0 or too large";
     default: return "not the number of a refusal";
     }
 }
@@ -333,12 +333,12 @@ static inline const char *kotsghane_detail_text(uint32_t number) {
     switch (number) {
     case KOTSGHANE_REFUSED_EMPTY_SLIP:
     case KOTSGHANE_REFUSED_SLIP_TOO_LONG:
-    case KOTSGHANE_REFUSED_BAD_BYTE_IN_SLIP:
+    case KOTSGHANE_REFUSED_BAD_SLIP_BYTE:
     case KOTSGHANE_REFUSED_SAME_SLIP_TWICE: return "slip";
     case KOTSGHANE_REFUSED_LEGEND_BUFFER_TOO_SMALL: return "letters needed";
-    case KOTSGHANE_REFUSED_JOINS_OR_PLACES_TOO_SMALL: return "joins";
+    case KOTSGHANE_REFUSED_JOIN_OR_PLACE_LIST_TOO_SMALL: return "joins";
     case KOTSGHANE_REFUSED_NO_SUCH_SLIP: return "slip number";
-    case KOTSGHANE_REFUSED_BAD_BYTE_IN_TEXT: return "place";
+    case KOTSGHANE_REFUSED_BAD_TEXT_BYTE: return "place";
     case KOTSGHANE_REFUSED_FOUND_LIST_TOO_SMALL: return "occurrences";
     case KOTSGHANE_REFUSED_BAD_LINE:
     case KOTSGHANE_REFUSED_WRONG_SLIP_NUMBER:

@@ -110,3 +110,25 @@ fn the_rules_have_the_least_overlap() {
     assert_stands("docs/RULES.md", row);
     assert_stands("docs/REFUSALS.md", row);
 }
+
+/// The name in capitals, with underscores between the words.
+fn in_capitals(name: &str) -> String {
+    let parts = name.chars().flat_map(|c| {
+        c.is_uppercase()
+            .then_some('_')
+            .into_iter()
+            .chain([c.to_ascii_uppercase()])
+    });
+    parts.collect()
+}
+
+#[test]
+fn the_c_header_has_the_kinds_of_refusals() {
+    for kind in kotsghane::RefusalKind::ALL {
+        let name = in_capitals(&format!("{kind:?}"));
+        assert_stands(
+            "bindings/c/kotsghane.h",
+            &format!(" KOTSGHANE_REFUSED{name} = {}", kind.number()),
+        );
+    }
+}
