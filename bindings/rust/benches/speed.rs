@@ -127,7 +127,7 @@ fn compare(slips: &[Vec<u8>]) -> Timed {
     let places = outcome.places.iter().copied();
     assert!(places.eq(made.places.iter().map(|x| Place::new(x.place, x.kept, x.compared))));
     let refusal = Buffers::new().ours(&tray, 199).unwrap_err();
-    assert_eq!((refusal.number(), refusal.detail() as usize), (9, counts.joins));
+    assert_eq!((refusal.number(), refusal.detail()), (9, counts.joins));
     Timed {
         tray,
         counts,

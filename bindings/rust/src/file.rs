@@ -16,8 +16,8 @@ const _: () = assert!(MAX_SLIPS <= FOUR_COLUMNS && MAX_SLIP <= FOUR_COLUMNS);
 /// A line of the file has the slip number in columns 1 to 4, the length in columns 5 to 8, a blank, the letters, and LF, on
 /// the last line too. Numbers are right-justified, without leading zeros. An empty file is the empty tray.
 ///
-/// Letters are filed as the die has them: small letters as capitals, then U as V and J as I. A byte that is no letter then is
-/// filed as 0. The tray that was read is not judged here: [`Tray::check`] and all other calls refuse such a byte
+/// Letters are filed as the die has them: small letters as capitals, then U as V and J as I. Any other byte is filed as
+/// the byte 0. The tray that was read is not judged here: [`Tray::check`] and all other calls refuse such a byte
 /// (`BadSlipByte`). The tray is written to the first part of each buffer, and the rest is unchanged.
 ///
 /// # Errors
@@ -40,8 +40,11 @@ pub fn read_tray(file: &[u8], letters: &mut [u8], ends: &mut [u16]) -> Result<Wr
 }
 
 impl Tray {
-    /// The tray of a tray file. Letters are filed as [`read_tray`] has it: small letters as capitals, U as V, J as I, and 0
-    /// for a byte that is no letter. The tray is not judged: [`Tray::check`] and all other calls do that.
+    /// The tray of a tray file. A line has the slip number in columns 1 to 4, the length in columns 5 to 8, a blank, the
+    /// letters, and LF, on the last line too. Numbers are right-justified, without leading zeros; the length counts bytes.
+    ///
+    /// Letters are filed as [`read_tray`] has it: small letters as capitals, U as V, J as I. Any other byte is filed as the byte
+    /// 0, so the tray does not tell which it was. The tray is not judged: [`Tray::check`] and all other calls do that.
     ///
     /// # Errors
     ///

@@ -79,7 +79,7 @@ pub fn find_slips(tray: &Tray, text: impl AsRef<[u8]>) -> Result<Finding, Refusa
     let mut search = |found: &mut [Found]| find(tray.letters(), tray.ends(), text, &mut work, found);
     let told = match search(&mut found) {
         Err(refusal) if refusal.kind() == RefusalKind::FoundListTooSmall => {
-            found.resize(refusal.detail() as usize, Found::default());
+            found.resize(refusal.detail(), Found::default());
             search(&mut found)
         }
         told => told,

@@ -2,7 +2,8 @@
 //!
 //! Readings of one die, each a *slip* of letters and together a [`Tray`], are joined by their overlaps into one legend. A slip
 //! whose letters stand in a longer slip, or equal those of a slip with a lower number, is *set aside*; the others are *kept*.
-//! The rules are in docs/RULES.md of the repository.
+//! [`rules`] has all rules in words, with an example each. The crate links an archive for x86-64 that is built from the proved
+//! sources; README.md says how.
 //!
 //! # Composing a tray file
 //!
@@ -61,7 +62,7 @@
 //! Every call takes anything: any bytes, any ends, any lengths. What cannot be done is refused by a [`Refusal`], which has a
 //! [kind](RefusalKind) to match on, a detail (such as the slip at fault), and a sentence that says both. It is an
 //! [`Error`](std::error::Error), so `?` hands it on. [`refusals`] has the table of all refusals, with what to do about each. No
-//! call panics, unless the crate is linked with an archive of another version.
+//! call panics, unless the crate is linked with an archive of another version than its own.
 //!
 //! # Lent buffers
 //!
@@ -85,8 +86,14 @@ mod sys;
 mod tray;
 mod written;
 
+/// [`RefusalKind`] has a name for each number.
 #[doc = include_str!("../../../docs/REFUSALS.md")]
 pub mod refusals {}
+
+// Its layouts of files and sheets are no Rust, so they are not tested as such.
+#[cfg_attr(not(doctest), doc = include_str!("../../../docs/RULES.md"))]
+#[cfg_attr(doctest, doc = "The rules.")]
+pub mod rules {}
 
 /// The example in the README is tested too.
 #[cfg(doctest)]

@@ -81,7 +81,8 @@ impl Place {
         }
     }
 
-    /// The place of its first letter in the legend, from 1.
+    /// The place of its first letter in the legend, from 1: where a kept slip was laid, or the first place at which the letters
+    /// of one set aside stand.
     #[must_use]
     pub const fn place(&self) -> usize {
         self.place as usize

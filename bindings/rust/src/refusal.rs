@@ -113,7 +113,7 @@ impl RefusalKind {
 ///
 /// let advice = match refusal.kind() {
 ///     RefusalKind::TooManySlips | RefusalKind::TooManyLetters => "split the tray".to_string(),
-///     RefusalKind::BadSlipByte => format!("read slip {} again", refusal.detail()),
+///     RefusalKind::BadSlipByte => format!("read slip {} again", refusal.detail()), // `Tray::slips` has its letters
 ///     _ => refusal.to_string(),
 /// };
 /// assert_eq!(advice, "read slip 2 again");
@@ -121,12 +121,12 @@ impl RefusalKind {
 #[derive(Clone, Copy, Debug, PartialEq, Eq, Hash)]
 pub struct Refusal {
     kind: RefusalKind,
-    detail: u32,
+    detail: usize,
 }
 
 impl Refusal {
     /// The refusal of this kind with this detail.
-    pub(crate) const fn new(kind: RefusalKind, detail: u32) -> Refusal {
+    pub(crate) const fn new(kind: RefusalKind, detail: usize) -> Refusal {
         Refusal { kind, detail }
     }
 
@@ -145,7 +145,7 @@ impl Refusal {
     /// A slip, a place in the text, a line of the tray file or a count, as the documentation of the [kind](RefusalKind) says;
     /// 0 if it names no detail. A slip is the lowest at fault, a place or a line the first.
     #[must_use]
-    pub const fn detail(&self) -> u32 {
+    pub const fn detail(&self) -> usize {
         self.detail
     }
 }
@@ -156,7 +156,7 @@ impl fmt::Display for Refusal {
         let d = self.detail;
         match self.kind {
             Kind::TooManySlips => write!(f, "the tray has over {MAX_SLIPS} slips"),
-            Kind::EmptySlip => write!(f, "slip {d} has no letters: its end is not above the one before"),
+            Kind::EmptySlip => write!(f, "slip {d} has no letters"),
             Kind::SlipTooLong => write!(f, "slip {d} has over {MAX_SLIP} letters"),
             Kind::TooManyLetters => write!(f, "the tray has over {MAX_LETTERS} letters"),
             Kind::LastEndMismatch => write!(f, "the last end is not the count of letters"),

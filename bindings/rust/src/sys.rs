@@ -48,7 +48,7 @@ impl<const N: usize> Answer<N> {
             return Ok(self.counts.map(|count| count as usize));
         }
         match RefusalKind::from_number(self.number) {
-            Some(kind) if self.counts == [0; N] => Err(Refusal::new(kind, self.detail)),
+            Some(kind) if self.counts == [0; N] => Err(Refusal::new(kind, self.detail as usize)),
             _ => panic!(
                 "libkotsghane.a and the crate kotsghane are of different versions: refusal {}, counts {:?}",
                 self.number, self.counts

@@ -92,7 +92,7 @@ impl Tray {
     ///
     /// let tray = Tray::of(&["AVG", "CAESAVG"]);
     /// for (number, slip) in (1..).zip(tray.slips()) {
-    ///     println!("{number} {}", String::from_utf8_lossy(slip));
+    ///     println!("{number} {}", slip.escape_ascii());
     /// }
     /// assert!(tray.slips().rev().eq([&b"CAESAVG"[..], b"AVG"]));
     /// ```
@@ -125,7 +125,8 @@ impl Tray {
         }
     }
 
-    /// The letters of one slip, numbered from 1. A number above `u32::MAX` is taken as `u32::MAX`, which no tray has.
+    /// The letters of one slip, numbered from 1. The whole tray is judged first: of one that is refused, [`Tray::slips`] still
+    /// has the letters. A number above `u32::MAX` is taken as `u32::MAX`, which no tray has.
     ///
     /// # Errors
     ///

@@ -73,7 +73,7 @@ fn pairs_by_hand() {
     for case in PAIRS {
         let (left, right) = case.numbers;
         let told = Tray::of(case.slips).overlap(left, right, Settings::least(case.least));
-        let told = told.map_err(|refusal| (refusal.number() as usize, refusal.detail() as usize));
+        let told = told.map_err(|refusal| (refusal.number() as usize, refusal.detail()));
         assert_eq!(told, case.told, "{:?} {:?} at {}", case.slips, case.numbers, case.least);
     }
 }

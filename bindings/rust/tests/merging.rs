@@ -48,7 +48,7 @@ fn trays_by_hand() {
             continue;
         }
         let owned = ours(&case.first).merge(&ours(&case.second));
-        let owned = owned.map_err(|x| (x.number() as usize, x.detail() as usize));
+        let owned = owned.map_err(|x| (x.number() as usize, x.detail()));
         assert_eq!(owned, expected, "{name}");
     }
 }

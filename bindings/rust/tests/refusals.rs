@@ -15,13 +15,13 @@ struct Row {
     kind: Kind,
     number: u32,
     /// 0 if the row names none.
-    detail: u32,
+    detail: usize,
     /// The limits that the sentence names.
     limits: &'static [usize],
     sentence: &'static str,
 }
 
-const fn row(kind: Kind, [number, detail]: [u32; 2], limits: &'static [usize], sentence: &'static str) -> Row {
+const fn row(kind: Kind, (number, detail): (u32, usize), limits: &'static [usize], sentence: &'static str) -> Row {
     Row {
         kind,
         number,
@@ -34,28 +34,28 @@ const fn row(kind: Kind, [number, detail]: [u32; 2], limits: &'static [usize], s
 /// What [`told`] tells of each kind.
 #[rustfmt::skip]
 const ROWS: [Row; 21] = [
-    row(Kind::TooManySlips, [1, 0], &[MAX_SLIPS], "the tray has over 200 slips"),
-    row(Kind::EmptySlip, [2, 2], &[], "slip 2 has no letters: its end is not above the one before"),
-    row(Kind::SlipTooLong, [3, 2], &[MAX_SLIP], "slip 2 has over 32 letters"),
-    row(Kind::TooManyLetters, [4, 0], &[MAX_LETTERS], "the tray has over 2000 letters"),
-    row(Kind::LastEndMismatch, [5, 0], &[], "the last end is not the count of letters"),
-    row(Kind::BadSlipByte, [6, 2], &[], "slip 2 has a byte that is neither a capital A to Z nor a full stop"),
-    row(Kind::WorkAreaTooSmall, [7, 0], &[WORK_CELLS], "the work area has under 32000 cells"),
-    row(Kind::LegendBufferTooSmall, [8, 15], &[], "the legend has 15 letters, more than its buffer takes"),
-    row(Kind::JoinOrPlaceListTooSmall, [9, 3], &[], "the lists are too short for 3 joins and one place a slip"),
-    row(Kind::NoSuchSlip, [10, 77], &[], "the tray has no slip 77"),
-    row(Kind::SameSlipTwice, [11, 3], &[], "the pair names slip 3 twice"),
-    row(Kind::TextTooLong, [12, 0], &[MAX_TEXT], "the text has over 2000 bytes"),
-    row(Kind::BadTextByte, [13, 4], &[], "place 4 of the text is neither a capital A to Z nor a full stop"),
-    row(Kind::FoundListTooSmall, [14, 3], &[], "there are 3 occurrences, more than their list takes"),
-    row(Kind::TrayBuffersTooSmall, [15, 0], &[MAX_FILE, FILE_ENDS, MAX_LETTERS, MAX_SLIPS],
+    row(Kind::TooManySlips, (1, 0), &[MAX_SLIPS], "the tray has over 200 slips"),
+    row(Kind::EmptySlip, (2, 2), &[], "slip 2 has no letters"),
+    row(Kind::SlipTooLong, (3, 2), &[MAX_SLIP], "slip 2 has over 32 letters"),
+    row(Kind::TooManyLetters, (4, 0), &[MAX_LETTERS], "the tray has over 2000 letters"),
+    row(Kind::LastEndMismatch, (5, 0), &[], "the last end is not the count of letters"),
+    row(Kind::BadSlipByte, (6, 2), &[], "slip 2 has a byte that is neither a capital A to Z nor a full stop"),
+    row(Kind::WorkAreaTooSmall, (7, 0), &[WORK_CELLS], "the work area has under 32000 cells"),
+    row(Kind::LegendBufferTooSmall, (8, 15), &[], "the legend has 15 letters, more than its buffer takes"),
+    row(Kind::JoinOrPlaceListTooSmall, (9, 3), &[], "the lists are too short for 3 joins and one place a slip"),
+    row(Kind::NoSuchSlip, (10, 77), &[], "the tray has no slip 77"),
+    row(Kind::SameSlipTwice, (11, 3), &[], "the pair names slip 3 twice"),
+    row(Kind::TextTooLong, (12, 0), &[MAX_TEXT], "the text has over 2000 bytes"),
+    row(Kind::BadTextByte, (13, 4), &[], "place 4 of the text is neither a capital A to Z nor a full stop"),
+    row(Kind::FoundListTooSmall, (14, 3), &[], "there are 3 occurrences, more than their list takes"),
+    row(Kind::TrayBuffersTooSmall, (15, 0), &[MAX_FILE, FILE_ENDS, MAX_LETTERS, MAX_SLIPS],
         "fewer letters or ends are lent than 16384 and 1700 for a tray file, or 2000 and 200 for two trays merged"),
-    row(Kind::FileTooLong, [16, 0], &[MAX_FILE], "the tray file has over 16384 bytes"),
-    row(Kind::BadLine, [17, 1], &[], "line 1 of the tray file is not of the layout"),
-    row(Kind::WrongSlipNumber, [18, 2], &[], "line 2 of the tray file has a slip number other than 2"),
-    row(Kind::WrongLength, [19, 3], &[], "line 3 of the tray file states another length than it has"),
-    row(Kind::TooManyKeptSlips, [20, 0], &[MAX_SHORTEST], "the tray has over 10 kept slips"),
-    row(Kind::LeastOverlapOutOfRange, [21, 0], &[MAX_LEAST], "the least overlap is zero or over 32"),
+    row(Kind::FileTooLong, (16, 0), &[MAX_FILE], "the tray file has over 16384 bytes"),
+    row(Kind::BadLine, (17, 1), &[], "line 1 of the tray file is not of the layout"),
+    row(Kind::WrongSlipNumber, (18, 2), &[], "line 2 of the tray file has a slip number other than 2"),
+    row(Kind::WrongLength, (19, 3), &[], "line 3 of the tray file states another length than it has"),
+    row(Kind::TooManyKeptSlips, (20, 0), &[MAX_SHORTEST], "the tray has over 10 kept slips"),
+    row(Kind::LeastOverlapOutOfRange, (21, 0), &[MAX_LEAST], "the least overlap is zero or over 32"),
 ];
 
 fn sample() -> Tray {
@@ -141,7 +141,7 @@ fn every_kind_has_a_sentence() {
         let sentence = error.to_string();
         assert_eq!(sentence, row.sentence);
         assert!(error.source().is_none());
-        let detail = (row.detail > 0).then_some(row.detail as usize);
+        let detail = (row.detail > 0).then_some(row.detail);
         let wanted: HashSet<usize> = row.limits.iter().copied().chain(detail).collect();
         let words = sentence.split(|c: char| !c.is_ascii_digit());
         let stand: HashSet<usize> = words.filter_map(|word| word.parse().ok()).collect();

@@ -37,7 +37,7 @@ impl Lent {
 
     /// Makes a call that must be refused with this number and detail, and checks that nothing has changed. After some numbers
     /// the work area is not compared.
-    fn refuse<T>(&mut self, expected: (u32, u32), call: impl FnOnce(&mut Lent) -> Result<T, Refusal>) {
+    fn refuse<T>(&mut self, expected: (u32, usize), call: impl FnOnce(&mut Lent) -> Result<T, Refusal>) {
         let before = self.clone();
         let refusal = call(self).err().expect("a refusal");
         assert_eq!((refusal.number(), refusal.detail()), expected);
@@ -87,7 +87,7 @@ fn sample() -> Tray {
 }
 
 /// Trays that are refused by 1 to 6, with number and detail.
-fn faulty() -> [(Tray, (u32, u32)); 6] {
+fn faulty() -> [(Tray, (u32, usize)); 6] {
     let slip = |letters: usize| "A".repeat(letters);
     [
         (Tray::of(&["A"; 201]), (1, 0)),
