@@ -8,6 +8,9 @@
 --   placeCells            == how many numbers a place has
 --   placeNumbers c i      == the place of slip i as numbers: its place, 1 if it is kept, and the letters compared to find it
 --   flatPlaces c          == the places of all slips as numbers
+--   recordCells           == how many numbers a record of places has
+--   recordNumbers c b i   == the record of slip i, of side b, as numbers: its number, the numbers of its place, its side
+--   flatRecords c b       == the records of all members as numbers
 use mathlib.Core.Bool.{cond, _||_}
 use mathlib.Core.List.{List, [], _∷_, _++_}
 use Prim.Native.Nat.{ℕ, zero, suc}
@@ -79,3 +82,13 @@ placeNumbers c i = placeOf c i ∷ (cond (isAside (c .slips) (c .members) i) 0 1
 -- for every slip, a member or not
 abbrev pub flatPlaces : Composing → List ℕ
 flatPlaces c = each (placeNumbers c) (numbers (c .slips))
+
+abbrev pub recordCells : ℕ
+recordCells = 5
+
+-- Rules, sides: the record of places carries the side.
+abbrev pub recordNumbers : Composing → ℕ → ℕ → List ℕ
+recordNumbers c b i = i ∷ (placeNumbers c i ++ (b ∷ []))
+
+abbrev pub flatRecords : Composing → ℕ → List ℕ
+flatRecords c b = each (recordNumbers c b) (c .members)

@@ -34,6 +34,9 @@ pub const JOIN_CELLS: usize = 3;
 // How many numbers a place has where it is told in numbers.
 pub const PLACE_CELLS: usize = 3;
 
+// How many numbers a record of places with its side has where it is told in numbers.
+pub const RECORD_CELLS: usize = 5;
+
 // 12: a text has at most this many letters.
 pub const MAX_TEXT: usize = 2000;
 

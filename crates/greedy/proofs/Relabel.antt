@@ -1,7 +1,7 @@
 -- Relabelling: slips renumbered in order, with the same letters, give the same joins renumbered and the same legend.
 --   Renumbers f ss ss′ K  == f is strictly increasing from 0, and slip f i of ss′ has the letters of slip i of ss, for i in K
 --   relabel f js          == the joins js with f applied to their slips
---   rejoin, repiece       == the same for one join, one piece
+--   repiece f p           == the piece p with f applied to its slip
 --   Both P j, Within K j  == P holds of both slips of the join j; both are in K
 --   NAME-relabel          == NAME of what is renumbered is NAME, renumbered
 -- A strictly increasing f changes no comparison of two numbers, and 0 still means none. So whatever goes by numbers alone (neighbours,
@@ -24,7 +24,7 @@ use Rattle.words.proofs.Sums.{All, all-append, all-in, all-at}
 use Rattle.words.proofs.Maps.{all-inOrder, all-each, any-map, those-map, inOrder-map, each-same, each-map, tailOf-map}
 use Rattle.trays.specs.Slips.{slip, total}
 use Rattle.trays.specs.Aside.{asideFor, isAside, kept}
-use Rattle.greedy.specs.Joins.{Join, join, rightOf, leftOf, lastFrom, lastOf, free, arc, arcs, firstArc, takeArc, takeArcs, plainFor, saved}
+use Rattle.greedy.specs.Joins.{Join, join, rightOf, leftOf, lastFrom, lastOf, free, arc, arcs, firstArc, takeArc, takeArcs, plainFor, saved, rejoin}
 use Rattle.greedy.specs.Walk.{beginnings, sooner, waiting, behind, visitSlip, visit, walkFrom, walkFor}
 use Rattle.greedy.specs.Legends.{Piece, piece, overlapAfter, chainFrom, chainAt, pieces, added, spelled, piecesFor, legendFor}
 use Rattle.greedy.specs.Legends.{placeIn, placeFor, comparedFor}
@@ -33,9 +33,6 @@ pub record Renumbers (f : ℕ → ℕ) (ss ss′ : List (List ℕ)) (K : List �
   pub none : f 0 ≡ 0
   pub order : (i k : ℕ) → i < k → f i < f k
   pub letters : (i : ℕ) → In i K → slip ss′ (f i) ≡ slip ss i
-
-abbrev pub rejoin : (ℕ → ℕ) → Join → Join
-rejoin f j = join (f (j .left)) (f (j .right)) (j .overlap)
 
 abbrev pub relabel : (ℕ → ℕ) → List Join → List Join
 relabel f js = map (rejoin f) js

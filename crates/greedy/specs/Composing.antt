@@ -2,6 +2,7 @@
 -- function of it.
 --   usual           == the settings that the programs pass: every overlap that has a letter may count
 --   whole g ss      == the slips ss, every one a member, with the settings g
+--   sided g b cs ss == the slips ss with the sides cs, of which those of side b are members, with the settings g
 --   rule c          == which overlap strings count
 --   keptOf c        == the kept members
 --   joinsOf c       == the joins of the plain rule; walkOf c == those of the walk
@@ -14,6 +15,7 @@ use Prim.Native.Nat.{ℕ}
 use Rattle.trays.specs.declared.Settings.{Settings}
 use Rattle.trays.specs.Slips.{numbers, total}
 use Rattle.trays.specs.Aside.{kept, counted}
+use Rattle.trays.specs.Sides.{ofSide}
 use Rattle.greedy.specs.Joins.{Join, plainFor}
 use Rattle.greedy.specs.Walk.{walkFor}
 use Rattle.greedy.specs.Legends.{Piece, piecesFor, legendFor, placeFor, comparedFor}
@@ -28,6 +30,10 @@ usual = record { least = 1 }
 
 abbrev pub whole : Settings → List (List ℕ) → Composing
 whole g ss = record { slips = ss; members = numbers ss; least = g .least }
+
+-- Rules, sides: slips of different sides neither overlap nor set each other aside, so that a side's slips alone take part; their numbers are those of the tray.
+abbrev pub sided : Settings → ℕ → List ℕ → List (List ℕ) → Composing
+sided g b cs ss = record { slips = ss; members = ofSide cs b; least = g .least }
 
 abbrev pub rule : Composing → List ℕ → Bool
 rule c = counted (c .least)

@@ -6,6 +6,7 @@
 --   firstArc ss a b             == arc a is taken before arc b
 --   plainFor counts ss K        == the joins of the plain rule
 --   saved js                    == the sum of the overlaps
+--   rejoin f j                  == the join j with f applied to its slips
 use mathlib.Core.Bool.{Bool, true, false, cond, _&&_, _||_, not}
 use mathlib.Core.List.{List, [], _∷_, _++_}
 use Prim.Native.Nat.{ℕ, zero, suc, _+_}
@@ -81,3 +82,6 @@ plainFor counts ss K = takeArcs (inOrder (firstArc ss) (arcs counts ss K)) []
 abbrev pub saved : List Join → ℕ
 saved [] = 0
 saved (j ∷ js) = j .overlap + saved js
+
+abbrev pub rejoin : (ℕ → ℕ) → Join → Join
+rejoin f j = join (f (j .left)) (f (j .right)) (j .overlap)

@@ -4,5 +4,6 @@ pub mod Walk
 pub mod Legends
 pub mod Orders
 pub mod Composing
+pub mod Sides
 pub mod Claims
 pub mod steps

@@ -2,7 +2,7 @@
 -- table there.
 use Prim.Native.Nat.{ℕ, _+_, _*_}
 use Rattle.trays.specs.Limits.{maxSlips, maxLetters}
-use Rattle.answers.specs.Composing.{joinCells, placeCells}
+use Rattle.answers.specs.Composing.{joinCells, placeCells, recordCells}
 
 -- how many nodes there are at most: the root, and one for each letter
 abbrev pub maxNodes : ℕ
@@ -125,3 +125,15 @@ SCAN = TALLY + maxNodes
 -- so these lie over STARTS and what follows.
 abbrev pub SEEK : ℕ
 SEEK = STARTS
+
+-- `allJoins` cells: the joins of one side, their slips by the numbers that they have in the whole tray. Composing keeps no scan, so these stand over SCAN.
+abbrev pub NAMED : ℕ
+NAMED = SCAN
+
+-- `allRecords` cells: for each slip of the side its number in the whole tray, its place, 1 if it is kept, the letters compared, and the side
+abbrev pub RECORDS : ℕ
+RECORDS = NAMED + allJoins
+
+-- how many numbers the records have, one record for each slip
+abbrev pub allRecords : ℕ
+allRecords = maxSlips * recordCells

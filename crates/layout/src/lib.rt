@@ -2,6 +2,7 @@
 // table there. specs/Layout.antt says what each holds.
 use answers::JOIN_CELLS;
 use answers::PLACE_CELLS;
+use answers::RECORD_CELLS;
 use trays::MAX_LETTERS;
 use trays::MAX_SLIPS;
 
@@ -75,3 +76,12 @@ pub const SCAN: usize = TALLY + MAX_NODES;
 
 // Where the search for the shortest legend keeps its tables: after KEPT, over tables that it does not fill.
 pub const SEEK: usize = STARTS;
+
+// The joins of one side, their slips by the numbers that they have in the whole tray; over SCAN, since composing keeps no scan.
+pub const NAMED: usize = SCAN;
+
+// The records of places of one side.
+pub const RECORDS: usize = NAMED + ALL_JOINS;
+
+// How many numbers the records have, one record for each slip.
+pub const ALL_RECORDS: usize = MAX_SLIPS * RECORD_CELLS;

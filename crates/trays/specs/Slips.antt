@@ -14,7 +14,7 @@ use mathlib.Core.List.{List, [], _∷_, map}
 use Prim.Native.Nat.{ℕ, zero, suc, _+_, _-_}
 use lib.Dec.{eqb, leb}
 use lib.ListN.{length, getD, take, drop}
-use Rattle.words.specs.Lists.{upFrom}
+use Rattle.words.specs.Lists.{upFrom, entry}
 use Rattle.trays.specs.declared.Span.{Span}
 
 -- Rules: slip 1 runs from the start to the first end, slip i from the end before it to its own.
@@ -43,8 +43,7 @@ abbrev pub isLetter : ℕ → Bool
 isLetter b = eqb b stop || (leb 65 b && leb b 90)
 
 abbrev pub endOf : List ℕ → ℕ → ℕ
-endOf es zero = 0
-endOf es (suc i) = getD es i 0
+endOf es i = entry es i
 
 abbrev pub startOf : List ℕ → ℕ → ℕ
 startOf es zero = 0

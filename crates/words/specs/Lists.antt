@@ -7,12 +7,13 @@
 --   inOrder lt xs   == the different members of xs, ascending by lt
 --   headOr, tailOf  == the first member, or the default; the others
 --   lastOr d xs     == the last member, or the default d
+--   entry xs i      == the number that stands i-th in xs, counted from 1; 0 for none
 --   over xs old     == a lent buffer that held old, with xs written over its first part
 --   All P xs        == P holds of every member of xs
 use mathlib.Core.Bool.{Bool, true, false, _||_}
 use mathlib.Core.List.{List, [], _∷_, _++_}
 use Prim.Native.Nat.{ℕ, zero, suc}
-use lib.ListN.{length, drop}
+use lib.ListN.{length, getD, drop}
 
 abbrev pub each : {A B : Type 0} → (A → List B) → List A → List B
 each f [] = []
@@ -50,6 +51,10 @@ tailOf (x ∷ xs) = xs
 abbrev pub lastOr : {A : Type 0} → A → List A → A
 lastOr d [] = d
 lastOr d (x ∷ xs) = lastOr x xs
+
+abbrev pub entry : List ℕ → ℕ → ℕ
+entry xs zero = 0
+entry xs (suc i) = getD xs i 0
 
 abbrev pub over : {A : Type 0} → List A → List A → List A
 over xs old = xs ++ drop (length xs) old
