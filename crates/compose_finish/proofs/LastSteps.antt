@@ -25,7 +25,8 @@ use Rattle.greedy.specs.Joins.{Join, rightOf, saved}
 use Rattle.greedy.specs.Composing.{Composing, whole, joinsOf, legendOf, keptLetters}
 use Rattle.greedy.specs.Legends.{pieces, piecesFor}
 use Rattle.greedy.proofs.Relabel.{plain-in}
-use Rattle.greedy.proofs.GreedyLegends.{composed}
+use Rattle.greedy.proofs.GreedyLegends.{greedy-of}
+use Rattle.greedy.proofs.Chosen.{numbers-real}
 use Rattle.greedy.proofs.KeptSizes.{TraySlips, traySlips, kept-real, kept-few, kept-small, legend-small, pieces-count}
 use Rattle.legend_chains.specs.Pieces.{piecesIn}
 use Rattle.legend_chains.proofs.NeighbourPieces.{pieces-by}
@@ -118,7 +119,7 @@ module _ (g : Settings) (s es w : List ℕ) (k j : ℕ) (left right overs : List
       }
 
   saves : saved (joinsIn w j) + length (legendOf C) ≡ total ss (keptIn w k)
-  saves = rw (walked .joins-are, walked .kept-is) (sym (composed g ss .saving))
+  saves = rw (walked .joins-are, walked .kept-is) (sym (greedy-of (whole g ss) (numbers-real ss) .saving))
 
   can-count : CountAsks s es w k j
   can-count =

@@ -1,4 +1,5 @@
 -- Laws of the plain rule, the walk and the legend.
+pub mod AllSides
 pub mod AllSpecimens
 pub mod Chains
 pub mod Relabel
@@ -17,8 +18,11 @@ pub mod Bound
 pub mod StopFree
 pub mod FewerJoins
 pub mod GreedyLegends
+pub mod SideLists
+pub mod Alone
 pub mod Linked
 pub mod Threads
 pub mod KeptSizes
 pub mod Tried
 pub mod Placed
+pub mod TriedAlone

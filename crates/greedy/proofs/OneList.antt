@@ -20,17 +20,14 @@ use borrow.Author.Tests.{lt-ltb}
 use Rattle.words.specs.Lists.{each, those, inOrder}
 use Rattle.words.specs.Words.{begins, before, same, endsProperly, overlap}
 use Rattle.words.proofs.Tests.{not-both}
-use Rattle.words.proofs.Members.{In, Asc, Sorts, Less, in-each, each-in, in-those, those-in, asc-each, inOrder-sorts, asc-upFrom, in-upFrom}
+use Rattle.words.proofs.Members.{In, Asc, Sorts, Less, in-each, each-in, in-those, those-in, asc-each, inOrder-sorts}
 use Rattle.words.proofs.Orders.{up, down, strings, lex-first, lex-then, lex-cases}
 use Rattle.words.proofs.Strings.{begins-take, begins-prefix, endsProperly-ends}
 use Rattle.words.proofs.Overlaps.{Counts, counts-some, overlap-fits, overlap-met, met-overlap, suffix-counts}
-use Rattle.trays.specs.declared.Settings.{Settings}
-use Rattle.trays.specs.Slips.{slip, numbers}
-use Rattle.trays.specs.Aside.{kept, counted}
+use Rattle.trays.specs.Slips.{slip}
+use Rattle.trays.specs.Aside.{kept}
 use Rattle.trays.proofs.Kept.{kept-asc, in-kept, kept-proper}
-use Rattle.trays.proofs.Stops.{counted-counts}
 use Rattle.greedy.specs.Joins.{Join, join, stringOf, firstArc, plainFor}
-use Rattle.greedy.specs.Composing.{whole, joinsOf, walkOf}
 use Rattle.greedy.specs.Walk.{prefixesTo, sooner, walkFor}
 use Rattle.greedy.proofs.Takes.{sound-nil, refused-last, Cover, take-thin}
 use Rattle.greedy.proofs.Arcs.{Prior, firstArc-irr, firstArc-tr, firstArc-not, IsArc, ordered, arcs-sorted, string-length, in-arcs, arcs-in, byNumbers}
@@ -155,9 +152,3 @@ kept-ready counts ss M C a p =
       positive = λ k m. p k (in-kept ss M m .0);
       proper = kept-proper ss M;
     }
-
-pub walk-is-plain : (g : Settings) (ss : List (List ℕ)) → walkOf (whole g ss) ≡ joinsOf (whole g ss)
-walk-is-plain g ss =
-    let counts = counted (g .least) in
-    one-list counts ss (kept ss (numbers ss))
-    (kept-ready counts ss (numbers ss) (counted-counts (g .least)) (asc-upFrom 1 (length ss)) (λ k m. in-upFrom 1 (length ss) m .0))

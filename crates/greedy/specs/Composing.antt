@@ -1,8 +1,9 @@
 -- What is composed: slips, the numbers of those that take part, and the least overlap. Requests widen this record, and everything that is composed is a
 -- function of it.
 --   usual           == the settings that the programs pass: every overlap that has a letter may count
---   whole g ss      == the slips ss, every one a member, with the settings g
---   sided g b cs ss == the slips ss with the sides cs, of which those of side b are members, with the settings g
+--   among g M ss    == the slips ss, of which those numbered in M are members, with the settings g
+--   whole g ss      == every slip a member
+--   sided g b cs ss == those of side b members, where the slips have the sides cs
 --   rule c          == which overlap strings count
 --   keptOf c        == the kept members
 --   joinsOf c       == the joins of the plain rule; walkOf c == those of the walk
@@ -28,12 +29,15 @@ pub record Composing : Type 0 where
 abbrev pub usual : Settings
 usual = record { least = 1 }
 
+abbrev pub among : Settings → List ℕ → List (List ℕ) → Composing
+among g M ss = record { slips = ss; members = M; least = g .least }
+
 abbrev pub whole : Settings → List (List ℕ) → Composing
-whole g ss = record { slips = ss; members = numbers ss; least = g .least }
+whole g ss = among g (numbers ss) ss
 
 -- Rules, sides: slips of different sides neither overlap nor set each other aside, so that a side's slips alone take part; their numbers are those of the tray.
 abbrev pub sided : Settings → ℕ → List ℕ → List (List ℕ) → Composing
-sided g b cs ss = record { slips = ss; members = ofSide cs b; least = g .least }
+sided g b cs ss = among g (ofSide cs b) ss
 
 abbrev pub rule : Composing → List ℕ → Bool
 rule c = counted (c .least)

@@ -2,8 +2,7 @@
 --   onlyOf c   == the members of what is composed, as slips of their own
 --   Alone c d  == c composes as d does, where slip i of d is the i-th member of c
 use mathlib.Core.Path.{_≡_}
-use mathlib.Core.List.{List, map}
-use Prim.Native.Nat.{ℕ}
+use mathlib.Core.List.{map}
 use Rattle.words.specs.Lists.{entry}
 use Rattle.trays.specs.Slips.{numbers, only}
 use Rattle.trays.specs.Aside.{isAside}

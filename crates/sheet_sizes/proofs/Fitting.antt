@@ -27,7 +27,8 @@ use Rattle.greedy.specs.Joins.{Join}
 use Rattle.greedy.specs.Orders.{weight}
 use Rattle.greedy.specs.Composing.{usual, whole, joinsOf}
 use Rattle.greedy.proofs.Chains.{Chain, Arc, chains-fewer}
-use Rattle.greedy.proofs.GreedyLegends.{composed}
+use Rattle.greedy.proofs.GreedyLegends.{greedy-of}
+use Rattle.greedy.proofs.Chosen.{numbers-real}
 use Rattle.matching.specs.Occurrences.{Occurrence, occurrence, endingAt, occurrences}
 use Rattle.matching.proofs.States.{few-moves}
 use Rattle.matching.proofs.Finds.{in-ending}
@@ -67,7 +68,7 @@ module _ (s es : List ℕ) (acc : trayFault s es .number ≡ 0) where
         slips = omega (arith, few);
         kept-slips = kept-few s es acc;
         letters = kept-small s es acc;
-        saved-letters = omega (arith, kept-small s es acc, composed usual ss .saving);
+        saved-letters = omega (arith, kept-small s es acc, greedy-of (whole usual ss) (numbers-real ss) .saving);
         legend = legend-small s es acc usual;
         lengths = λ i p l. accepted-spanned s es acc .short i p (omega arith);
         places = λ i p l. omega (arith, legend-small s es acc usual, place-most s es acc usual i p (omega arith));

@@ -4,4 +4,5 @@ pub mod Firsts
 pub mod Without
 pub mod Orders
 pub mod Shortest
+pub mod ShortestAlone
 pub mod Places

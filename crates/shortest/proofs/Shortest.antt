@@ -20,14 +20,13 @@ use Rattle.words.proofs.Tests.{tell, same-test, not-both}
 use Rattle.words.proofs.Members.{In, Asc, those-yes, those-no}
 use Rattle.words.proofs.Orders.{before-irr, before-tr}
 use Rattle.words.proofs.Sums.{sum, All, is, held, held-in, all-held, all-in, all-at}
-use Rattle.trays.specs.declared.Settings.{Settings}
-use Rattle.trays.specs.Slips.{numbers, slip, slipsOf, total}
+use Rattle.trays.specs.Slips.{slip, slipsOf, total}
 use Rattle.trays.specs.Aside.{kept, counted}
 use Rattle.trays.proofs.Kept.{kept-asc, kept-apart}
 use Rattle.trays.proofs.Stops.{overlapFor-free}
 use Rattle.greedy.specs.Joins.{Join}
 use Rattle.greedy.specs.Legends.{pieces, spelled, legendFor}
-use Rattle.greedy.specs.Composing.{whole}
+use Rattle.greedy.specs.Composing.{Composing, whole, rule, keptOf}
 use Rattle.greedy.specs.Orders.{weight, along, orderLegend}
 use Rattle.greedy.specs.Claims.{holdsAll, stopFree}
 use Rattle.greedy.proofs.Chains.{Chain, wholeChain, end, Rep, along-append}
@@ -35,7 +34,7 @@ use Rattle.greedy.proofs.Letters.{sum-each, total-sum, holds-all, laid-holds, l
 use Rattle.greedy.proofs.TextOrder.{over, Apart, text-order}
 use Rattle.greedy.proofs.Bound.{kept-once, kept-rep}
 use Rattle.greedy.proofs.StopFree.{stopFree-at}
-use Rattle.greedy.proofs.GreedyLegends.{numbers-rise, numbers-positive}
+use Rattle.greedy.proofs.Chosen.{Real, numbers-real}
 use Rattle.shortest.specs.Orders.{orders, less, firstLeast, shortestFor}
 use Rattle.shortest.specs.steps.Choosing.{greater, firstMost, choose}
 use Rattle.shortest.specs.Claims.{times, Optimal, Shortest-legends}
@@ -187,13 +186,13 @@ times-held i (x ∷ xs) =
       | inr e ↦ rw (those-no (eqb i) x xs e, e) (omega (arith, times-held i xs))
     ]
 
-pub shortest-whole : (g : Settings) (ss : List (List ℕ)) → Optimal (whole g ss)
-shortest-whole g ss =
-    let counts = counted (g .least) in
-    let M = numbers ss in
-    let K = kept ss M in
-    let asc = numbers-rise ss in
-    let positive = numbers-positive ss in
+-- for any members that ascend from 1
+pub shortest-of : (c : Composing) {n : ℕ} → Real n (c .members) → Optimal c
+shortest-of c R =
+    let counts = rule c in
+    let ss = c .slips in
+    let K = keptOf c in
+    let positive : (i : ℕ) → In i (c .members) → 1 ≤ i = λ i m. R .real i m .0 in
     let xs₀ = shortestFor counts ss K in
     let counts-as : (xs : List ℕ) → ((i : ℕ) → times i xs ≡ times i K) → (x : ℕ) → held x xs ≡ held x K =
     λ xs h x. sym (times-held x xs) ∙ h x ∙ times-held x K in
@@ -201,16 +200,16 @@ shortest-whole g ss =
       an-order = λ i. times-held i xs₀ ∙ shortest-order counts ss K (is i) ∙ sym (times-held i K);
       least = λ xs h. shortest-least counts ss K xs (counts-as xs h);
       first = λ xs h e.
-          elim (shortest-first counts ss K (kept-asc ss M asc) xs (counts-as xs h) e) [
+          elim (shortest-first counts ss K (kept-asc ss (c .members) (R .rise)) xs (counts-as xs h) e) [
             | inl d ↦ rw d (before-irr xs)
             | inr d ↦
                 elim (tell (before xs xs₀))
                 [ inl t ↦ absurd (not-both (before xs xs) (before-tr xs xs₀ xs t d) (before-irr xs)) | inr t ↦ t ]
           ];
       legend-holds = shortest-holds counts ss K;
-      at-most-composed = shortest-composed counts ss M asc positive;
-      no-text-shorter = λ one free. kept-shortest-text counts ss M asc positive (stopFree-plain (g .least) one ss K free);
+      at-most-composed = shortest-composed counts ss (c .members) (R .rise) positive;
+      no-text-shorter = λ one free. kept-shortest-text counts ss (c .members) (R .rise) positive (stopFree-plain (c .least) one ss K free);
     }
 
 pub shortest-legends : Shortest-legends
-shortest-legends g s es accepted = shortest-whole g (slipsOf s es)
+shortest-legends g s es accepted = shortest-of (whole g (slipsOf s es)) (numbers-real (slipsOf s es))

@@ -24,7 +24,8 @@ use Rattle.greedy.specs.Orders as O
 use Rattle.greedy.proofs.Letters.{laid-after}
 use Rattle.greedy.proofs.KeptSizes.{kept-real, legend-small}
 use Rattle.shortest.specs.Orders.{shortestOrder, shortestLegend}
-use Rattle.shortest.proofs.Shortest.{shortest-order, shortest-whole}
+use Rattle.greedy.proofs.Chosen.{numbers-real}
+use Rattle.shortest.proofs.Shortest.{shortest-order, shortest-of}
 use Rattle.legend_chains.specs.Pieces.{piecesIn}
 use Rattle.answers.specs.declared.Shortest.{Shortest}
 use Rattle.answers.specs.Shortest.{shortestRows, shortestOutcome, shortestRefused, shortestBy}
@@ -103,7 +104,7 @@ module _ (g : Settings) (s es r : List ℕ) (k : ℕ) (S : OrderSought g s es r 
     need-is = A .need-is ∙ rw (order-first, em)
 
     pub need-small : n < 2 ^ 32
-    need-small = omega (arith, need-is, shortest-whole g ss .at-most-composed, legend-small s es (S .tray) g)
+    need-small = omega (arith, need-is, shortest-of (whole g ss) (numbers-real ss) .at-most-composed, legend-small s es (S .tray) g)
 
     pub answer-can : OutcomeAsks n k
     answer-can = record { need-fits = need-small; count-fits = omega (arith, S .few) }

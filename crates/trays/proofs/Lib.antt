@@ -6,6 +6,7 @@ pub mod Rising
 pub mod Rows
 pub mod Accepted
 pub mod SetTrays
+pub mod SidedTrays
 pub mod Spans
 pub mod Stored
 pub mod Stops

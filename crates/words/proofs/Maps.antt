@@ -1,7 +1,8 @@
 -- Lists over a map, where two rules agree on the members that a property P holds of.
 --   all-NAME   == what holds of every member of the lists given holds of every member of NAME ..
 --   NAME-map   == NAME of the mapped list is NAME of the list, mapped where it is a list
---   each-same  == each-map where the rules give the very same lists
+--   each-same  == each-map where the rules give the very same lists; map-same == the same of two maps
+--   map-agree  == two maps that agree on the members of a list
 -- All go by induction on the list. The rules need to agree only on its members, so P is carried along as an All.
 use mathlib.Core.Path.{_≡_, refl, sym, ap, ap₂, _∙_}
 use mathlib.Core.Bool.{Bool, _||_}
@@ -43,6 +44,14 @@ module _ {A B : Type 0} (f : A → B) (P : A → Type 0) where
       each h (map f xs) ≡ each g xs
   each-same g h e [] p = refl
   each-same g h e (x ∷ xs) p = ap₂ _++_ (e x (p .0)) (each-same g h e xs (p .1))
+
+  pub map-same : {C : Type 0} (g : A → C) (h : B → C) → ((x : A) → P x → h (f x) ≡ g x) → (xs : List A) → All P xs → map h (map f xs) ≡ map g xs
+  map-same g h e [] p = refl
+  map-same g h e (x ∷ xs) p = ap₂ _∷_ (e x (p .0)) (map-same g h e xs (p .1))
+
+  pub map-agree : (g : A → B) → ((x : A) → P x → f x ≡ g x) → (xs : List A) → All P xs → map f xs ≡ map g xs
+  map-agree g e [] p = refl
+  map-agree g e (x ∷ xs) p = ap₂ _∷_ (e x (p .0)) (map-agree g e xs (p .1))
 
   pub each-map : {C D : Type 0} (r : C → D) (g : A → List C) (h : B → List D) → ((x : A) → P x → h (f x) ≡ map r (g x)) →
       (xs : List A) → All P xs → each h (map f xs) ≡ map r (each g xs)
