@@ -30,12 +30,12 @@ use Rattle.answers.specs.declared.Composed.{Composed}
 unfoldable pub beforeC : Settings → List ℕ → List ℕ → ℕ → Refusal
 beforeC g s es w = firstRow (setRows (g .least) s es ++ (workRow w ∷ []))
 
--- Rules, place C: the legend is longer than its buffer; more joins than the list takes, or fewer than one record of places a slip.
+-- Rules, place C: the legend is longer than its buffer; more joins than the list takes, or fewer than one record of places a slip that takes part.
 abbrev pub roomRows : Composing → ℕ → ℕ → ℕ → List Refusal
 roomRows c l j p =
     let need = length (legendOf c) in
     let joins = length (joinsOf c) in
-    row 8 (ltb l need) need ∷ (row 9 (ltb j joins || ltb p (length (c .slips))) joins ∷ [])
+    row 8 (ltb l need) need ∷ (row 9 (ltb j joins || ltb p (length (c .members))) joins ∷ [])
 
 unfoldable pub composeFault : Settings → List ℕ → List ℕ → ℕ → ℕ → ℕ → ℕ → Refusal
 composeFault g s es w l j p = firstRow (setRows (g .least) s es ++ (workRow w ∷ roomRows (whole g (slipsOf s es)) l j p))
@@ -46,7 +46,7 @@ outcomeOf c =
     record {
       number = 0;
       detail = 0;
-      slips = length (c .slips);
+      slips = length (c .members);
       kept = length (keptOf c);
       letters = keptLetters c;
       saved = saved (joinsOf c);

@@ -16,10 +16,10 @@ use Rattle.tables.specs.Tables.{table}
 use Rattle.trays.specs.declared.Refusal.{Refusal}
 use Rattle.trays.specs.declared.Settings.{Settings}
 use Rattle.trays.specs.Limits.{maxSlips, workNeed}
-use Rattle.trays.specs.Slips.{slipsOf}
+use Rattle.trays.specs.Slips.{slipsOf, numbers}
 use Rattle.trays.specs.Faults.{firstRow, setRows, setFault, trayFault}
 use Rattle.trays.proofs.Rows.{both-silent, rows-append}
-use Rattle.trays.proofs.Accepted.{rows-silent, row-silent, accepted-tells, slips-count}
+use Rattle.trays.proofs.Accepted.{rows-silent, row-silent, accepted-tells, numbers-count}
 use Rattle.trays.proofs.SetTrays.{set-tells}
 use Rattle.greedy.specs.Joins.{Join}
 use Rattle.greedy.specs.Composing.{whole, joinsOf, legendOf}
@@ -69,7 +69,7 @@ module _ (g : Settings) (s es w : List ℕ) (l j p : ℕ) (r : Composed) where
       let b = both-silent (firstRow before) (firstRow last) (ap (λ (f : Refusal). f .number) (sym (rows-append before last)) ∙ h) in
       let tray = set-tells (g .least) s es (b .0) .tray in
       let rows = rows-silent last (b .1) in
-      let lists = neither (ltb j joins) (ltb p (length ss)) (row-silent 8 (ltb j joins || ltb p (length ss)) joins (rows .1 .1 .0)) in
+      let lists = neither (ltb j joins) (ltb p (length (numbers ss))) (row-silent 8 (ltb j joins || ltb p (length (numbers ss))) joins (rows .1 .1 .0)) in
       record {
         silent = h;
         tray = tray;
@@ -77,8 +77,8 @@ module _ (g : Settings) (s es w : List ℕ) (l j p : ℕ) (r : Composed) where
         answer-is = e;
         legend-fits = rw e (ltb-false l need (row-silent 7 (ltb l need) need (rows .1 .0)));
         joins-fit = rw e (ltb-false j joins (lists .0));
-        places-fit = rw e (ltb-false p (length ss) (lists .1));
-        few-slips = rw e (omega (arith, slips-count s es, accepted-tells s es tray .few));
+        places-fit = rw e (ltb-false p (length (numbers ss)) (lists .1));
+        few-slips = rw e (omega (arith, numbers-count s es, accepted-tells s es tray .few));
       }
 
   pub staged-tells : {P : Type 0} → r ≡ composedOf g s es (length w) l j p → (Accepts g s es w l j p r → P) → (Refuses g s es w l j p r → P) → P

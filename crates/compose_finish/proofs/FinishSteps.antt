@@ -30,11 +30,11 @@ module _ (c : Composing) (l j p : ℕ) where
   legend-short h = rw (lt-ltb l (length (legendOf c)) h)
 
   module _ (h : length (legendOf c) ≤ l) where
-    pub lists-short : ltb j (length (joinsOf c)) || ltb p (length (c .slips)) ≡ true → fault ≡ refusal 9 (length (joinsOf c))
+    pub lists-short : ltb j (length (joinsOf c)) || ltb p (length (c .members)) ≡ true → fault ≡ refusal 9 (length (joinsOf c))
     lists-short t = rw (le-ltb l (length (legendOf c)) h, t)
 
-    pub nothing-short : length (joinsOf c) ≤ j → length (c .slips) ≤ p → fault ≡ accepted
-    nothing-short u v = rw (le-ltb l (length (legendOf c)) h, le-ltb j (length (joinsOf c)) u, le-ltb p (length (c .slips)) v)
+    pub nothing-short : length (joinsOf c) ≤ j → length (c .members) ≤ p → fault ≡ accepted
+    nothing-short u v = rw (le-ltb l (length (legendOf c)) h, le-ltb j (length (joinsOf c)) u, le-ltb p (length (c .members)) v)
 
 -- a refusal is no answer to a tray that is composed
 pub not-composed : (f : Refusal) (n d : ℕ) (r : Composed) → f ≡ refusal (suc n) d → r ≡ refusedBy f → r .number ≡ 0 → ⊥

@@ -20,7 +20,7 @@ use Rattle.trays.specs.Limits.{maxSlips}
 use Rattle.trays.specs.Slips.{numbers, total}
 use Rattle.trays.specs.Aside.{counted}
 use Rattle.trays.specs.Faults.{refusal, firstRow}
-use Rattle.trays.proofs.Accepted.{accepted-tells, slips-count}
+use Rattle.trays.proofs.Accepted.{accepted-tells, slips-count, numbers-count}
 use Rattle.greedy.specs.Joins.{Join, rightOf, saved}
 use Rattle.greedy.specs.Composing.{Composing, whole, joinsOf, legendOf, keptLetters}
 use Rattle.greedy.specs.Legends.{pieces, piecesFor}
@@ -166,7 +166,7 @@ module _ (g : Settings) (s es w : List ℕ) (k j : ℕ) (left right overs : List
           (legend-short C (length l) jr pr (omega (arith, need-is)) ∙ ap (refusal 8) (sym need-is)) e
 
       module _ (q : c .need ≤ length l) where
-        short-list : (r : Composed) → ltb jr (length (joinsOf C)) || ltb pr (length ss) ≡ true → r ≡ refusedBy (refusal 9 j) → Finished C w w l l jr pr r
+        short-list : (r : Composed) → ltb jr (length (joinsOf C)) || ltb pr (length (numbers ss)) ≡ true → r ≡ refusedBy (refusal 9 j) → Finished C w w l l jr pr r
         short-list r t e =
             refused-finished C l w jr pr (refusal 9 j) 8 j r refl
             (lists-short C (length l) jr pr (omega (arith, need-is)) t ∙ ap (refusal 9) (sym count-plain)) e
@@ -176,7 +176,7 @@ module _ (g : Settings) (s es w : List ℕ) (k j : ℕ) (left right overs : List
             short-list r (or-left (ltb jr (length (joinsOf C))) _ (lt-ltb jr (length (joinsOf C)) (omega (arith, count-plain)))) e
 
         last-places : (r : Composed) → pr < length es → r ≡ refusedBy (refusal 9 j) → Finished C w w l l jr pr r
-        last-places r u e = short-list r (or-right (ltb jr (length (joinsOf C))) _ (lt-ltb pr (length ss) (omega (arith, slips-count s es)))) e
+        last-places r u e = short-list r (or-right (ltb jr (length (joinsOf C))) _ (lt-ltb pr (length (numbers ss)) (omega (arith, numbers-count s es)))) e
 
         module _ (xs : List ℕ) (p : PiecesStaged w k j left right overs xs) where
           pieces-are : piecesIn xs 0 k ≡ piecesFor counts ss (numbers ss)
@@ -208,11 +208,11 @@ module _ (g : Settings) (s es w : List ℕ) (k j : ℕ) (left right overs : List
           last-good : (w′ l′ : List ℕ) (r : Composed) → j ≤ jr → length es ≤ pr → Written s es w w′ l l′ xs k → r ≡ outcomeBy (length es) k c j →
               Finished C w w′ l l′ jr pr r
           last-good w′ l′ r u v d o =
-              let f = nothing-short C (length l) jr pr (omega (arith, need-is)) (omega (arith, count-plain)) (omega (arith, slips-count s es)) in
+              let f = nothing-short C (length l) jr pr (omega (arith, need-is)) (omega (arith, count-plain)) (omega (arith, numbers-count s es)) in
               let (answer, legend) = composed-all C l (firstRow (roomRows C (length l) jr pr)) f in
               let b = d .placed .below in
               record {
-                answer-is = o ∙ rw (← (slips-count s es), count-kept, letters-are, saved-are, need-is, count-plain) answer;
+                answer-is = o ∙ rw (← (numbers-count s es), count-kept, letters-are, saved-are, need-is, count-plain) answer;
                 legend-is = d .legend-is ∙ rw pieces-are legend;
                 same = b .same;
                 joins-are = λ z. rw o

@@ -8,6 +8,7 @@ use Prim.Native.Nat.{ℕ, _-_, _*_, _≤_, _<_}
 use native.Mathlib.Omega.{arith}
 use lib.ListN.{length}
 use Rattle.words.specs.Lists.{over}
+use Rattle.words.proofs.Runs.{length-upFrom}
 use Rattle.trays.specs.declared.Refusal.{Refusal}
 use Rattle.trays.specs.declared.Settings.{Settings}
 use Rattle.trays.specs.Slips.{slipsOf, numbers}
@@ -47,7 +48,7 @@ module _ (g : Settings) (s es w w′ l l′ : List ℕ) (js : List Join) (ps : L
     all-joins = ap (λ (x : Composed). x .joins) (a .answer-is)
 
     all-places : r .answer .slips ≡ length ss
-    all-places = ap (λ (x : Composed). x .slips) (a .answer-is)
+    all-places = ap (λ (x : Composed). x .slips) (a .answer-is) ∙ length-upFrom 1 (length ss)
 
     joins-staged : table w′ JOINS (joinCells * length (joinsOf (whole g ss))) ≡ flatJoins (joinsOf (whole g ss))
     joins-staged = ap (λ (n : ℕ). table w′ JOINS (joinCells * n)) (sym all-joins) ∙ c .stages .joins-are (ap (λ (x : Composed). x .number) (a .answer-is))

@@ -83,7 +83,7 @@ module _ (s es w l o : List ℕ) (room : TrayRoom w l o) where
       let b : joins ≤ maxSlips = omega (arith, F .count) in
       rows-append (setRows 1 s es) lastRows
       ∙ or-zero (firstRow (trayRows s es)) (firstRow lastRows) z
-      ∙ rw (le-ltb (length w) workNeed (room .work), le-ltb (length l) need a, le-ltb maxSlips joins b, le-ltb maxSlips (length ss) (F .slips))
+      ∙ rw (le-ltb (length w) workNeed (room .work), le-ltb (length l) need a, le-ltb maxSlips joins b, le-ltb maxSlips (length (numbers ss)) (F .slips))
 
   speaks : 1 ≤ trayFault s es .number → fault ≡ trayFault s es
   unfolding composeFault trayFault

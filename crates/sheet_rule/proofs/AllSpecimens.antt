@@ -8,7 +8,7 @@ use Rattle.words.specs.Quoted.{word}
 use Rattle.trays.specs.Faults.{refusal, trayFault}
 use Rattle.fold_rule.specs.Folding.{fold}
 use Rattle.file_rule.specs.Faults.{readFault}
-use Rattle.sheet_rule.specs.Sheets.{decimal, column, composeSheetOf, findSheetOf, refusedLine}
+use Rattle.sheet_rule.specs.Sheets.{decimal, column, sideSheetOf, composeSheetOf, findSheetOf, refusedLine}
 use Rattle.sheet_rule.specs.Programs.{lettersIn, composeSheetFault, composeSheet, textFault, findSheetFault, findSheet}
 use Rattle.sheet_rule.specs.Stored.{typedIn, storedFault}
 
@@ -23,7 +23,7 @@ decimal-specimens = refl
 pub compose-specimen :
     composeSheetOf tray
     ≡ word "TRAY   5   4   24    9   15\n   1   7    2 K\n   2   3    6 S\n   3   7    5 K\n   4   6   10 K\n   5   4    1 K\n   1   3   4\n   5   1   3\n   3   4   2\nSIMPCAESAVGPIVS\n"
-unfolding decimal column composeSheetOf
+unfolding decimal column sideSheetOf
 compose-specimen = refl
 
 pub find-specimen : findSheetOf tray (word "IMPCAESAVG") ≡ word "FIND  10  11     3\n   7   1\n   7   2\n  10   3\n"
@@ -31,7 +31,7 @@ unfolding decimal column findSheetOf
 find-specimen = refl
 
 pub empty-specimen : composeSheetOf [] ≡ word "TRAY   0   0    0    0    0\n\n"
-unfolding decimal column composeSheetOf
+unfolding decimal column sideSheetOf
 empty-specimen = refl
 
 pub refused-specimens :
@@ -61,7 +61,7 @@ pub compose-file-specimens :
     ∷ word "REFUSED   2     1\n"
     ∷ word "REFUSED   6     1\n"
     ∷ word "TRAY   2   1    3    0    3\n   1   3    1 K\n   2   2    2 S\nAVG\n" ∷ [])
-unfolding decimal column composeSheetOf trayFault fold readFault composeSheetFault composeSheet
+unfolding decimal column sideSheetOf trayFault fold readFault composeSheetFault composeSheet
 compose-file-specimens = refl
 
 -- files stored where a slip could have 40 letters, with slips of 32, 33 and 40: in capitals, which were composed

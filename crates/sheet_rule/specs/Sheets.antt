@@ -1,11 +1,14 @@
 -- What the programs print, byte by byte: the rules, files and sheets.
 --   decimal n             == the decimal digits of n, without leading zeros
 --   column w n            == n right-justified in w columns, blanks in front
---   trayLine, slipLine, joinLine  == the header, a slip's line and a join's line of a `compose` sheet
+--   sideMark b            == what stands behind the numbers of a header: a blank and the letter, for O and R
+--   sideLine              == the header of a `compose` sheet, with the mark of its side; trayLine == that of the blank side
+--   slipLine, joinLine    == a slip's line and a join's line of a `compose` sheet
 --   findLine, foundLine   == the header and an occurrence's line of a `find` sheet
 --   refusedLine f         == the line of a refusal
 --   NAMESize              == the bytes of the line NAMELine, its LF included
---   composeSheetOf ss     == the `compose` sheet of the slips ss, with the usual settings
+--   sideSheetOf b c       == the `compose` sheet of what is composed, where its side is b
+--   composeSheetOf ss     == that of all the slips ss as one side, the blank one, with the usual settings
 --   findSheetOf ss t      == the `find` sheet of the slips ss and the text t
 --   composeLines c es js ps t == a `compose` sheet from numbers: the answer c, the ends es, joins js of `joinCells` numbers each, places ps of
 --                            `placeCells` numbers a slip, and the legend t
@@ -20,11 +23,12 @@ use Rattle.words.specs.Lists.{each, upFrom}
 use Rattle.words.specs.Quoted.{word}
 use Rattle.trays.specs.declared.Refusal.{Refusal}
 use Rattle.trays.specs.Limits.{maxSlips, maxLetters}
-use Rattle.trays.specs.Slips.{slip, numbers, startOf, endOf}
-use Rattle.trays.specs.Aside.{isAside, kept}
+use Rattle.trays.specs.Slips.{slip, startOf, endOf}
+use Rattle.trays.specs.Aside.{isAside}
+use Rattle.trays.specs.Sides.{blankSide}
 use Rattle.file_rule.specs.Lines.{lf, blank}
 use Rattle.greedy.specs.Joins.{saved}
-use Rattle.greedy.specs.Composing.{usual, whole, joinsOf, legendOf, placeOf, keptLetters}
+use Rattle.greedy.specs.Composing.{Composing, usual, whole, keptOf, joinsOf, legendOf, placeOf, keptLetters}
 use Rattle.matching.specs.Moves.{moves}
 use Rattle.matching.specs.Occurrences.{occurrences}
 use Rattle.answers.specs.declared.Composed.{Composed}
@@ -62,9 +66,16 @@ detailWidth = 6
 abbrev pub threeLine : ℕ → ℕ → ℕ → ℕ → List ℕ
 threeLine w a b c = column w a ++ (column w b ++ (column w c ++ (lf ∷ [])))
 
+-- Rules, sides: a blank and the letter after the header of O and R.
+abbrev pub sideMark : ℕ → List ℕ
+sideMark b = cond (eqb b blankSide) [] (blank ∷ (b ∷ []))
+
 -- Header: slips and kept (4 columns each), kept letters, saved, legend length (5 each).
+abbrev pub sideLine : ℕ → ℕ → ℕ → ℕ → ℕ → ℕ → List ℕ
+sideLine n k m s l b = word "TRAY" ++ (column 4 n ++ (column 4 k ++ (column 5 m ++ (column 5 s ++ (column 5 l ++ (sideMark b ++ (lf ∷ [])))))))
+
 abbrev pub trayLine : ℕ → ℕ → ℕ → ℕ → ℕ → List ℕ
-trayLine n k m s l = word "TRAY" ++ (column 4 n ++ (column 4 k ++ threeLine 5 m s l))
+trayLine n k m s l = sideLine n k m s l blankSide
 
 abbrev pub traySize : ℕ
 traySize = 4 + 4 + 4 + 5 + 5 + 5 + 1
@@ -113,16 +124,19 @@ abbrev pub refusedSize : ℕ
 refusedSize = 7 + 4 + detailWidth + 1
 
 -- the whole sheets, from the slips alone
-abbrev pub slipLineOf : List (List ℕ) → ℕ → List ℕ
-slipLineOf ss i = slipLine i (length (slip ss i)) (placeOf (whole usual ss) i) (cond (isAside ss (numbers ss) i) asideSign keptSign)
+abbrev pub slipLineOf : Composing → ℕ → List ℕ
+slipLineOf c i = slipLine i (length (slip (c .slips) i)) (placeOf c i) (cond (isAside (c .slips) (c .members) i) asideSign keptSign)
 
 -- Then the legend and LF; for the empty tray that line is blank.
-unfoldable pub composeSheetOf : List (List ℕ) → List ℕ
-composeSheetOf ss =
-    let js = joinsOf (whole usual ss) in
-    let t = legendOf (whole usual ss) in
-    trayLine (length ss) (length (kept ss (numbers ss))) (keptLetters (whole usual ss)) (saved js) (length t)
-    ++ (each (slipLineOf ss) (numbers ss) ++ (each (λ j. joinLine (j .left) (j .right) (j .overlap)) js ++ (t ++ (lf ∷ []))))
+unfoldable pub sideSheetOf : ℕ → Composing → List ℕ
+sideSheetOf b c =
+    let js = joinsOf c in
+    let t = legendOf c in
+    sideLine (length (c .members)) (length (keptOf c)) (keptLetters c) (saved js) (length t) b
+    ++ (each (slipLineOf c) (c .members) ++ (each (λ j. joinLine (j .left) (j .right) (j .overlap)) js ++ (t ++ (lf ∷ []))))
+
+abbrev pub composeSheetOf : List (List ℕ) → List ℕ
+composeSheetOf ss = sideSheetOf blankSide (whole usual ss)
 
 unfoldable pub findSheetOf : List (List ℕ) → List ℕ → List ℕ
 findSheetOf ss t =

@@ -10,7 +10,7 @@ use lib.ListN.{length}
 use Rattle.trays.specs.declared.Refusal.{Refusal}
 use Rattle.trays.specs.declared.Settings.{Settings}
 use Rattle.trays.specs.Limits.{workNeed, maxLeast}
-use Rattle.trays.specs.Slips.{slipsOf}
+use Rattle.trays.specs.Slips.{slipsOf, numbers}
 use Rattle.trays.specs.Faults.{firstRow, leastRow, trayFault, setRows, setFault}
 use Rattle.trays.proofs.Rows.{rows-append, by-number}
 use Rattle.trays.proofs.SetTrays.{set-tells}
@@ -50,7 +50,7 @@ module _ (g : Settings) (s es : List ℕ) where
           row-fits 7 (ltb w workNeed) 0 (omega arith) (omega arith),
           (
             row-fits 8 (ltb l need) need (omega arith) (omega (arith, legend-small s es acc g)),
-            (row-fits 9 (ltb j joins || ltb p (length ss)) joins (omega arith) (omega (arith, joins-fewer s es acc g)), tt),
+            (row-fits 9 (ltb j joins || ltb p (length (numbers ss))) joins (omega arith) (omega (arith, joins-fewer s es acc g)), tt),
           ),
         )
 

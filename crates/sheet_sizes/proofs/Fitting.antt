@@ -12,7 +12,7 @@ use native.Mathlib.Omega.{arith}
 use lib.ListN.{length, take, length-append, length-map}
 use Rattle.words.specs.Lists.{each, upFrom}
 use Rattle.words.proofs.Runs.{length-upFrom}
-use Rattle.words.proofs.Members.{in-upFrom}
+use Rattle.words.proofs.Members.{In, in-upFrom}
 use Rattle.words.proofs.Maps.{all-each}
 use Rattle.words.proofs.Sums.{sum, All, all-in, all-at, held-in, length-sum}
 use Rattle.words.proofs.Overlaps.{overlapFor-fits}
@@ -21,7 +21,7 @@ use Rattle.trays.specs.declared.Settings.{Settings}
 use Rattle.trays.specs.Slips.{slipsOf, slip, numbers}
 use Rattle.trays.specs.Aside.{counted}
 use Rattle.trays.specs.Faults.{trayFault}
-use Rattle.trays.proofs.Accepted.{accepted-tells, slips-count}
+use Rattle.trays.proofs.Accepted.{accepted-tells, slips-count, numbers-count}
 use Rattle.trays.proofs.Spans.{accepted-spanned}
 use Rattle.greedy.specs.Joins.{Join}
 use Rattle.greedy.specs.Orders.{weight}
@@ -61,17 +61,19 @@ module _ (s es : List ℕ) (acc : trayFault s es .number ≡ 0) where
       let (Cs, R) = joins-rep s es acc g in
       omega (arith, R .count, fewer Cs (maxSlips - 1) (omega (arith, chains-fewer Cs, R .all (λ i. 1), length-sum K, kept-few s es acc)))
 
-  pub compose-fits : ComposeFits ss
+  pub compose-fits : ComposeFits (whole usual ss)
   compose-fits =
       let n : length ss ≡ length es = slips-count s es in
+      let real : (i : ℕ) → In i (numbers ss) → (1 ≤ i) × (i ≤ length es) = λ i m. omega (arith, in-upFrom 1 (length ss) m) in
       record {
-        slips = omega (arith, few);
+        slips = omega (arith, few, numbers-count s es);
         kept-slips = kept-few s es acc;
         letters = kept-small s es acc;
         saved-letters = omega (arith, kept-small s es acc, greedy-of (whole usual ss) (numbers-real ss) .saving);
         legend = legend-small s es acc usual;
-        lengths = λ i p l. accepted-spanned s es acc .short i p (omega arith);
-        places = λ i p l. omega (arith, legend-small s es acc usual, place-most s es acc usual i p (omega arith));
+        numbers = λ i m. omega (arith, few, real i m);
+        lengths = λ i m. accepted-spanned s es acc .short i (real i m .0) (real i m .1);
+        places = λ i m. omega (arith, legend-small s es acc usual, place-most s es acc usual i (real i m .0) (real i m .1));
         joins =
             all-in JoinFits (joinsOf (whole usual ss))
             (λ j m. join-fits j (all-at (Arc (weight (counted 1) ss) K) (joinsOf (whole usual ss)) j (joins-rep s es acc usual .1 .arcs) m));
@@ -112,7 +114,7 @@ module _ (ss : List (List ℕ)) (few : length ss ≤ maxSlips) (t : List ℕ) (s
 
 pub find-fits : (s es t : List ℕ) → trayFault s es .number ≡ 0 → length t ≤ maxText → FindFits (slipsOf s es) t
 find-fits s es t acc small =
-    let few : length (slipsOf s es) ≤ maxSlips = compose-fits s es acc .slips in
+    let few : length (slipsOf s es) ≤ maxSlips = omega (arith, slips-count s es, accepted-tells s es acc .few) in
     record {
       moves-few = omega (arith, few-moves s es t acc);
       found = occurrences-fit (slipsOf s es) few t small;

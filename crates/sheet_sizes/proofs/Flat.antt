@@ -14,7 +14,7 @@ use Rattle.words.proofs.Runs.{length-upFrom, upFrom-at}
 use Rattle.trays.specs.Slips.{slipsOf, slip, numbers, startOf, endOf}
 use Rattle.trays.specs.Aside.{isAside}
 use Rattle.trays.specs.Faults.{trayFault}
-use Rattle.trays.proofs.Accepted.{slips-count}
+use Rattle.trays.proofs.Accepted.{slips-count, numbers-count}
 use Rattle.trays.proofs.Spans.{accepted-spanned}
 use Rattle.greedy.specs.Joins.{Join, join}
 use Rattle.greedy.specs.Composing.{usual, whole, joinsOf, legendOf}
@@ -24,7 +24,7 @@ use Rattle.answers.specs.Composing.{outcomeOf, joinCells, flatJoins, placeCells
 use Rattle.answers.specs.Finding.{flatFound}
 use Rattle.answers.proofs.FlatLists.{joins-at, found-at, places-at}
 use Rattle.sheet_rule.specs.Sheets.{asideSign, keptSign, signOf, joinLine, slipLineOf, slipLineAt, joinLineAt}
-use Rattle.sheet_rule.specs.Sheets.{foundLine, foundLineAt, lines, composeLines, composeSheetOf, findLines, findSheetOf}
+use Rattle.sheet_rule.specs.Sheets.{foundLine, foundLineAt, lines, composeLines, sideSheetOf, composeSheetOf, findLines, findSheetOf}
 
 -- lines by index
 each-from : {A : Type 0} (d : A) (f : ℕ → List ℕ) (g : A → List ℕ) (k : ℕ) (xs : List A) → ((i : ℕ) → i < length xs → f (k + i) ≡ g (getD xs i d)) →
@@ -60,7 +60,7 @@ module _ (s es : List ℕ) (acc : trayFault s es .number ≡ 0) where
   abbrev ss : List (List ℕ)
   ss = slipsOf s es
 
-  slip-flat : (i : ℕ) → i < length es → slipLineAt es (flatPlaces (whole usual ss)) i ≡ slipLineOf ss (suc i)
+  slip-flat : (i : ℕ) → i < length es → slipLineAt es (flatPlaces (whole usual ss)) i ≡ slipLineOf (whole usual ss) (suc i)
   slip-flat i h =
       let n : endOf es (suc i) - startOf es (suc i) ≡ length (slip ss (suc i)) = omega (arith, accepted-spanned s es acc .long (suc i) (omega arith) h) in
       let l : i < length ss = rw (slips-count s es) h in
@@ -68,19 +68,19 @@ module _ (s es : List ℕ) (acc : trayFault s es .number ≡ 0) where
       let mark = places-at (whole usual ss) i 1 (placeCells * i + 1) l (omega arith) refl in
       rw (add-one i, n, place, mark, sign-flat (isAside ss (numbers ss) (suc i)))
 
-  slips-flat : lines (slipLineAt es (flatPlaces (whole usual ss))) (length es) ≡ each (slipLineOf ss) (numbers ss)
+  slips-flat : lines (slipLineAt es (flatPlaces (whole usual ss))) (length es) ≡ each (slipLineOf (whole usual ss)) (numbers ss)
   slips-flat =
-      let n : length (numbers ss) ≡ length es = length-upFrom 1 (length ss) ∙ slips-count s es in
+      let n = numbers-count s es in
       ap (lines (slipLineAt es (flatPlaces (whole usual ss)))) (sym n)
-      ∙ lines-each 0 (slipLineAt es (flatPlaces (whole usual ss))) (slipLineOf ss) (numbers ss)
+      ∙ lines-each 0 (slipLineAt es (flatPlaces (whole usual ss))) (slipLineOf (whole usual ss)) (numbers ss)
       (λ i h.
       let k : getD (numbers ss) i 0 ≡ suc i = upFrom-at 1 (length ss) i (omega (arith, length-upFrom 1 (length ss))) ∙ omega arith in
-      slip-flat i (omega arith) ∙ ap (slipLineOf ss) (sym k))
+      slip-flat i (omega arith) ∙ ap (slipLineOf (whole usual ss)) (sym k))
 
   -- what compose_lines writes, over the numbers that composing leaves
   pub compose-lines-are :
       let c = whole usual ss in composeLines (outcomeOf c) es (flatJoins (joinsOf c)) (flatPlaces c) (legendOf c) ≡ composeSheetOf ss
-  unfolding composeSheetOf
+  unfolding sideSheetOf
   compose-lines-are = rw (slips-flat, joins-flat (joinsOf (whole usual ss)))
 
 -- what find_lines writes, over the numbers of the occurrences

@@ -9,6 +9,7 @@ use native.Mathlib.Nat.{mul-suc, mul-zero}
 use native.Mathlib.Omega.{arith}
 use lib.ListN.{length, getD, length-append}
 use Rattle.words.specs.Lists.{each, upFrom}
+use Rattle.words.proofs.Members.{upFrom-in}
 use Rattle.words.proofs.Sums.{All, all-at}
 use Rattle.words.proofs.Picks.{getD-in}
 use Rattle.words.proofs.Maps.{all-each}
@@ -16,7 +17,7 @@ use Rattle.trays.specs.declared.Refusal.{Refusal}
 use Rattle.trays.specs.Limits.{maxText}
 use Rattle.trays.specs.Slips.{slipsOf}
 use Rattle.trays.specs.Faults.{trayFault}
-use Rattle.trays.proofs.Accepted.{slips-count, span-rises}
+use Rattle.trays.proofs.Accepted.{numbers-count, slips-count, span-rises}
 use Rattle.trays.proofs.Spans.{accepted-spanned}
 use Rattle.greedy.specs.Composing.{usual, whole, joinsOf, legendOf}
 use Rattle.matching.specs.Moves.{moves}
@@ -116,12 +117,12 @@ module _ (s es : List ℕ) (acc : trayFault s es .number ≡ 0) where
       let F = compose-fits s es acc in
       let n : length ss ≡ length es = slips-count s es in
       record {
-        few = omega (arith, F .slips);
+        few = omega (arith, F .slips, numbers-count s es);
         rise = λ i h. omega (arith, span-rises s es acc (suc i) (omega arith) h);
         small = λ i h. omega (arith, accepted-spanned s es acc .fits (suc i) h);
         placed = λ i h.
             let at = places-at (whole usual ss) i 0 (placeCells * i) (omega arith) (omega arith) (omega arith) in
-            omega (arith, at, F .places (suc i) (omega arith) (omega arith));
+            omega (arith, at, F .places (suc i) (upFrom-in 1 (length ss) (suc i) (omega arith) (omega arith)));
         places = omega (arith, places-length (whole usual ss));
       }
 
@@ -149,7 +150,7 @@ module _ (s es : List ℕ) (acc : trayFault s es .number ≡ 0) where
         };
         slips = slips-fit;
         joins = joins-fit;
-        room-is = omega (arith, F .slips, F .count, F .legend, slips-count s es);
+        room-is = omega (arith, F .slips, F .count, F .legend, numbers-count s es);
       }
 
   pub compose-most : length (composeSheetOf ss) ≤ composeRoom

@@ -1,17 +1,17 @@
 -- Every number that is printed fits its columns.
---   ComposeFits ss   == the numbers of the `compose` sheet are within the rules' limits
+--   ComposeFits c    == the numbers of the `compose` sheet of what is composed are within the rules' limits
 --   FindFits ss t    == those of the `find` sheet
 --   RefusalFits f    == a refusal's number has at most two digits, and its detail fits
 use Prim.Native.Nat.{ℕ, _*_, _-_, _^_, _≤_, _<_}
 use mathlib.Core.List.{List}
 use lib.ListN.{length}
 use Rattle.words.specs.Lists.{All}
+use Rattle.words.specs.steps.Members.{In}
 use Rattle.trays.specs.declared.Refusal.{Refusal}
 use Rattle.trays.specs.Limits.{maxSlips, maxSlip, maxLetters, maxText}
-use Rattle.trays.specs.Slips.{slip, numbers}
-use Rattle.trays.specs.Aside.{kept}
+use Rattle.trays.specs.Slips.{slip}
 use Rattle.greedy.specs.Joins.{Join, saved}
-use Rattle.greedy.specs.Composing.{usual, whole, joinsOf, legendOf, placeOf, keptLetters}
+use Rattle.greedy.specs.Composing.{Composing, keptOf, joinsOf, legendOf, placeOf, keptLetters}
 use Rattle.matching.specs.Moves.{moves}
 use Rattle.matching.specs.Occurrences.{Occurrence, occurrences}
 use Rattle.sheet_rule.specs.Sheets.{detailWidth}
@@ -19,16 +19,17 @@ use Rattle.sheet_rule.specs.Sheets.{detailWidth}
 abbrev pub JoinFits : Join → Type 0
 JoinFits j = (j .left ≤ maxSlips) × (j .right ≤ maxSlips) × (j .overlap ≤ maxSlip)
 
-pub record ComposeFits (ss : List (List ℕ)) : Type 0 where
-  pub slips : length ss ≤ maxSlips
-  pub kept-slips : length (kept ss (numbers ss)) ≤ maxSlips
-  pub letters : keptLetters (whole usual ss) ≤ maxLetters
-  pub saved-letters : saved (joinsOf (whole usual ss)) ≤ maxLetters
-  pub legend : length (legendOf (whole usual ss)) ≤ maxLetters
-  pub lengths : (i : ℕ) → 1 ≤ i → i ≤ length ss → length (slip ss i) ≤ maxSlip
-  pub places : (i : ℕ) → 1 ≤ i → i ≤ length ss → placeOf (whole usual ss) i ≤ maxLetters
-  pub joins : All JoinFits (joinsOf (whole usual ss))
-  pub count : length (joinsOf (whole usual ss)) ≤ maxSlips - 1
+pub record ComposeFits (c : Composing) : Type 0 where
+  pub slips : length (c .members) ≤ maxSlips
+  pub kept-slips : length (keptOf c) ≤ maxSlips
+  pub letters : keptLetters c ≤ maxLetters
+  pub saved-letters : saved (joinsOf c) ≤ maxLetters
+  pub legend : length (legendOf c) ≤ maxLetters
+  pub numbers : (i : ℕ) → In i (c .members) → i ≤ maxSlips
+  pub lengths : (i : ℕ) → In i (c .members) → length (slip (c .slips) i) ≤ maxSlip
+  pub places : (i : ℕ) → In i (c .members) → placeOf c i ≤ maxLetters
+  pub joins : All JoinFits (joinsOf c)
+  pub count : length (joinsOf c) ≤ maxSlips - 1
 
 abbrev pub OccurrenceFits : Occurrence → Type 0
 OccurrenceFits f = (f .end ≤ maxText) × (f .which ≤ maxSlips)

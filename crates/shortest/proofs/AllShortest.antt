@@ -9,7 +9,8 @@ use Prim.Native.String.{String}
 use lib.ListN.{length}
 use Rattle.words.specs.Quoted.{word}
 use Rattle.trays.specs.declared.Settings.{Settings}
-use Rattle.greedy.specs.Composing.{usual, whole}
+use Rattle.trays.specs.Sides.{obverse}
+use Rattle.greedy.specs.Composing.{usual, whole, sided}
 use Rattle.greedy.specs.Claims.{holdsAll}
 use Rattle.shortest.specs.Orders.{shortestOrder, shortestLegend}
 
@@ -79,3 +80,12 @@ pub shorter-by-one :
     let ss = map word ("AB" ∷ "BC" ∷ []) in
     (holdsAll ss (1 ∷ 2 ∷ []) (word "ABC") ≡ true) × (length (word "ABC") ≡ 3) × (length (shortestLegend (whole (record { least = 2 }) ss)) ≡ 4)
 shorter-by-one = (refl, refl, refl)
+
+-- The slips of a side alone, by their numbers in the tray; of all four together the order is another.
+abbrev four : List (List ℕ)
+four = map word ("CAB" ∷ "ABC" ∷ "BCA" ∷ "BA" ∷ [])
+
+pub side-computed :
+    let c = sided usual obverse (word " ORO") four in
+    (shortestOrder c ≡ 4 ∷ 2 ∷ []) × (shortestLegend c ≡ word "BABC") × (shortestOrder (whole usual four) ≡ 2 ∷ 3 ∷ 1 ∷ 4 ∷ [])
+side-computed = (refl, refl, refl)

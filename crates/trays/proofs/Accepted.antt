@@ -13,10 +13,11 @@ use lib.ListN.{length, getD, take, drop}
 use lib.Seq.{drop-drop}
 use Rattle.words.specs.Lists.{any, lastOr}
 use Rattle.words.proofs.Tests.{by-test, neither}
+use Rattle.words.proofs.Runs.{length-upFrom}
 use Rattle.words.proofs.Sums.{All}
 use Rattle.trays.specs.declared.Refusal.{Refusal}
 use Rattle.trays.specs.Limits.{maxSlips, maxSlip, maxLetters}
-use Rattle.trays.specs.Slips.{slipsFrom, slipsOf, slip, isLetter, startOf, endOf}
+use Rattle.trays.specs.Slips.{slipsFrom, slipsOf, slip, numbers, isLetter, startOf, endOf}
 use Rattle.trays.specs.Faults.{row, firstRow, trayRowsFor, trayFault, notAbove, tooLong, badSlip}
 use Rattle.trays.proofs.Rising.{above-rest}
 use Rattle.trays.proofs.Rows.{both-silent, slip-zero}
@@ -147,3 +148,6 @@ count-slips here s (e ∷ es) = ap suc (count-slips e (drop (e - here) s) es)
 
 pub slips-count : (s es : List ℕ) → length (slipsOf s es) ≡ length es
 slips-count s es = count-slips 0 s es
+
+pub numbers-count : (s es : List ℕ) → length (numbers (slipsOf s es)) ≡ length es
+numbers-count s es = length-upFrom 1 (length (slipsOf s es)) ∙ slips-count s es
