@@ -1,0 +1,2 @@
+-- Computed specimens of the definitions on rows. The outcomes are worked out by hand. Modules are checked in the order of their names: an edited definition is
+-- refused here first.

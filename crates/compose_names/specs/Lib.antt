@@ -1,0 +1,2 @@
+-- compose_names
+pub mod steps
