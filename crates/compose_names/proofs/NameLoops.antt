@@ -1,31 +1,30 @@
 -- The two loops: one row after another.
---   rows-..   == rows g 0, g 1, .. of one size: one row more, what the table holds, and which cells have changed
---   named-..  == the joins: at the start, what a turn asks, one more, all
+--   rows-..   == rows g 0, g 1, .. of one size: none, one more, what the table holds then, and which cells have changed
+--   named-..  == the joins: what a turn asks, one more, all
 --   made-..   == the records of places: the same
 -- A row is read from cells below the table into which it is put, so that a turn finds there what was there at the start.
 use mathlib.Core.Path.{_≡_, refl, sym, ap, subst, _∙_}
 use mathlib.Core.List.{List, [], _∷_, _++_, map, append-nil}
-use Prim.Native.Nat.{ℕ, suc, _+_, _*_, _≤_, _<_}
+use Prim.Native.Nat.{ℕ, _+_, _*_, _≤_, _<_}
 use native.Mathlib.Nat.{zero-add}
 use native.Mathlib.Numerals.{add-one}
 use native.Mathlib.Omega.{arith}
 use lib.ListN.{length, getD}
-use Rattle.words.specs.Lists.{All, each, entry, upFrom}
+use Rattle.words.specs.Lists.{each, entry, upFrom}
 use Rattle.words.proofs.Members.{each-append}
 use Rattle.words.proofs.Runs.{length-upFrom, upFrom-more}
 use Rattle.words.proofs.FlatLists.{flat-length}
-use Rattle.trays.specs.Limits.{maxSlips}
 use Rattle.tables.specs.Tables.{table, Cells, Only}
 use Rattle.tables.proofs.Tables.{only-refl, only-wider}
 use Rattle.greedy.specs.Joins.{Join, rejoin}
 use Rattle.answers.specs.Composing.{joinCells, placeCells, recordCells, joinNumbers, flatJoins}
 use Rattle.layout.specs.Layout.{JOINS, PLACES, NAMED, allJoins, RECORDS, allRecords}
-use Rattle.layout.specs.Staging.{joinIn, joinsIn}
+use Rattle.layout.specs.Staging.{joinIn}
 use Rattle.compose_names.specs.steps.Naming.{RowPut, SlipsIn, namedIn, JoinAsks, NamesAsk, JoinsNamed}
 use Rattle.compose_names.specs.steps.Naming.{recordIn, RecordAsks, RecordsAsk, RecordsMade}
 use Rattle.compose_names.proofs.Rows.{row-append}
 
-rows-none : (base : ℕ) (w : List ℕ) → RowPut base 0 [] w w
+pub rows-none : (base : ℕ) (w : List ℕ) → RowPut base 0 [] w w
 unfolding table
 rows-none base w = record { row = refl; only = only-refl }
 
@@ -55,66 +54,65 @@ module _ (base size : ℕ) (g : ℕ → List ℕ) (long : (i : ℕ) → length (
   rows-only : (all : ℕ) → size * i ≤ all → Only (Cells base all) w w′
   rows-only all h = only-wider (f .only) (λ p c. record { from = omega (arith, c .from); below = omega (arith, c .below, rows-length) })
 
--- joins
+-- joins: their numbers are the rows
 named-flat : (w N is : List ℕ) → flatJoins (map (rejoin (entry N)) (map (joinIn w) is)) ≡ each (namedIn w N) is
 named-flat w N [] = refl
 named-flat w N (i ∷ is) = ap (λ (l : List ℕ). namedIn w N i ++ l) (named-flat w N is)
 
-module _ (N : List ℕ) (k : ℕ) (w : List ℕ) (h : NamesAsk w N k) where
-  pub named-none : RowPut NAMED 0 (each (namedIn w N) (upFrom 0 0)) w w
-  named-none = rows-none NAMED w
+module _ (N : List ℕ) (k : ℕ) (w : List ℕ) (h : NamesAsk w N k) (i : ℕ) (w′ : List ℕ) (f : RowPut NAMED 0 (each (namedIn w N) (upFrom 0 i)) w w′) where
+  join-same : i < k → joinIn w′ i ≡ joinIn w i
+  join-same l =
+      rw (
+        rows-below (JOINS + joinCells * i) f (omega (arith, h .few)),
+        rows-below (JOINS + (joinCells * i + 1)) f (omega (arith, h .few)),
+        rows-below (JOINS + (joinCells * i + 2)) f (omega (arith, h .few)),
+      )
 
-  module _ (i : ℕ) (w′ : List ℕ) (f : RowPut NAMED 0 (each (namedIn w N) (upFrom 0 i)) w w′) where
-    join-same : i < k → joinIn w′ i ≡ joinIn w i
-    join-same l =
-        rw (rows-below (JOINS + joinCells * i) f (omega (arith, h .few)), rows-below (JOINS + (joinCells * i + 1)) f (omega (arith, h .few)),
-        rows-below (JOINS + (joinCells * i + 2)) f (omega (arith, h .few)))
+  pub named-asks : i < k → JoinAsks w′ N i
+  named-asks l =
+      record {
+        room = omega (arith, h .room, f .only .same);
+        few = omega (arith, h .few);
+        slips-in = subst (λ (j : Join). SlipsIn N j) (sym (join-same l)) (h .slips-in i l);
+      }
 
-    pub named-asks : i < k → JoinAsks w′ N i
-    named-asks l =
-        record {
-          room = omega (arith, h .room, f .only .same);
-          few = omega (arith, h .few);
-          slips-in = subst (λ (j : Join). SlipsIn N j) (sym (join-same l)) (h .slips-in i l);
-        }
+  pub named-more : i < k → (w″ : List ℕ) (i′ : ℕ) → RowPut NAMED (joinCells * i) (namedIn w′ N i) w′ w″ → i′ ≡ i + 1
+      → RowPut NAMED 0 (each (namedIn w N) (upFrom 0 i′)) w w″
+  named-more l w″ i′ r s =
+      rows-more NAMED joinCells (namedIn w N) (λ n. refl) w i w′ f (namedIn w′ N i) w″ i′ r
+      (ap (λ (j : Join). joinNumbers (rejoin (entry N) j)) (join-same l)) s
 
-    pub named-more : i < k → (w″ : List ℕ) (i′ : ℕ) → RowPut NAMED (joinCells * i) (namedIn w′ N i) w′ w″ → i′ ≡ i + 1
-        → RowPut NAMED 0 (each (namedIn w N) (upFrom 0 i′)) w w″
-    named-more l w″ i′ r s =
-        rows-more NAMED joinCells (namedIn w N) (λ n. refl) w i w′ f (namedIn w′ N i) w″ i′ r
-        (ap (λ (j : Join). joinNumbers (rejoin (entry N) j)) (join-same l)) s
-
-    pub named-all : i ≤ k → k ≤ i → JoinsNamed N k w w′
-    named-all a b =
-        let e : i ≡ k = omega arith in
-        record {
-          joins-are = rw e at (rows-are NAMED joinCells (namedIn w N) (λ n. refl) w i w′ f) ∙ sym (named-flat w N (upFrom 0 k));
-          only = rows-only NAMED joinCells (namedIn w N) (λ n. refl) w i w′ f allJoins (omega (arith, h .few));
-        }
+  pub named-all : i ≤ k → k ≤ i → JoinsNamed N k w w′
+  named-all a b =
+      let e : i ≡ k = omega arith in
+      record {
+        joins-are = rw e at (rows-are NAMED joinCells (namedIn w N) (λ n. refl) w i w′ f) ∙ sym (named-flat w N (upFrom 0 k));
+        only = rows-only NAMED joinCells (namedIn w N) (λ n. refl) w i w′ f allJoins (omega (arith, h .few));
+      }
 
 -- records of places
-module _ (N : List ℕ) (b k : ℕ) (w : List ℕ) (h : RecordsAsk w N k) where
-  pub made-none : RowPut RECORDS 0 (each (recordIn w N b) (upFrom 0 0)) w w
-  made-none = rows-none RECORDS w
+module _ (N : List ℕ) (b k : ℕ) (w : List ℕ) (h : RecordsAsk w N k) (i : ℕ) (w′ : List ℕ)
+    (f : RowPut RECORDS 0 (each (recordIn w N b) (upFrom 0 i)) w w′) where
+  record-same : i < k → recordIn w′ N b i ≡ recordIn w N b i
+  record-same l =
+      rw (
+        rows-below (PLACES + placeCells * i) f (omega (arith, h .few)),
+        rows-below (PLACES + (placeCells * i + 1)) f (omega (arith, h .few)),
+        rows-below (PLACES + (placeCells * i + 2)) f (omega (arith, h .few)),
+      )
 
-  module _ (i : ℕ) (w′ : List ℕ) (f : RowPut RECORDS 0 (each (recordIn w N b) (upFrom 0 i)) w w′) where
-    record-same : i < k → recordIn w′ N b i ≡ recordIn w N b i
-    record-same l =
-        rw (rows-below (PLACES + placeCells * i) f (omega (arith, h .few)), rows-below (PLACES + (placeCells * i + 1)) f (omega (arith, h .few)),
-        rows-below (PLACES + (placeCells * i + 2)) f (omega (arith, h .few)))
+  pub made-asks : i < k → RecordAsks w′ N i
+  made-asks l = record { room = omega (arith, h .room, f .only .same); few = omega (arith, h .few); there = omega (arith, h .there) }
 
-    pub made-asks : i < k → RecordAsks w′ N i
-    made-asks l = record { room = omega (arith, h .room, f .only .same); few = omega (arith, h .few); there = omega (arith, h .there) }
+  pub made-more : i < k → (w″ : List ℕ) (i′ : ℕ) → RowPut RECORDS (recordCells * i) (recordIn w′ N b i) w′ w″ → i′ ≡ i + 1
+      → RowPut RECORDS 0 (each (recordIn w N b) (upFrom 0 i′)) w w″
+  made-more l w″ i′ r s =
+      rows-more RECORDS recordCells (recordIn w N b) (λ n. refl) w i w′ f (recordIn w′ N b i) w″ i′ r (record-same l) s
 
-    pub made-more : i < k → (w″ : List ℕ) (i′ : ℕ) → RowPut RECORDS (recordCells * i) (recordIn w′ N b i) w′ w″ → i′ ≡ i + 1
-        → RowPut RECORDS 0 (each (recordIn w N b) (upFrom 0 i′)) w w″
-    made-more l w″ i′ r s =
-        rows-more RECORDS recordCells (recordIn w N b) (λ n. refl) w i w′ f (recordIn w′ N b i) w″ i′ r (record-same l) s
-
-    pub made-all : i ≤ k → k ≤ i → RecordsMade N b k w w′
-    made-all a c =
-        let e : i ≡ k = omega arith in
-        record {
-          records-are = rw e at (rows-are RECORDS recordCells (recordIn w N b) (λ n. refl) w i w′ f);
-          only = rows-only RECORDS recordCells (recordIn w N b) (λ n. refl) w i w′ f allRecords (omega (arith, h .few));
-        }
+  pub made-all : i ≤ k → k ≤ i → RecordsMade N b k w w′
+  made-all a c =
+      let e : i ≡ k = omega arith in
+      record {
+        records-are = rw e at (rows-are RECORDS recordCells (recordIn w N b) (λ n. refl) w i w′ f);
+        only = rows-only RECORDS recordCells (recordIn w N b) (λ n. refl) w i w′ f allRecords (omega (arith, h .few));
+      }

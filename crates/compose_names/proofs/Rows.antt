@@ -1,14 +1,15 @@
 -- Rows of numbers, put after the first cells of a table.
 --   row-one      == one store is a row of one number
---   row-append   == a row put after a row: one row
+--   row-append   == a row put after a row: together one row
 --   three-put    == three stores
+--   number-at    == the number of slip i is the one at i - 1
 --   join-named   == the row of one join
---   record-made  == the row of one record: its slip, the three numbers of its place, its side
--- All but the first are rows appended to rows.
-use mathlib.Core.Path.{_≡_, refl, sym, ap, _∙_}
+--   record-made  == the row of one record: its number, the three numbers of its place, its side
+-- A row of several numbers is put as shorter rows, one after another.
+use mathlib.Core.Path.{_≡_, refl, ap, _∙_}
 use mathlib.Core.List.{List, [], _∷_, _++_, append-assoc}
 use Prim.Native.Nat.{ℕ, zero, suc, _+_, _-_, _*_, _≤_, _<_}
-use native.Mathlib.Numerals.{sub-one}
+use native.Mathlib.Numerals.{add-one, sub-one}
 use native.Mathlib.Omega.{arith}
 use lib.ListN.{length, getD, length-append}
 use Rattle.words.specs.Lists.{entry}
@@ -16,7 +17,7 @@ use Rattle.tables.specs.Tables.{Got, Put, table}
 use Rattle.tables.proofs.Tables.{put-more, put-only, only-trans, only-wider}
 use Rattle.answers.specs.Composing.{joinCells, placeCells, recordCells}
 use Rattle.layout.specs.Layout.{JOINS, PLACES, NAMED, RECORDS}
-use Rattle.compose_names.specs.steps.Naming.{RowAsks, RowPut, JoinAsks, namedIn, RecordAsks, recordIn}
+use Rattle.compose_names.specs.steps.Naming.{RowAsks, RowPut, namedIn, RecordAsks, recordIn}
 
 row-one : {base n x : ℕ} {w w′ : List ℕ} → base + n < length w → Put w base n x w′ → RowPut base n (x ∷ []) w w′
 row-one {base} {n} {x} {w} {w′} h p =
@@ -42,23 +43,18 @@ module _ (base n a b c : ℕ) (w : List ℕ) (h : RowAsks base n (a ∷ (b ∷ (
       let z = row-one (omega (arith, h .room, p .same, q .same)) r in
       row-append base n (n + 2) (a ∷ (b ∷ [])) (c ∷ []) w w₂ w₃ (row-append base n (n + 1) (a ∷ []) (b ∷ []) w w₁ w₂ x y refl) z refl
 
--- a number of the list, counted from 1
-entry-at : (N : List ℕ) (i : ℕ) → 1 ≤ i → getD N (i - 1) 0 ≡ entry N i
-entry-at N zero h = absurd (omega arith)
-entry-at N (suc i) h = rw sub-one
+pub number-at : (N : List ℕ) (i r : ℕ) → 1 ≤ i → r ≡ getD N (i - 1) 0 → r ≡ entry N i
+number-at N zero r h e = absurd (omega arith)
+number-at N (suc i) r h e = e ∙ rw sub-one
 
-module _ (w N : List ℕ) (i : ℕ) (h : JoinAsks w N i) where
-  pub join-named : (l r o x y : ℕ) (w′ : List ℕ) → Got w JOINS (joinCells * i) l → Got w JOINS (joinCells * i + 1) r → Got w JOINS (joinCells * i + 2) o
-      → x ≡ getD N (l - 1) 0 → y ≡ getD N (r - 1) 0 → RowPut NAMED (joinCells * i) (x ∷ (y ∷ (o ∷ []))) w w′
-      → RowPut NAMED (joinCells * i) (namedIn w N i) w w′
-  join-named l r o x y w′ a b c d e f =
-      let left : x ≡ entry N l = d ∙ entry-at N l (omega (arith, a .is, h .slips-in .left)) in
-      let right : y ≡ entry N r = e ∙ entry-at N r (omega (arith, b .is, h .slips-in .right)) in
-      rw (left, right, a .is, b .is, c .is) at f
+pub join-named : (w N : List ℕ) (i l r o x y : ℕ) (w′ : List ℕ) → Got w JOINS (joinCells * i) l → Got w JOINS (joinCells * i + 1) r
+    → Got w JOINS (joinCells * i + 2) o → (x ≡ entry N l) × (x < 65536) → (y ≡ entry N r) × (y < 65536)
+    → RowPut NAMED (joinCells * i) (x ∷ (y ∷ (o ∷ []))) w w′ → RowPut NAMED (joinCells * i) (namedIn w N i) w w′
+join-named w N i l r o x y w′ a b c d e f = rw (d .0, e .0, a .is, b .is, c .is) at f
 
 module _ (w N : List ℕ) (i : ℕ) (h : RecordAsks w N i) where
   pub record-made : (b s p k o : ℕ) (w₁ w₂ w₃ : List ℕ) → Got w PLACES (placeCells * i) p → Got w PLACES (placeCells * i + 1) k
-      → Got w PLACES (placeCells * i + 2) o → s ≡ getD N i 0 → Put w RECORDS (recordCells * i) s w₁
+      → Got w PLACES (placeCells * i + 2) o → (s ≡ entry N (i + 1)) × (s < 65536) → Put w RECORDS (recordCells * i) s w₁
       → RowPut RECORDS (recordCells * i + 1) (p ∷ (k ∷ (o ∷ []))) w₁ w₂ → Put w₂ RECORDS (recordCells * i + 1 + placeCells) b w₃
       → RowPut RECORDS (recordCells * i) (recordIn w N b i) w w₃
   record-made b s p k o w₁ w₂ w₃ is-p is-k is-o is-s first three last =
@@ -68,4 +64,4 @@ module _ (w N : List ℕ) (i : ℕ) (h : RecordAsks w N i) where
       let f =
       row-append RECORDS n (n + 1 + placeCells) (s ∷ (p ∷ (k ∷ (o ∷ [])))) (b ∷ []) w w₂ w₃
       (row-append RECORDS n (n + 1) (s ∷ []) (p ∷ (k ∷ (o ∷ []))) w w₁ w₂ x three refl) z (omega arith) in
-      rw (is-s, is-p .is, is-k .is, is-o .is) at f
+      rw (is-s .0, add-one i, is-p .is, is-k .is, is-o .is) at f

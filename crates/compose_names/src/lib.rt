@@ -1,7 +1,10 @@
 // Joins and records of places of a tray that was cut out of another, told by the numbers that its slips have in that other tray. Composing stages both by
 // the numbers of the cut tray; `slips` lists the other numbers, that of slip 1 first.
+ghost use mathlib.Core.Path.{_≡_};
 ghost use mathlib.Core.List.{[], _∷_};
-ghost use Prim.Native.Nat.{_*_};
+ghost use Prim.Native.Nat.{_*_, _≤_, _<_};
+ghost use lib.ListN.{length};
+ghost use Rattle.words.specs.Lists.{entry};
 ghost use Rattle.answers.specs.Composing.{joinCells, recordCells};
 ghost use Rattle.layout.specs.Layout as L;
 ghost use Rattle.compose_names.specs.steps.Naming as N;
@@ -15,6 +18,14 @@ use layout::RECORDS;
 use tables::at;
 use tables::put;
 use tables::wide;
+
+// The number in `slips` of slip `i` of the cut tray.
+fn number_of(slips: &[u16], i: usize) -> usize
+    requires { ⌜ (1 ≤ i) × (i ≤ length (now slips)) ⌝ }
+    ensures { λ r. ⌜ (r ≡ entry (now (slips .entry)) i) × (r < 65536) ⌝ }
+{
+    wide(slips[i - 1])
+}
 
 // Puts three numbers after the first `n` cells of the table at `base`.
 fn put_three(work: &mut [u16], base: usize, n: usize, a: usize, b: usize, c: usize)
@@ -36,9 +47,9 @@ fn name_join(work: &mut [u16], slips: &[u16], i: usize)
     let left = at(work, JOINS, row);
     let right = at(work, JOINS, row + 1);
     let overlap = at(work, JOINS, row + 2);
-    let left_slip = wide(slips[left - 1]);
-    let right_slip = wide(slips[right - 1]);
-    put_three(work, NAMED, row, left_slip, right_slip, overlap);
+    let left_number = number_of(slips, left);
+    let right_number = number_of(slips, right);
+    put_three(work, NAMED, row, left_number, right_number, overlap);
 }
 
 // Puts the first `count` staged joins, their slips by their numbers in `slips`.
@@ -63,9 +74,10 @@ fn make_record(work: &mut [u16], slips: &[u16], side: u8, i: usize)
     let place = at(work, PLACES, from);
     let kept = at(work, PLACES, from + 1);
     let compared = at(work, PLACES, from + 2);
-    let slip = wide(slips[i]);
+    let slip = i + 1;
+    let number = number_of(slips, slip);
     let row = RECORD_CELLS * i;
-    put(work, RECORDS, row, slip);
+    put(work, RECORDS, row, number);
     put_three(work, RECORDS, row + 1, place, kept, compared);
     put(work, RECORDS, row + 1 + PLACE_CELLS, side as usize);
 }
