@@ -19,7 +19,7 @@ use tables::at;
 use tables::put;
 use tables::wide;
 
-// The number in `slips` of slip `i` of the cut tray.
+// The number that slip `i` of the cut tray has in the other tray.
 fn number_of(slips: &[u16], i: usize) -> usize
     requires { ⌜ (1 ≤ i) × (i ≤ length (now slips)) ⌝ }
     ensures { λ r. ⌜ (r ≡ entry (now (slips .entry)) i) × (r < 65536) ⌝ }
@@ -37,7 +37,7 @@ fn put_three(work: &mut [u16], base: usize, n: usize, a: usize, b: usize, c: usi
     put(work, base, n + 2, c);
 }
 
-// Puts join `i` of those staged, its slips by their numbers in `slips`.
+// Puts join `i` of those staged into the table NAMED, its slips by their numbers in `slips`.
 fn name_join(work: &mut [u16], slips: &[u16], i: usize)
     requires { ⌜ N.JoinAsks (now work) (now slips) i ⌝ }
     ensures { λ _. ⌜ N.RowPut L.NAMED (joinCells * i) (N.namedIn (now (work .entry)) (now (slips .entry)) i) (now (work .entry))
@@ -52,7 +52,7 @@ fn name_join(work: &mut [u16], slips: &[u16], i: usize)
     put_three(work, NAMED, row, left_number, right_number, overlap);
 }
 
-// Puts the first `count` staged joins, their slips by their numbers in `slips`.
+// Puts the first `count` staged joins into the table NAMED, their slips by their numbers in `slips`.
 pub fn name_joins(work: &mut [u16], slips: &[u16], count: usize)
     requires { ⌜ N.NamesAsk (now work) (now slips) count ⌝ }
     ensures { λ _. ⌜ N.JoinsNamed (now (slips .entry)) count (now (work .entry)) (now (work .exit)) ⌝ }
@@ -64,7 +64,7 @@ pub fn name_joins(work: &mut [u16], slips: &[u16], count: usize)
     }
 }
 
-// Puts the record of slip `i + 1`: its number in `slips`, its place as staged, and its side.
+// Puts the record of slip `i + 1` into the table RECORDS: its number in `slips`, its place as staged, and its side.
 fn make_record(work: &mut [u16], slips: &[u16], side: u8, i: usize)
     requires { ⌜ N.RecordAsks (now work) (now slips) i ⌝ }
     ensures { λ _. ⌜ N.RowPut L.RECORDS (recordCells * i) (N.recordIn (now (work .entry)) (now (slips .entry)) side i) (now (work .entry))
@@ -82,7 +82,7 @@ fn make_record(work: &mut [u16], slips: &[u16], side: u8, i: usize)
     put(work, RECORDS, row + 1 + PLACE_CELLS, side as usize);
 }
 
-// Puts the records of the first `count` slips, all of the one side.
+// Puts the records of the first `count` slips, all of one side, into the table RECORDS.
 pub fn make_records(work: &mut [u16], slips: &[u16], side: u8, count: usize)
     requires { ⌜ N.RecordsAsk (now work) (now slips) count ⌝ }
     ensures { λ _. ⌜ N.RecordsMade (now (slips .entry)) side count (now (work .entry)) (now (work .exit)) ⌝ }
