@@ -10,7 +10,9 @@ use Rattle.trays.proofs.Stored.{stored-trays}
 use Rattle.fold_rule.proofs.Bytes.{fold-table}
 use Rattle.fold_rule.proofs.Signs.{fold-sign}
 use Rattle.sheet_rule.proofs.Stored.{stored-files}
+use Rattle.sheet_rule.proofs.BlankSheets.{blank-sheets}
 use Rattle.claims.specs.Claims.{Demands}
+use Rattle.claims.proofs.Sides.{sides-alone, each-side}
 
 pub demands : Demands
 demands =
@@ -20,6 +22,8 @@ demands =
       stop-free = stop-free;
       all-tried = all-tried;
       shortest = shortest-legends;
+      sides-alone = sides-alone;
+      each-side = each-side;
       same-legend = same-legend-of;
       one-or-four = one-or-four;
       longest-endings = longest-endings;
@@ -28,4 +32,5 @@ demands =
       fold-sign = fold-sign;
       stored-trays = stored-trays;
       stored-files = stored-files;
+      blank-sheets = blank-sheets;
     }

@@ -7,6 +7,8 @@ use Rattle.merge_rule.specs.Claims.{Same-legend, One-or-four}
 use Rattle.trays.specs.Stored.{Stored-trays}
 use Rattle.fold_rule.specs.Claims.{Fold-table, Fold-sign}
 use Rattle.sheet_rule.specs.Stored.{Stored-files}
+use Rattle.sheet_rule.specs.Sides.{Blank-sheets}
+use Rattle.claims.specs.Sides.{Sides-alone, Each-side}
 
 pub record Demands : Type 0 where
   -- one list by both rules; kept letters = saved + legend length; the legend holds every kept slip; at most twice, with a least overlap of 1
@@ -21,6 +23,10 @@ pub record Demands : Type 0 where
   -- the shortest legend: no order has a shorter one, it holds every kept slip, it is at most as long as the composed one and, with a least
   -- overlap of 1 and where no kept slip begins with a stop, as any text that holds them
   pub shortest : Shortest-legends
+  -- each side of an accepted tray composes exactly as a tray that holds that side only, slip numbers being those of the whole tray
+  pub sides-alone : Sides-alone
+  -- and all that is claimed of composing a tray, the shortest legend included, is claimed of each of its sides
+  pub each-side : Each-side
   -- two trays merged: where the tray of both, written one after the other, is accepted, so is the outcome, and it has the same legend
   pub same-legend : Same-legend
   -- of two accepted trays the outcome can fail by 1 or 4 alone
@@ -36,3 +42,5 @@ pub record Demands : Type 0 where
   -- of the trays, and of the tray files, accepted under another limit of a slip's letters: 3 with the lowest slip that is too long now, or accepted still
   pub stored-trays : Stored-trays
   pub stored-files : Stored-files
+  -- where all sides are blank, the sheets of all sides are the one sheet of the tray
+  pub blank-sheets : Blank-sheets
