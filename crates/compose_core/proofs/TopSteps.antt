@@ -10,7 +10,7 @@ use Rattle.trays.specs.Limits.{workNeed}
 use Rattle.trays.specs.declared.Settings.{Settings}
 use Rattle.trays.specs.Slips.{slipsOf, numbers}
 use Rattle.trays.specs.Aside.{kept}
-use Rattle.trays.specs.Faults.{refusal, setFault}
+use Rattle.trays.specs.Faults.{refusal, setRows, setFault}
 use Rattle.trays.proofs.Rows.{speaking}
 use Rattle.trays.proofs.SetTrays.{set-tells}
 use Rattle.greedy.specs.Composing.{Composing, whole}
@@ -24,7 +24,7 @@ use Rattle.walk.specs.steps.Walking as W
 use Rattle.answers.specs.WorkArea.{workRow}
 use Rattle.answers.specs.declared.Composed.{Composed}
 use Rattle.answers.specs.Composing.{beforeC, roomRows, composeFault, composedOf, refusedBy}
-use Rattle.answers.proofs.BeforeC.{set-first, work-first, rows-left, work-same, work-kept}
+use Rattle.answers.proofs.BeforeC.{rows-first, work-first, rows-left, work-same, work-kept}
 use Rattle.compose_finish.specs.steps.Finishing.{Joined, SomeJoined, Finished, FinishedAs}
 use Rattle.compose_core.specs.steps.Composing.{Staged}
 use Rattle.compose_finish.proofs.FinishSteps.{turned-back, not-composed}
@@ -107,18 +107,18 @@ module _ (g : Settings) (s es w l : List ℕ) (jr pr : ℕ) (r : Composed) where
 
   pub staged-set : (f : Refusal) → f ≡ setFault (g .least) s es → (f .number ≡ 0 → ⊥) → r ≡ refusedBy (refusal (f .number) (f .detail)) →
       Staged g s es w w l l jr pr r
-  unfolding composeFault
+  unfolding composeFault setFault
   staged-set f e z q =
       let (n, h) = speaking f z in
-      refused-before f n (f .detail) h (set-first (g .least) s es (workRow (length w) ∷ roomRows c (length l) jr pr) f e z) q
+      refused-before f n (f .detail) h (rows-first (setRows (g .least) s es) (workRow (length w) ∷ roomRows c (length l) jr pr) f e z) q
 
   module _ (f : Refusal) (e : f ≡ setFault (g .least) s es) (z : f .number ≡ 0) where
     silent : setFault (g .least) s es .number ≡ 0
     silent = ap (λ (f : Refusal). f .number) (sym e) ∙ z
 
     pub staged-room : length w < workNeed → r ≡ refusedBy (refusal 7 0) → Staged g s es w w l l jr pr r
-    unfolding composeFault
-    staged-room h q = refused-before (refusal 7 0) 6 0 refl (work-first (g .least) s es silent (length w) (roomRows c (length l) jr pr) h) q
+    unfolding composeFault setFault
+    staged-room h q = refused-before (refusal 7 0) 6 0 refl (work-first (setRows (g .least) s es) silent (length w) (roomRows c (length l) jr pr) h) q
 
     pub least-some : 1 ≤ g .least
     least-some = set-tells (g .least) s es silent .some
@@ -128,13 +128,13 @@ module _ (g : Settings) (s es w l : List ℕ) (jr pr : ℕ) (r : Composed) where
       build-can = record { tray = set-tells (g .least) s es silent .tray; room = room }
 
       pub staged-all : (w′ l′ : List ℕ) → Finished c w w′ l l′ jr pr r → Staged g s es w w′ l l′ jr pr r
-      unfolding composeFault composedOf
+      unfolding composeFault composedOf setFault beforeC
       staged-all w′ l′ t =
-          let rows = rows-left (g .least) s es silent (length w) (roomRows c (length l) jr pr) room in
+          let rows = rows-left (setRows (g .least) s es) silent (length w) (roomRows c (length l) jr pr) room in
           record {
             answer-is = rw rows (t .answer-is);
             legend-is = rw rows (t .legend-is);
-            work-is = work-kept g s es w w′ silent room (t .same);
+            work-is = work-kept (setRows (g .least) s es) silent w w′ room (t .same);
             joins-are = t .joins-are;
             places-are = t .places-are;
           }

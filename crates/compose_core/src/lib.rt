@@ -11,7 +11,7 @@ use trays::MAX_SLIPS;
 use trays::Settings;
 
 // An accepted tray, composed in a work area that is large enough: the automaton, the lists at its nodes, the walk, and what comes after it.
-fn compose_accepted(
+pub fn compose_accepted(
     letters: &[u8],
     ends: &[u16],
     settings: Settings,

@@ -15,7 +15,7 @@ use Rattle.trays.specs.Limits.{maxShortest, workNeed}
 use Rattle.trays.specs.declared.Settings.{Settings}
 use Rattle.trays.specs.Slips.{slipsOf, numbers}
 use Rattle.trays.specs.Aside.{kept, counted}
-use Rattle.trays.specs.Faults.{refusal, setFault}
+use Rattle.trays.specs.Faults.{refusal, setRows, setFault}
 use Rattle.trays.proofs.Rows.{speaking}
 use Rattle.trays.proofs.SetTrays.{set-tells}
 use Rattle.trays.proofs.Kept.{kept-asc}
@@ -33,7 +33,7 @@ use Rattle.answers.specs.WorkArea.{workRow}
 use Rattle.answers.specs.declared.Shortest.{Shortest}
 use Rattle.answers.specs.Composing.{beforeC}
 use Rattle.answers.specs.Shortest.{shortestRows, shortestFault, shortestOf, shortestRefused, ShortestSays}
-use Rattle.answers.proofs.BeforeC.{set-first, work-first, rows-left, work-same, work-kept}
+use Rattle.answers.proofs.BeforeC.{rows-first, work-first, rows-left, work-same, work-kept}
 use Rattle.shortest_legend.specs.steps.Seeking.{tenOf, KeptAsks, KeptCopied, SeekAsks, Sought, OrderSought, Written, Finished}
 use Rattle.shortest_legend.proofs.OrderSteps.{first-in}
 use Rattle.shortest_legend.proofs.WriteSteps.{turned-back, too-many}
@@ -124,29 +124,29 @@ module _ (g : Settings) (s es w l : List ℕ) (r : Shortest) where
 
   pub says-set : (f : Refusal) → f ≡ setFault (g .least) s es → (f .number ≡ 0 → ⊥) → r ≡ shortestRefused (refusal (f .number) (f .detail)) →
       ShortestSays g s es w w l l r
-  unfolding shortestFault
+  unfolding shortestFault setFault
   says-set f e z q =
       let (n, h) = speaking f z in
-      refused-before f n (f .detail) h (set-first (g .least) s es (workRow (length w) ∷ shortestRows c (length l)) f e z) q
+      refused-before f n (f .detail) h (rows-first (setRows (g .least) s es) (workRow (length w) ∷ shortestRows c (length l)) f e z) q
 
   module _ (f : Refusal) (e : f ≡ setFault (g .least) s es) (z : f .number ≡ 0) where
     silent : setFault (g .least) s es .number ≡ 0
     silent = ap (λ (f : Refusal). f .number) (sym e) ∙ z
 
     pub says-room : length w < workNeed → r ≡ shortestRefused (refusal 7 0) → ShortestSays g s es w w l l r
-    unfolding shortestFault
-    says-room h q = refused-before (refusal 7 0) 6 0 refl (work-first (g .least) s es silent (length w) (shortestRows c (length l)) h) q
+    unfolding shortestFault setFault
+    says-room h q = refused-before (refusal 7 0) 6 0 refl (work-first (setRows (g .least) s es) silent (length w) (shortestRows c (length l)) h) q
 
     module _ (room : workNeed ≤ length w) where
       pub build-can : Buildable s es w
       build-can = record { tray = set-tells (g .least) s es silent .tray; room = room }
 
       pub says-all : (w′ l′ : List ℕ) → Finished c w w′ l l′ r → ShortestSays g s es w w′ l l′ r
-      unfolding shortestFault shortestOf
+      unfolding shortestFault shortestOf setFault beforeC
       says-all w′ l′ F =
-          let rows = rows-left (g .least) s es silent (length w) (shortestRows c (length l)) room in
+          let rows = rows-left (setRows (g .least) s es) silent (length w) (shortestRows c (length l)) room in
           record {
             answer-is = rw rows (F .outcome .answer-is);
             legend-is = rw rows (F .outcome .legend-is);
-            work-is = work-kept g s es w w′ silent room (F .same);
+            work-is = work-kept (setRows (g .least) s es) silent w w′ room (F .same);
           }
