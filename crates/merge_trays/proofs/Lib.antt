@@ -1,4 +1,3 @@
--- Two trays merged: what turns the call back, the loop that writes slips, the steps from the new slips to the outcome.
+-- Two trays merged: what turns the call back, the steps from the new slips to the outcome.
 pub mod InputRows
-pub mod WriteLoop
 pub mod MergeSteps

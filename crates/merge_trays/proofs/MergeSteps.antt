@@ -29,7 +29,8 @@ use Rattle.trays.proofs.WrittenTrays.{written-slips}
 use Rattle.merge_rule.specs.Merging.{mergedOf, mergeFault, MergeSays}
 use Rattle.merge_equals.specs.declared.Fresh.{Fresh}
 use Rattle.merge_equals.specs.Equals.{BothTrays, NewSlips}
-use Rattle.merge_trays.specs.steps.Merging.{unwritten, inputFault, CanWrite, SlipsWritten, Room, CanMerge, Outcome}
+use Rattle.tray_cut.specs.Choosing.{CanWrite, SlipsWritten}
+use Rattle.merge_trays.specs.steps.Merging.{unwritten, inputFault, Room, CanMerge, Outcome}
 use Rattle.merge_trays.proofs.InputRows.{fault-is}
 
 -- a list copied whole
@@ -127,8 +128,8 @@ module _ (s es t fs : List ℕ) where
             }
 
         -- the new slips stand in the rest of both
-        module _ (a₂ b₂ : List ℕ)
-            (W : SlipsWritten t fs M here (take (length a₁ - here) (drop here a₁)) a₂ (take (length b₁ - length es) (drop (length es) b₁)) b₂) where
+        module _ (a₂ b₂ : List ℕ) (g : ℕ)
+            (W : SlipsWritten t fs M here (take (length a₁ - here) (drop here a₁)) a₂ (take (length b₁ - length es) (drop (length es) b₁)) b₂ g) where
           all-letters : putMid here (length a₁ - here) a₁ a₂ ≡ over (lettersOf m) a
           all-letters = rw letters-are (over-mid s (lettersOf ys) a a₁ a₂ here (sym q) copied-letters (W .letters-are))
 

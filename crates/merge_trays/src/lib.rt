@@ -5,10 +5,8 @@ ghost use Rattle.trays.specs.Faults.{accepted};
 ghost use Rattle.trays.specs.Written.{TrayWritten};
 ghost use Rattle.merge_rule.specs.Merging.{mergedOf, MergeSays};
 ghost use Rattle.merge_equals.specs.Equals.{BothTrays};
-ghost use Rattle.merge_trays.specs.steps.Merging.{unwritten, inputFault, CanWrite, SlipsWritten, CanMerge, Room, Outcome};
+ghost use Rattle.merge_trays.specs.steps.Merging.{unwritten, inputFault, CanMerge, Room, Outcome};
 use merge_equals::Fresh;
-use tables::narrow;
-use tables::wide;
 use trays::MAX_LETTERS;
 use trays::MAX_SLIPS;
 use trays::Refusal;
@@ -51,30 +49,6 @@ fn check_inputs(
     tray_check::check_tray(letters2, ends2)
 }
 
-// Writes the slips with these numbers from the start of both buffers, where `here` letters of the outcome come before them.
-fn write_slips(
-    letters: &[u8],
-    ends: &[u16],
-    slips: &[u16],
-    here: usize,
-    into: &mut [u8],
-    bounds: &mut [u16],
-)
-    requires { ⌜ CanWrite (now letters) (now ends) (now slips) here (length (now into)) (length (now bounds)) ⌝ }
-    ensures { λ _. ⌜ SlipsWritten (now (letters .entry)) (now (ends .entry)) (now (slips .entry)) here (now (into .entry)) (now (into .exit))
-        (now (bounds .entry)) (now (bounds .exit)) ⌝ }
-{
-    let mut at: usize = 0;
-    let mut i: usize = 0;
-    while i < slips.len() {
-        let slip = wide(slips[i]);
-        let part = slips::slip_part(letters, ends, slip);
-        at += bytes::copy(part, &mut into[at..]);
-        bounds[i] = narrow(here + at);
-        i += 1;
-    }
-}
-
 // Writes the first tray, and after it the new slips of the second.
 fn write_merged(
     letters1: &[u8],
@@ -93,7 +67,7 @@ fn write_merged(
     let count = ends1.len();
     tables::copy_cells(ends1, 0, count, ends);
     let slips = new.slips;
-    write_slips(
+    tray_cut::write_slips(
         letters2,
         ends2,
         &slips[..new.count],

@@ -1,3 +1,4 @@
+use mathlib.Core.Path.{refl}
 use Rattle.merge_trays.proofs.MergeSteps.{first-room, first-slots, new-listed, new-counted, rest-letters, rest-ends, rest-can}
 use Rattle.merge_trays.proofs.MergeSteps.{all-long, all-many, merged-written}
 use borrow.Author.Needs.{needs}
@@ -38,7 +39,13 @@ same-length-2 : tie.Need-same-length-2
 same-length-2 c = search all-many
 
 returns : tie.Need-returns
-returns c = search merged-written
+returns c =
+    let wrote = c .before .before .before .before .before .before in
+    let copied = wrote .before .before .before .before .before .before .before in
+    let first = copied .before .before .before .before in
+    let pre = first .before .before .before .before .before .before .before .before .pre in
+    merged-written _ _ _ _ _ (pre .trays) (pre .slips) _ _ pre _ _ _ (first .copy .ensures .1) (first .copy .ensures .0) (copied .copy-cells .ensures) _ _ _
+    (wrote .write-slips .ensures) _ _ refl refl
 
 pub write-merged-spec : {M : Type 1} → statement M
 write-merged-spec = tie.close (tie.spec copy-requires copy-cells-requires array-share-prefix-slips slice-aggregate-write-slips sub-write-slips

@@ -1,21 +1,17 @@
 -- What the steps of merging two trays ask and leave: s with ends es is the first, t with ends fs the second.
 --   unwritten n d    == the answer of a refusal with number n and detail d
 --   inputFault a b   == what turns the call back before the outcome is known, where a letters and b ends are lent
---   CanWrite, SlipsWritten == what writing the slips numbered in M behind `here` letters asks and leaves
 --   Room a b         == enough is lent for any tray
 --   CanMerge         == the new slips are known, and the outcome is within the limits
 --   Outcome          == of two accepted trays: the outcome is turned back by 1 or 4, or written
-use mathlib.Core.Path.{_≡_}
 use mathlib.Core.List.{List, _∷_, _++_}
 use Prim.Native.Nat.{ℕ, _+_, _≤_}
 use lib.ListN.{length}
-use Rattle.words.specs.Lists.{All, over}
 use Rattle.trays.specs.declared.Refusal.{Refusal}
 use Rattle.trays.specs.declared.Written.{Written}
 use Rattle.trays.specs.Limits.{maxSlips, maxLetters}
-use Rattle.trays.specs.Slips.{slipsOf, only}
-use Rattle.trays.specs.Faults.{firstRow, trayRows, trayFault}
-use Rattle.trays.specs.Written.{lettersOf, endsFrom, sizeRows, TrayWritten}
+use Rattle.trays.specs.Faults.{firstRow, trayRows}
+use Rattle.trays.specs.Written.{sizeRows, TrayWritten}
 use Rattle.merge_rule.specs.Merging.{mergedOf, lentRow}
 use Rattle.merge_equals.specs.declared.Fresh.{Fresh}
 use Rattle.merge_equals.specs.Equals.{BothTrays, NewSlips}
@@ -25,17 +21,6 @@ unwritten n d = record { number = n; detail = d; letters = 0; slips = 0 }
 
 unfoldable pub inputFault : ℕ → ℕ → List ℕ → List ℕ → List ℕ → List ℕ → Refusal
 inputFault a b s es t fs = firstRow (lentRow a b ∷ (trayRows s es ++ trayRows t fs))
-
-pub record CanWrite (s es M : List ℕ) (here a b : ℕ) : Type 0 where
-  pub tray : trayFault s es .number ≡ 0
-  pub real : All (λ i. (1 ≤ i) × (i ≤ length es)) M
-  pub few : length M ≤ b
-  pub room : length (lettersOf (only (slipsOf s es) M)) ≤ a
-  pub small : here + length (lettersOf (only (slipsOf s es) M)) ≤ maxLetters
-
-pub record SlipsWritten (s es M : List ℕ) (here : ℕ) (a a′ b b′ : List ℕ) : Type 0 where
-  pub letters-are : a′ ≡ over (lettersOf (only (slipsOf s es) M)) a
-  pub ends-are : b′ ≡ over (endsFrom here (only (slipsOf s es) M)) b
 
 pub record Room (a b : ℕ) : Type 0 where
   pub letters : maxLetters ≤ a

@@ -19,7 +19,7 @@ use Rattle.trays.specs.Slips.{slip, slipsOf, only}
 use Rattle.trays.specs.Faults.{trayFault}
 use Rattle.trays.specs.Written.{lettersOf, endsFrom}
 use Rattle.trays.proofs.WrittenSlips.{length-ends, letters-append, letters-snoc, ends-snoc}
-use Rattle.merge_trays.specs.steps.Merging.{CanWrite, SlipsWritten}
+use Rattle.tray_cut.specs.Choosing.{CanWrite, SlipsWritten}
 
 pub record Writing (s es M : List ℕ) (here : ℕ) (a b a′ b′ : List ℕ) (at i : ℕ) : Type 0 where
   pub upto : i ≤ length M
@@ -63,10 +63,10 @@ module _ (s es M : List ℕ) (here : ℕ) (a b : List ℕ) (C : CanWrite s es M 
     pub turn-bound : i < length M → i < length b′
     turn-bound h = omega (arith, ends-long, C .few)
 
-    pub writing-all : length M ≤ i → SlipsWritten s es M here a a′ b b′
+    pub writing-all : length M ≤ i → SlipsWritten s es M here a a′ b b′ at
     writing-all h =
         let w : take i M ≡ M = take-all i M h in
-        record { letters-are = rw w at (W .letters-are); ends-are = rw w at (W .ends-are) }
+        record { letters-are = rw w at (W .letters-are); ends-are = rw w at (W .ends-are); count-is = sym (rw w at (W .at-is)) }
 
     module _ (h : i < length M) (k : ℕ) (e : k ≡ getD M i 0) where
       pub turn-real : (trayFault s es .number ≡ 0) × (1 ≤ k) × (k ≤ length es)

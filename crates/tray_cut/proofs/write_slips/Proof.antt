@@ -3,11 +3,11 @@ use Prim.Native.Nat.{_+_, _-_, _≤_}
 use native.Mathlib.Omega.{arith}
 use lib.ListN.{length}
 use Rattle.trays.specs.Limits.{maxLetters}
-use Rattle.merge_trays.proofs.WriteLoop.{Writing, writing-none, writing-more, writing-all}
-use Rattle.merge_trays.proofs.WriteLoop.{letters-long, ends-long, turn-at, turn-bound, turn-real, turn-room, turn-small}
+use Rattle.tray_cut.proofs.WriteLoop.{Writing, writing-none, writing-more, writing-all}
+use Rattle.tray_cut.proofs.WriteLoop.{letters-long, ends-long, turn-at, turn-bound, turn-real, turn-room, turn-small}
 use borrow.Author.Needs.{needs}
-use Rattle.merge_trays.proofs.write_slips.Statement.{statement}
-use Rattle.merge_trays.proofs.write_slips.Tie as tie
+use Rattle.tray_cut.proofs.write_slips.Statement.{statement}
+use Rattle.tray_cut.proofs.write_slips.Tie as tie
 
 abbrev Inv-loop : tie.InvT-loop
 Inv-loop letters ends slips here into₀ bounds₀ at₀ i₀ into bounds at i = Writing letters ends slips here into₀ bounds₀ into bounds at i

@@ -1,0 +1,23 @@
+-- Slips chosen out of a tray, s with ends es.
+--   CanWrite, SlipsWritten == what writing the slips numbered in M after `here` letters asks and leaves; r letters are written
+use mathlib.Core.Path.{_≡_}
+use mathlib.Core.List.{List}
+use Prim.Native.Nat.{ℕ, _+_, _≤_}
+use lib.ListN.{length}
+use Rattle.words.specs.Lists.{All, over}
+use Rattle.trays.specs.Limits.{maxLetters}
+use Rattle.trays.specs.Slips.{slipsOf, only}
+use Rattle.trays.specs.Faults.{trayFault}
+use Rattle.trays.specs.Written.{lettersOf, endsFrom}
+
+pub record CanWrite (s es M : List ℕ) (here a b : ℕ) : Type 0 where
+  pub tray : trayFault s es .number ≡ 0
+  pub real : All (λ i. (1 ≤ i) × (i ≤ length es)) M
+  pub few : length M ≤ b
+  pub room : length (lettersOf (only (slipsOf s es) M)) ≤ a
+  pub small : here + length (lettersOf (only (slipsOf s es) M)) ≤ maxLetters
+
+pub record SlipsWritten (s es M : List ℕ) (here : ℕ) (a a′ b b′ : List ℕ) (r : ℕ) : Type 0 where
+  pub letters-are : a′ ≡ over (lettersOf (only (slipsOf s es) M)) a
+  pub ends-are : b′ ≡ over (endsFrom here (only (slipsOf s es) M)) b
+  pub count-is : r ≡ length (lettersOf (only (slipsOf s es) M))
