@@ -1,2 +1,3 @@
--- Slips chosen out of a tray: the loop that writes them.
+-- Slips chosen out of a tray: the loop that chooses those of a side, and the one that writes chosen ones.
+pub mod SideLoop
 pub mod WriteLoop

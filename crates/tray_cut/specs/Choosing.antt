@@ -1,14 +1,22 @@
 -- Slips chosen out of a tray, s with ends es.
+--   SideSlips cs b == the numbers of the slips of side b, where cs are the sides of all slips
 --   CanWrite, SlipsWritten == what writing the slips numbered in M after `here` letters asks and leaves; r letters are written
 use mathlib.Core.Path.{_≡_}
 use mathlib.Core.List.{List}
 use Prim.Native.Nat.{ℕ, _+_, _≤_}
-use lib.ListN.{length}
+use lib.ListN.{length, take}
 use Rattle.words.specs.Lists.{All, over}
-use Rattle.trays.specs.Limits.{maxLetters}
+use Rattle.trays.specs.Limits.{maxSlips, maxLetters}
 use Rattle.trays.specs.Slips.{slipsOf, only}
 use Rattle.trays.specs.Faults.{trayFault}
+use Rattle.trays.specs.Sides.{ofSide}
 use Rattle.trays.specs.Written.{lettersOf, endsFrom}
+use Rattle.tray_cut.specs.declared.Chosen.{Chosen}
+
+pub record SideSlips (cs : List ℕ) (b : ℕ) (r : Chosen) : Type 0 where
+  pub size : length (r .slips) ≡ maxSlips
+  pub few : r .count ≤ length cs
+  pub slips-are : take (r .count) (r .slips) ≡ ofSide cs b
 
 pub record CanWrite (s es M : List ℕ) (here a b : ℕ) : Type 0 where
   pub tray : trayFault s es .number ≡ 0

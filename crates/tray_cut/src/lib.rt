@@ -1,8 +1,36 @@
-// Chosen slips of a tray, written as a tray of their own.
+// Slips chosen out of a tray: those of a side; and chosen slips written as a tray of their own.
+ghost use Prim.Native.Nat.{_≤_};
 ghost use lib.ListN.{length};
-ghost use Rattle.tray_cut.specs.Choosing.{CanWrite, SlipsWritten};
+ghost use Rattle.trays.specs.Limits.{maxSlips};
+ghost use Rattle.tray_cut.specs.Choosing.{SideSlips, CanWrite, SlipsWritten};
 use tables::narrow;
 use tables::wide;
+use trays::MAX_SLIPS;
+
+// Slips of a tray: how many, and their numbers, 0 past the count.
+pub struct Chosen {
+    pub count: usize,
+    pub slips: [u16; MAX_SLIPS],
+}
+
+// The slips of a side, ascending.
+pub fn side_slips(sides: &[u8], side: u8) -> Chosen
+    requires { ⌜ length (now sides) ≤ maxSlips ⌝ }
+    ensures { λ r. ⌜ SideSlips (now (sides .entry)) side r ⌝ }
+{
+    let mut slips = [0u16; MAX_SLIPS];
+    let mut count: usize = 0;
+    let mut i = 0;
+    while i < sides.len() {
+        let own = sides[i];
+        i += 1;
+        if own == side {
+            slips[count] = narrow(i);
+            count += 1;
+        }
+    }
+    Chosen { count, slips }
+}
 
 // Writes the slips with these numbers from the start of both buffers, where `here` letters come before them: the letters written.
 pub fn write_slips(
