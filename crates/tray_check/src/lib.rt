@@ -1,4 +1,4 @@
-// The check of settings and tray: refusals 21 and 1 to 6, for any settings, any letters and any ends.
+// The check of settings, tray and sides: refusals 21, 1 to 6 and 22, for any settings, any letters, any ends and any sides.
 ghost use mathlib.Core.Path.{_≡_};
 ghost use Prim.Native.Nat.{_≤_, _<_, _+_};
 ghost use lib.ListN.{length};
@@ -6,12 +6,16 @@ ghost use Rattle.words.specs.Lists.{lastOr};
 ghost use Rattle.trays.specs.Limits.{maxSlips};
 ghost use Rattle.trays.specs.Slips as S;
 ghost use Rattle.trays.specs.Faults as F;
+ghost use Rattle.trays.specs.Sides as B;
 ghost use Rattle.tray_check.specs.steps.Checks as K;
 use tables::wide;
+use trays::BLANK_SIDE;
 use trays::MAX_LEAST;
 use trays::MAX_LETTERS;
 use trays::MAX_SLIP;
 use trays::MAX_SLIPS;
+use trays::OBVERSE;
+use trays::REVERSE;
 use trays::Refusal;
 use trays::STOP;
 use trays::refuse;
@@ -146,4 +150,51 @@ pub fn check_set_tray(letters: &[u8], ends: &[u16], least: u32) -> Refusal
         return refuse(21, 0);
     }
     check_tray(letters, ends)
+}
+
+// Whether a byte is one of the three sides.
+pub fn is_side(b: u8) -> bool
+    ensures { λ r. ⌜ r ≡ B.isSide b ⌝ }
+{
+    if b == BLANK_SIDE {
+        return true;
+    }
+    if b == OBVERSE {
+        return true;
+    }
+    b == REVERSE
+}
+
+// Refusal 22, for any ends, any sides and any side named: the list of sides, then the side named.
+pub fn check_sides(ends: &[u16], sides: &[u8], side: u8) -> Refusal
+    ensures { λ r. ⌜ r ≡ B.sideFault (now (ends .entry)) (now (sides .entry)) side ⌝ }
+{
+    if sides.len() != ends.len() {
+        return refuse(22, 0);
+    }
+    let mut slip: usize = 1;
+    while slip <= sides.len() {
+        let good = is_side(sides[slip - 1]);
+        if good {
+            slip += 1;
+        } else {
+            return refuse(22, 0);
+        }
+    }
+    let known = is_side(side);
+    if known {
+        return refuse(0, 0);
+    }
+    refuse(22, 0)
+}
+
+// Refusal 21, then 1 to 6, then 22: the sides are checked after the tray.
+pub fn check_sided_tray(letters: &[u8], ends: &[u16], sides: &[u8], least: u32, side: u8) -> Refusal
+    ensures { λ r. ⌜ r ≡ B.sidedFault least side (now (letters .entry)) (now (ends .entry)) (now (sides .entry)) ⌝ }
+{
+    let fault = check_set_tray(letters, ends, least);
+    if fault.number != 0 {
+        return fault;
+    }
+    check_sides(ends, sides, side)
 }

@@ -18,6 +18,15 @@ pub const MAX_LEAST: u32 = 32;
 // The full stop, the lowest of the 27 signs.
 pub const STOP: u8 = 46;
 
+// The side of a slip that is marked with none: a blank.
+pub const BLANK_SIDE: u8 = 32;
+
+// The side O, the obverse of a coin.
+pub const OBVERSE: u8 = 79;
+
+// The side R, the reverse of a coin.
+pub const REVERSE: u8 = 82;
+
 // What the person composing sets: an overlap of fewer letters than the least counts as empty.
 pub struct Settings {
     pub least: u32,
