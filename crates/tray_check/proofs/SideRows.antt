@@ -1,6 +1,7 @@
 -- Row 22, and the ways through the functions that decide it.
 --   side-..   == the three ways through the test of a side
---   Good cs k == the slips before slip k have sides
+--   other b   == b is none of the three
+--   Good cs k == each slip before slip k has one of the three, so that the rest of the list decides
 --   good-..   == so at the start, and after one slip more
 --   sides-..  == the ways through check_sides
 --   sided-..  == the ways through check_sided_tray

@@ -1,4 +1,5 @@
 -- Laws of trays.
+pub mod AllSides
 pub mod AllSpecimens
 pub mod Kept
 pub mod LeftOut

@@ -1,4 +1,4 @@
--- Invariant: the slips before this one have sides, so that the rest of the list decides.
+-- Invariant: each slip before this one has one of the three sides, so that the rest of the list decides.
 use mathlib.Core.Path.{refl}
 use Prim.Native.Nat.{_+_, _-_}
 use native.Mathlib.Omega.{arith}
