@@ -166,7 +166,8 @@ module _ (g : Settings) (s es w : List ℕ) (k j : ℕ) (left right overs : List
           (legend-short C (length l) jr pr (omega (arith, need-is)) ∙ ap (refusal 8) (sym need-is)) e
 
       module _ (q : c .need ≤ length l) where
-        short-list : (r : Composed) → ltb jr (length (joinsOf C)) || ltb pr (length (numbers ss)) ≡ true → r ≡ refusedBy (refusal 9 j) → Finished C w w l l jr pr r
+        short-list : (r : Composed) → ltb jr (length (joinsOf C)) || ltb pr (length (numbers ss)) ≡ true → r ≡ refusedBy (refusal 9 j)
+            → Finished C w w l l jr pr r
         short-list r t e =
             refused-finished C l w jr pr (refusal 9 j) 8 j r refl
             (lists-short C (length l) jr pr (omega (arith, need-is)) t ∙ ap (refusal 9) (sym count-plain)) e

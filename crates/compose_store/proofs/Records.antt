@@ -14,12 +14,12 @@ use Rattle.trays.specs.Slips.{numbers}
 use Rattle.trays.specs.Aside.{isAside}
 use Rattle.greedy.specs.Joins as G
 use Rattle.tables.specs.Tables.{table}
-use Rattle.tables.proofs.Tables.{table-at}
 use Rattle.layout.specs.Layout.{JOINS, PLACES}
 use Rattle.layout.specs.Tables.{cell}
+use Rattle.layout.proofs.Staged.{cell-in, place-read}
 use Rattle.greedy.specs.Composing.{Composing}
-use Rattle.answers.specs.Composing.{joinCells, joinNumbers, flatJoins, placeCells, placeNumbers, flatPlaces}
-use Rattle.answers.proofs.FlatLists.{joins-at, places-at}
+use Rattle.answers.specs.Composing.{joinCells, joinNumbers, flatJoins, placeCells, flatPlaces}
+use Rattle.answers.proofs.FlatLists.{joins-at}
 use Rattle.store_loops.specs.Firsts.{firsts}
 use Rattle.words.proofs.Runs.{length-upFrom}
 use Rattle.store_loops.proofs.Firsts.{getD-map-upFrom, firsts-are}
@@ -35,11 +35,6 @@ join-by a b c x p q r = rw (p, q, r)
 place-by : (a b : ℕ) (c : Bool) (d : ℕ) (x : Place) → a ≡ x .slip → b ≡ x .place → c ≡ x .kept → d ≡ x .compared →
     record { slip = a; place = b; kept = c; compared = d } ≡ x
 place-by a b c d x p q r s = rw (p, q, r, s)
-
--- a cell of a table that is a list
-module _ (w : List ℕ) (base n : ℕ) (xs : List ℕ) (e : table w base n ≡ xs) where
-  cell-in : (k : ℕ) → k < n → cell w base k ≡ getD xs k 0
-  cell-in k h = sym (table-at w base n k h) ∙ ap (λ (l : List ℕ). getD l k 0) e
 
 -- the joins
 abbrev none : Join
@@ -76,8 +71,7 @@ nowhere = record { slip = 0; place = 0; kept = false; compared = 0 }
 module _ (w : List ℕ) (c : Composing) (e : table w PLACES (placeCells * length (c .slips)) ≡ flatPlaces c) where
   place-made : (i : ℕ) → i < length (c .slips) → placeAt w i ≡ placeRecord c (suc i)
   place-made i h =
-      let is : (j at : ℕ) → j < placeCells → at ≡ placeCells * i + j → cell w PLACES at ≡ getD (placeNumbers c (suc i)) j 0 =
-      λ j at l q. cell-in w PLACES (placeCells * length (c .slips)) (flatPlaces c) e at (omega arith) ∙ places-at c i j at h l q in
+      let is = place-read w c e i h in
       place-by _ _ _ _ (placeRecord c (suc i)) (add-one i) (is 0 (placeCells * i) (omega arith) (omega arith))
       (ap (λ (m : ℕ). eqb m 1) (is 1 (placeCells * i + 1) (omega arith) refl) ∙ mark-kept (isAside (c .slips) (c .members) (suc i)))
       (is 2 (placeCells * i + 2) (omega arith) refl)

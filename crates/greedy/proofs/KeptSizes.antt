@@ -1,6 +1,6 @@
 -- How many slips of an accepted tray are kept, with how many letters, in how many pieces, and how long the legend is.
 --   traySlips s es  == the slips of a tray, and the kept ones
---   joins-rep       == the chains of its joins, with any settings
+--   joins-rep       == the chains of its joins, with any settings; joins-fewer == how many joins there are
 use mathlib.Core.Path.{_≡_, refl, sym, _∙_, ap}
 use mathlib.Core.Bool.{Bool, not}
 use mathlib.Core.List.{List, [], _∷_}
@@ -22,9 +22,9 @@ use Rattle.trays.proofs.Accepted.{accepted-tells, slips-count}
 use Rattle.greedy.specs.Joins.{plainFor}
 use Rattle.greedy.specs.Legends.{piecesFor}
 use Rattle.greedy.specs.Orders.{weight}
-use Rattle.greedy.specs.Composing.{whole, legendOf}
+use Rattle.greedy.specs.Composing.{whole, joinsOf, legendOf}
 use Rattle.greedy.proofs.GreedyLegends.{numbers-rise, numbers-positive}
-use Rattle.greedy.proofs.Chains.{Chain, Rep}
+use Rattle.greedy.proofs.Chains.{Chain, Rep, chains-fewer}
 use Rattle.greedy.proofs.Bound.{kept-rep}
 use Rattle.greedy.proofs.Letters.{pieces-numbers, saving-of}
 
@@ -96,6 +96,16 @@ module _ (s es : List ℕ) (acc : trayFault s es .number ≡ 0) where
 
     pub joins-rep : (Ds : List Chain) × Rep (weight counts ss) K (plainFor counts ss K) Ds
     joins-rep = kept-rep ss (numbers ss) (numbers-rise ss) (numbers-positive ss) counts
+
+    -- the joins make chains of the kept slips, and a chain has one join less than slips
+    pub joins-fewer : length (joinsOf (whole g ss)) ≤ maxSlips - 1
+    joins-fewer =
+        let (Cs, R) = joins-rep in
+        omega (arith, R .count, fewer Cs (maxSlips - 1) (omega (arith, chains-fewer Cs, R .all (λ i. 1), length-sum K, kept-few)))
+      where
+        fewer : (Cs : List Chain) (n : ℕ) → length Cs + sum (λ C. length (C .rest)) Cs ≤ suc n → sum (λ C. length (C .rest)) Cs ≤ n
+        fewer [] n h = omega arith
+        fewer (C ∷ Cs) n h = omega arith
 
     pub pieces-count : length (piecesFor counts ss (numbers ss)) ≡ length K
     pieces-count = sym (length-sum (piecesFor counts ss (numbers ss))) ∙ pieces-numbers (joins-rep .1) (λ i. 1) ∙ length-sum K

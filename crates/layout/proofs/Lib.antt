@@ -5,3 +5,4 @@ pub mod RowLaws
 pub mod Heads
 pub mod AreaSlips
 pub mod OwnLaws
+pub mod Staged

@@ -17,7 +17,7 @@ use Rattle.tables.specs.Tables.{table}
 use Rattle.trays.specs.declared.Refusal.{Refusal}
 use Rattle.trays.specs.declared.Settings.{Settings}
 use Rattle.trays.specs.Limits.{maxSlips, workNeed}
-use Rattle.trays.specs.Slips.{slipsOf}
+use Rattle.trays.specs.Slips.{slipsOf, numbers}
 use Rattle.trays.specs.Faults.{refusal, accepted, firstRow, written, trayRows, trayFault, setRows}
 use Rattle.trays.proofs.Rows.{or-zero, or-some, rows-append, written-none}
 use Rattle.greedy.specs.Composing.{usual, whole, joinsOf, legendOf}

@@ -15,13 +15,12 @@ use Rattle.trays.specs.Faults.{firstRow, leastRow, trayFault, setRows, setFault
 use Rattle.trays.proofs.Rows.{rows-append, by-number}
 use Rattle.trays.proofs.SetTrays.{set-tells}
 use Rattle.greedy.specs.Composing.{whole, joinsOf, legendOf}
-use Rattle.greedy.proofs.KeptSizes.{TraySlips, traySlips, legend-small}
+use Rattle.greedy.proofs.KeptSizes.{TraySlips, traySlips, joins-fewer, legend-small}
 use Rattle.answers.specs.declared.Composed.{Composed}
 use Rattle.answers.specs.WorkArea.{workRow}
 use Rattle.answers.specs.Composing.{roomRows, composeFault, composedBy, composedOf}
 use Rattle.sheet_rule.specs.Sheets.{detailWidth}
 use Rattle.sheet_sizes.specs.Fits.{RefusalFits}
-use Rattle.sheet_sizes.proofs.Fitting.{joins-fewer}
 use Rattle.sheet_sizes.proofs.RefusalsFit.{row-fits, or-fits, rows-fit, tray-refusal-fits}
 
 module _ (g : Settings) (s es : List ℕ) where

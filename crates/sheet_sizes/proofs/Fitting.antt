@@ -1,12 +1,10 @@
 -- Every number that is printed fits: the claims of specs/Fits.antt.
 --   compose-fits, find-fits  == the claims
---   chains-fewer             == a chain has one join less than slips
 --   NAME-few                 == NAME gives at most so many
--- The joins make chains of the kept slips, so they are fewer; their slips are kept slips, and an overlap is within its right slip. At one
--- place of a text each slip ends at most once.
+-- The slips of a join are kept slips, and an overlap is within its right slip. At one place of a text each slip ends at most once.
 use mathlib.Core.Path.{_≡_}
 use mathlib.Core.List.{List, [], _∷_, map}
-use Prim.Native.Nat.{ℕ, suc, _+_, _-_, _*_, _≤_}
+use Prim.Native.Nat.{ℕ, _-_, _*_, _≤_}
 use native.Mathlib.Nat.{mul-suc}
 use native.Mathlib.Omega.{arith}
 use lib.ListN.{length, take, length-append, length-map}
@@ -14,10 +12,9 @@ use Rattle.words.specs.Lists.{each, upFrom}
 use Rattle.words.proofs.Runs.{length-upFrom}
 use Rattle.words.proofs.Members.{In, in-upFrom}
 use Rattle.words.proofs.Maps.{all-each}
-use Rattle.words.proofs.Sums.{sum, All, all-in, all-at, held-in, length-sum}
+use Rattle.words.proofs.Sums.{All, all-in, all-at, held-in}
 use Rattle.words.proofs.Overlaps.{overlapFor-fits}
 use Rattle.trays.specs.Limits.{maxSlips, maxText}
-use Rattle.trays.specs.declared.Settings.{Settings}
 use Rattle.trays.specs.Slips.{slipsOf, slip, numbers}
 use Rattle.trays.specs.Aside.{counted}
 use Rattle.trays.specs.Faults.{trayFault}
@@ -26,20 +23,16 @@ use Rattle.trays.proofs.Spans.{accepted-spanned}
 use Rattle.greedy.specs.Joins.{Join}
 use Rattle.greedy.specs.Orders.{weight}
 use Rattle.greedy.specs.Composing.{usual, whole, joinsOf}
-use Rattle.greedy.proofs.Chains.{Chain, Arc, chains-fewer}
+use Rattle.greedy.proofs.Chains.{Arc}
 use Rattle.greedy.proofs.GreedyLegends.{greedy-of}
 use Rattle.greedy.proofs.Chosen.{numbers-real}
 use Rattle.matching.specs.Occurrences.{Occurrence, occurrence, endingAt, occurrences}
 use Rattle.matching.proofs.States.{few-moves}
 use Rattle.matching.proofs.Finds.{in-ending}
 use Rattle.trie_outputs.proofs.Outs.{ending-most}
-use Rattle.greedy.proofs.KeptSizes.{TraySlips, traySlips, joins-rep, kept-real, kept-few, kept-small, legend-small}
+use Rattle.greedy.proofs.KeptSizes.{TraySlips, traySlips, joins-rep, joins-fewer, kept-real, kept-few, kept-small, legend-small}
 use Rattle.sheet_sizes.specs.Fits.{JoinFits, ComposeFits, OccurrenceFits, FindFits}
 use Rattle.greedy.proofs.Placed.{place-most}
-
-fewer : (Cs : List Chain) (n : ℕ) → length Cs + sum (λ C. length (C .rest)) Cs ≤ suc n → sum (λ C. length (C .rest)) Cs ≤ n
-fewer [] n h = omega arith
-fewer (C ∷ Cs) n h = omega arith
 
 module _ (s es : List ℕ) (acc : trayFault s es .number ≡ 0) where
   open TraySlips (traySlips s es) using (ss, K)
@@ -55,11 +48,6 @@ module _ (s es : List ℕ) (acc : trayFault s es .number ≡ 0) where
         omega (arith, few),
         omega (arith, o, overlapFor-fits (counted 1) (slip ss (j .left)) (slip ss (j .right)), accepted-spanned s es acc .short (j .right) p b),
       )
-
-  pub joins-fewer : (g : Settings) → length (joinsOf (whole g ss)) ≤ maxSlips - 1
-  joins-fewer g =
-      let (Cs, R) = joins-rep s es acc g in
-      omega (arith, R .count, fewer Cs (maxSlips - 1) (omega (arith, chains-fewer Cs, R .all (λ i. 1), length-sum K, kept-few s es acc)))
 
   pub compose-fits : ComposeFits (whole usual ss)
   compose-fits =
@@ -77,7 +65,7 @@ module _ (s es : List ℕ) (acc : trayFault s es .number ≡ 0) where
         joins =
             all-in JoinFits (joinsOf (whole usual ss))
             (λ j m. join-fits j (all-at (Arc (weight (counted 1) ss) K) (joinsOf (whole usual ss)) j (joins-rep s es acc usual .1 .arcs) m));
-        count = joins-fewer usual;
+        count = joins-fewer s es acc usual;
       }
 
 -- occurrences: at each place at most one of each slip

@@ -1,16 +1,16 @@
 -- Sheets from numbers: over the numbers that composing and finding leave, they are the sheets of the slips.
 --   lines-each         == lines by index are lines by element
 --   compose-lines-are, find-lines-are  == the two sheets
-use mathlib.Core.Path.{_≡_, refl, sym, _∙_, ap, ap₂}
+use mathlib.Core.Path.{_≡_, refl, sym, _∙_, ap}
 use mathlib.Core.Bool.{Bool, true, false, cond}
-use mathlib.Core.List.{List, [], _∷_, _++_}
-use Prim.Native.Nat.{ℕ, zero, suc, _+_, _-_, _*_, _<_}
-use native.Mathlib.Nat.{add-zero}
+use mathlib.Core.List.{List}
+use Prim.Native.Nat.{ℕ, suc, _+_, _-_, _*_, _<_}
+use native.Mathlib.Nat.{zero-add}
 use native.Mathlib.Numerals.{add-one}
 use native.Mathlib.Omega.{arith}
 use lib.ListN.{length, getD}
-use Rattle.words.specs.Lists.{each, upFrom}
-use Rattle.words.proofs.Runs.{length-upFrom, upFrom-at}
+use Rattle.words.specs.Lists.{each}
+use Rattle.words.proofs.Runs.{length-upFrom, upFrom-at, each-places}
 use Rattle.trays.specs.Slips.{slipsOf, slip, numbers, startOf, endOf}
 use Rattle.trays.specs.Aside.{isAside}
 use Rattle.trays.specs.Faults.{trayFault}
@@ -26,17 +26,9 @@ use Rattle.answers.proofs.FlatLists.{joins-at, found-at, places-at}
 use Rattle.sheet_rule.specs.Sheets.{asideSign, keptSign, signOf, joinLine, slipLineOf, slipLineAt, joinLineAt}
 use Rattle.sheet_rule.specs.Sheets.{foundLine, foundLineAt, lines, composeLines, sideSheetOf, composeSheetOf, findLines, findSheetOf}
 
--- lines by index
-each-from : {A : Type 0} (d : A) (f : ℕ → List ℕ) (g : A → List ℕ) (k : ℕ) (xs : List A) → ((i : ℕ) → i < length xs → f (k + i) ≡ g (getD xs i d)) →
-    each f (upFrom k (length xs)) ≡ each g xs
-each-from d f g k [] h = refl
-each-from d f g k (x ∷ xs) h =
-    ap₂ _++_ (ap f (sym (add-zero k)) ∙ h zero (omega arith))
-    (each-from d f g (suc k) xs (λ i l. let e : suc k + i ≡ k + suc i = omega arith in rw e (h (suc i) (omega arith))))
-
 pub lines-each : {A : Type 0} (d : A) (f : ℕ → List ℕ) (g : A → List ℕ) (xs : List A) → ((i : ℕ) → i < length xs → f i ≡ g (getD xs i d)) →
     lines f (length xs) ≡ each g xs
-lines-each d f g xs h = each-from d f g 0 xs (λ i l. let e : 0 + i ≡ i = omega arith in rw e (h i l))
+lines-each d f g xs h = each-places d f g 0 xs (λ i l. ap f (zero-add i) ∙ h i l)
 
 -- joins and occurrences
 pub joins-flat : (js : List Join) → lines (joinLineAt (flatJoins js)) (length js) ≡ each (λ j. joinLine (j .left) (j .right) (j .overlap)) js

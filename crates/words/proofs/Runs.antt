@@ -3,7 +3,7 @@
 --   upFrom-more   == one number more
 --   upFrom-append == a run, and another that goes on where it ends
 --   upFrom-at     == number k of a run
---   map-places    == a list is its places, mapped
+--   map-places    == a list is its places, mapped; each-places == lists by place are lists by member
 --   sum-run       == a sum over ascending numbers of a run is at most that over the run
 use mathlib.Core.Path.{_≡_, refl, sym, _∙_, ap, ap₂}
 use mathlib.Core.List.{List, [], _∷_, _++_, map, List·Memᴰ·head, List·Memᴰ·tail}
@@ -12,7 +12,7 @@ use native.Mathlib.Nat.{add-zero, zero-add}
 use native.Mathlib.Decide.{ℕ-discrete}
 use native.Mathlib.Omega.{arith}
 use lib.ListN.{length, getD}
-use Rattle.words.specs.Lists.{upFrom}
+use Rattle.words.specs.Lists.{each, upFrom}
 use Rattle.words.proofs.Members.{In, Asc, by-in}
 use Rattle.words.proofs.Sums.{sum}
 
@@ -41,6 +41,12 @@ pub map-places :
 map-places d f k [] h = refl
 map-places d f k (x ∷ xs) h =
     ap₂ _∷_ (ap f (sym (add-zero k)) ∙ h 0 (omega arith)) (map-places d f (suc k) xs (λ i l. ap f (omega arith) ∙ h (suc i) (omega arith)))
+
+pub each-places : {A B : Type 0} (d : A) (f : ℕ → List B) (g : A → List B) (k : ℕ) (xs : List A)
+    → ((i : ℕ) → i < length xs → f (k + i) ≡ g (getD xs i d)) → each f (upFrom k (length xs)) ≡ each g xs
+each-places d f g k [] h = refl
+each-places d f g k (x ∷ xs) h =
+    ap₂ _++_ (ap f (sym (add-zero k)) ∙ h 0 (omega arith)) (each-places d f g (suc k) xs (λ i l. ap f (omega arith) ∙ h (suc i) (omega arith)))
 
 -- the least number of the run is the first of M, or M lies above it
 pub sum-run : (f : ℕ → ℕ) (k n : ℕ) (M : List ℕ) → Asc _<_ M → ((i : ℕ) → In i M → (k ≤ i) × (i < k + n)) → sum f M ≤ sum f (upFrom k n)
