@@ -1,4 +1,2 @@
--- The steps of the search.
-pub mod OrderSteps
-pub mod WriteSteps
+-- The shortest legend: the ways through the call.
 pub mod TopSteps

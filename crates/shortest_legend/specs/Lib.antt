@@ -1,2 +1,1 @@
--- The search for the shortest legend.
-pub mod steps
+-- The shortest legend: its promise stands in answers.

@@ -1,7 +1,7 @@
-use Rattle.shortest_legend.proofs.WriteSteps.{pieces-can, need-small, too-short, lay-can, answer-can, laid-all}
+use Rattle.shortest_core.proofs.WriteSteps.{pieces-can, need-small, too-short, lay-can, answer-can, laid-all}
 use borrow.Author.Needs.{needs}
-use Rattle.shortest_legend.proofs.write_order.Statement.{statement}
-use Rattle.shortest_legend.proofs.write_order.Tie as tie
+use Rattle.shortest_core.proofs.write_order.Statement.{statement}
+use Rattle.shortest_core.proofs.write_order.Tie as tie
 
 order-pieces-requires : tie.Need-order-pieces-requires
 order-pieces-requires c κs = search pieces-can

@@ -1,7 +1,7 @@
-use Rattle.shortest_legend.proofs.OrderSteps.{pairs-can, groups-can, naming-can, order-sought}
+use Rattle.shortest_core.proofs.OrderSteps.{pairs-can, groups-can, naming-can, order-sought}
 use borrow.Author.Needs.{needs}
-use Rattle.shortest_legend.proofs.seek_order.Statement.{statement}
-use Rattle.shortest_legend.proofs.seek_order.Tie as tie
+use Rattle.shortest_core.proofs.seek_order.Statement.{statement}
+use Rattle.shortest_core.proofs.seek_order.Tie as tie
 
 fill-pairs-requires : tie.Need-fill-pairs-requires
 fill-pairs-requires c κs = search pairs-can

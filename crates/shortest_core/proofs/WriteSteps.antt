@@ -32,8 +32,8 @@ use Rattle.answers.specs.Shortest.{shortestRows, shortestOutcome, shortestRefus
 use Rattle.legend_order.specs.Arranging.{orderPieces, OrderAsks, Arranged}
 use Rattle.legend_lay.specs.Laying.{CanLay}
 use Rattle.legend_lay.proofs.OrderFits.{order-fits}
-use Rattle.shortest_legend.specs.steps.Seeking.{outcomeBy, OutcomeAsks, OrderSought, Written}
-use Rattle.shortest_legend.proofs.OrderSteps.{first-in, ten-length, ten-first}
+use Rattle.shortest_core.specs.steps.Seeking.{outcomeBy, OutcomeAsks, OrderSought, Written}
+use Rattle.shortest_core.proofs.OrderSteps.{first-in, ten-length, ten-first}
 
 -- the two cases of the answer
 module _ (c : Composing) (l : List ℕ) where

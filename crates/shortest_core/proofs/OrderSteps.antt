@@ -1,5 +1,6 @@
 -- From the kept slips to their shortest order.
 --   kept-copied           == the kept members stand in a list of ten
+--   ten-more              == one of ten numbers more
 --   Naming                == the slips at the first i places are named
 --   order-sought          == the places chosen, named, are the shortest order
 use mathlib.Core.Path.{_≡_, refl, sym, ap, _∙_}
@@ -29,7 +30,7 @@ use Rattle.tables.specs.Copying.{CanCopy}
 use Rattle.shortest_groups.specs.Groups as G
 use Rattle.shortest_groups.specs.Groups.{pairCells, pairsOf, Paired}
 use Rattle.shortest_pairs.specs.Pairs.{PairsAsk, PairsAre}
-use Rattle.shortest_legend.specs.steps.Seeking.{tenOf, KeptAsks, KeptCopied, NamingAsks, Named, SeekAsks, Sought}
+use Rattle.shortest_core.specs.steps.Seeking.{tenOf, KeptAsks, KeptCopied, NamingAsks, Named, SeekAsks, Sought}
 
 -- one of the first k members
 pub first-in : (xs : List ℕ) (k a : ℕ) → a < k → k ≤ length xs → In (getD xs a 0) (take k xs)
@@ -43,6 +44,14 @@ ten-length xs h = length-over xs (replicate maxShortest 0) h
 
 pub ten-first : (xs : List ℕ) (k : ℕ) → length xs ≡ k → take k (tenOf xs) ≡ xs
 ten-first xs k e = take-at xs (drop (length xs) (replicate maxShortest 0)) k e
+
+-- numbers put one after another, each made of a number of a list
+pub ten-more : (f : ℕ → ℕ) (ps : List ℕ) (i x : ℕ) (xs : List ℕ) → i < length ps → i < maxShortest → xs ≡ tenOf (map f (take i ps)) → x ≡ f (getD ps i 0)
+    → (i′ : ℕ) → i′ ≡ i + 1 → set xs i x ≡ tenOf (map f (take i′ ps))
+ten-more f ps i x xs h few e q i′ u =
+    let up : i′ ≡ suc i = u ∙ add-one i in
+    let size : length (map f (take i ps)) ≡ i = length-map (take i ps) f ∙ length-take-le i ps (omega arith) in
+    rw (e, over-set 0 (map f (take i ps)) (replicate maxShortest 0) i x size few, q, up, take-suc ps i 0 h, map-append)
 
 module _ (w : List ℕ) (k : ℕ) (A : KeptAsks w k) where
   pub copy-can : CanCopy w KEPT k (replicate maxShortest 0)
@@ -83,16 +92,11 @@ module _ (kept places : List ℕ) (k : ℕ) (A : NamingAsks kept places k) where
       (i p : ℕ) (xs : List ℕ) → Naming kept places k i xs → i < k → p ≡ getD places i 0 → (i′ : ℕ) → i′ ≡ i + 1
       → Naming kept places k i′ (set xs i (getD kept p 0))
   naming-more i p xs N h e i′ q =
-      let names : List ℕ → List ℕ = map (λ a. getD (take k kept) a 0) in
-      let up : i′ ≡ suc i = q ∙ add-one i in
-      let below : getD places i 0 < k = A .among i h in
-      let size : length (names (take i places)) ≡ i = length-map (take i places) _ ∙ length-take-le i places (omega (arith, A .listed)) in
-      let read : getD kept p 0 ≡ getD (take k kept) (getD places i 0) 0 = rw e (sym (getD-take k kept (getD places i 0) 0 below)) in
-      let put = over-set 0 (names (take i places)) (replicate maxShortest 0) i (getD kept p 0) size (omega (arith, A .few)) in
+      let read : getD kept p 0 ≡ getD (take k kept) (getD places i 0) 0 = rw e (sym (getD-take k kept (getD places i 0) 0 (A .among i h))) in
       record {
         upto = omega arith;
         ten = length-set xs i (getD kept p 0) ∙ N .ten;
-        are = rw (N .are, put, read, up, take-suc places i 0 (omega (arith, A .listed)), map-append);
+        are = ten-more (λ a. getD (take k kept) a 0) places i (getD kept p 0) xs (place-listed i h) (name-room i h) (N .are) read i′ q;
       }
 
   pub naming-all : (i : ℕ) (xs : List ℕ) → Naming kept places k i xs → k ≤ i → Named kept places k xs

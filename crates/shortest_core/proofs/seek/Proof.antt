@@ -1,7 +1,7 @@
-use Rattle.shortest_legend.proofs.TopSteps.{many-finished, kept-can, seek-can, write-can, seek-same, seek-finished}
+use Rattle.shortest_core.proofs.SeekSteps.{many-finished, kept-can, seek-can, write-can, seek-same, seek-finished}
 use borrow.Author.Needs.{needs}
-use Rattle.shortest_legend.proofs.seek.Statement.{statement}
-use Rattle.shortest_legend.proofs.seek.Tie as tie
+use Rattle.shortest_core.proofs.seek.Statement.{statement}
+use Rattle.shortest_core.proofs.seek.Tie as tie
 
 -- what is behind the moment at which the kept slips are copied
 abbrev told : tie.After-kept-numbers → tie.After-tell-kept

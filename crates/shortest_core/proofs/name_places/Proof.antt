@@ -1,9 +1,9 @@
 -- Invariant: the slips at the first i places stand in the order, with 0 behind them.
 use Prim.Native.Nat.{_-_}
-use Rattle.shortest_legend.proofs.OrderSteps.{Naming, naming-none, place-fits, place-listed, known-fits, place-known, name-room, naming-more, naming-all}
+use Rattle.shortest_core.proofs.OrderSteps.{Naming, naming-none, place-fits, place-listed, known-fits, place-known, name-room, naming-more, naming-all}
 use borrow.Author.Needs.{needs}
-use Rattle.shortest_legend.proofs.name_places.Statement.{statement}
-use Rattle.shortest_legend.proofs.name_places.Tie as tie
+use Rattle.shortest_core.proofs.name_places.Statement.{statement}
+use Rattle.shortest_core.proofs.name_places.Tie as tie
 
 abbrev Inv-loop : tie.InvT-loop
 Inv-loop kept places k order₀ i₀ order i = Naming kept places k i order

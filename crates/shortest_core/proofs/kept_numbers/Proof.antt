@@ -1,7 +1,7 @@
-use Rattle.shortest_legend.proofs.OrderSteps.{copy-can, kept-copied}
+use Rattle.shortest_core.proofs.OrderSteps.{copy-can, kept-copied}
 use borrow.Author.Needs.{needs}
-use Rattle.shortest_legend.proofs.kept_numbers.Statement.{statement}
-use Rattle.shortest_legend.proofs.kept_numbers.Tie as tie
+use Rattle.shortest_core.proofs.kept_numbers.Statement.{statement}
+use Rattle.shortest_core.proofs.kept_numbers.Tie as tie
 
 copy-cells-requires : tie.Need-copy-cells-requires
 copy-cells-requires c κs = search copy-can

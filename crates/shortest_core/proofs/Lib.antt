@@ -1,0 +1,4 @@
+-- The steps of the search.
+pub mod OrderSteps
+pub mod WriteSteps
+pub mod SeekSteps
