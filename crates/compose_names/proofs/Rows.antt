@@ -2,16 +2,15 @@
 --   row-one      == one store is a row of one number
 --   row-append   == a row put after a row: together one row
 --   three-put    == three stores
---   number-at    == the number of slip i is the one at i - 1
 --   join-named   == the row of one join
 --   record-made  == the row of one record: its number, the three numbers of its place, its side
 -- A row of several numbers is put as shorter rows, one after another.
-use mathlib.Core.Path.{_≡_, refl, ap, _∙_}
+use mathlib.Core.Path.{_≡_, refl, _∙_}
 use mathlib.Core.List.{List, [], _∷_, _++_, append-assoc}
-use Prim.Native.Nat.{ℕ, zero, suc, _+_, _-_, _*_, _≤_, _<_}
-use native.Mathlib.Numerals.{add-one, sub-one}
+use Prim.Native.Nat.{ℕ, _+_, _-_, _*_, _<_}
+use native.Mathlib.Numerals.{add-one}
 use native.Mathlib.Omega.{arith}
-use lib.ListN.{length, getD, length-append}
+use lib.ListN.{length, length-append}
 use Rattle.words.specs.Lists.{entry}
 use Rattle.tables.specs.Tables.{Got, Put, table}
 use Rattle.tables.proofs.Tables.{put-more, put-only, only-trans, only-wider}
@@ -42,10 +41,6 @@ module _ (base n a b c : ℕ) (w : List ℕ) (h : RowAsks base n (a ∷ (b ∷ (
       let y = row-one (omega (arith, h .room, p .same)) q in
       let z = row-one (omega (arith, h .room, p .same, q .same)) r in
       row-append base n (n + 2) (a ∷ (b ∷ [])) (c ∷ []) w w₂ w₃ (row-append base n (n + 1) (a ∷ []) (b ∷ []) w w₁ w₂ x y refl) z refl
-
-pub number-at : (N : List ℕ) (i r : ℕ) → 1 ≤ i → r ≡ getD N (i - 1) 0 → r ≡ entry N i
-number-at N zero r h e = absurd (omega arith)
-number-at N (suc i) r h e = e ∙ rw sub-one
 
 pub join-named : (w N : List ℕ) (i l r o x y : ℕ) (w′ : List ℕ) → Got w JOINS (joinCells * i) l → Got w JOINS (joinCells * i + 1) r
     → Got w JOINS (joinCells * i + 2) o → (x ≡ entry N l) × (x < 65536) → (y ≡ entry N r) × (y < 65536)

@@ -1,10 +1,7 @@
 // Joins and records of places of a tray that was cut out of another, told by the numbers that its slips have in that other tray. Composing stages both by
 // the numbers of the cut tray; `slips` lists the other numbers, that of slip 1 first.
-ghost use mathlib.Core.Path.{_≡_};
 ghost use mathlib.Core.List.{[], _∷_};
-ghost use Prim.Native.Nat.{_*_, _≤_, _<_};
-ghost use lib.ListN.{length};
-ghost use Rattle.words.specs.Lists.{entry};
+ghost use Prim.Native.Nat.{_*_};
 ghost use Rattle.answers.specs.Composing.{joinCells, recordCells};
 ghost use Rattle.layout.specs.Layout as L;
 ghost use Rattle.compose_names.specs.steps.Naming as N;
@@ -17,15 +14,6 @@ use layout::PLACES;
 use layout::RECORDS;
 use tables::at;
 use tables::put;
-use tables::wide;
-
-// The number that slip `i` of the cut tray has in the other tray.
-fn number_of(slips: &[u16], i: usize) -> usize
-    requires { ⌜ (1 ≤ i) × (i ≤ length (now slips)) ⌝ }
-    ensures { λ r. ⌜ (r ≡ entry (now (slips .entry)) i) × (r < 65536) ⌝ }
-{
-    wide(slips[i - 1])
-}
 
 // Puts three numbers after the first `n` cells of the table at `base`.
 fn put_three(work: &mut [u16], base: usize, n: usize, a: usize, b: usize, c: usize)
@@ -47,8 +35,8 @@ fn name_join(work: &mut [u16], slips: &[u16], i: usize)
     let left = at(work, JOINS, row);
     let right = at(work, JOINS, row + 1);
     let overlap = at(work, JOINS, row + 2);
-    let left_number = number_of(slips, left);
-    let right_number = number_of(slips, right);
+    let left_number = tray_cut::number_of(slips, left);
+    let right_number = tray_cut::number_of(slips, right);
     put_three(work, NAMED, row, left_number, right_number, overlap);
 }
 
@@ -75,7 +63,7 @@ fn make_record(work: &mut [u16], slips: &[u16], side: u8, i: usize)
     let kept = at(work, PLACES, from + 1);
     let compared = at(work, PLACES, from + 2);
     let slip = i + 1;
-    let number = number_of(slips, slip);
+    let number = tray_cut::number_of(slips, slip);
     let row = RECORD_CELLS * i;
     put(work, RECORDS, row, number);
     put_three(work, RECORDS, row + 1, place, kept, compared);

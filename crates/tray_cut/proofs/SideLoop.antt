@@ -50,9 +50,8 @@ module _ (cs : List ℕ) (b : ℕ) (small : length cs ≤ maxSlips) where
 
       next : those t (upFrom 1 i′) ≡ those t (upFrom 1 i) ++ those t (suc i ∷ [])
       next =
-          let more : upFrom 1 (suc i) ≡ upFrom 1 i ++ (suc i ∷ []) =
-          upFrom-more 1 i ∙ ap (λ k. upFrom 1 i ++ (k ∷ [])) (let f : 1 + i ≡ suc i = omega arith in f) in
-          rw up (ap (those t) more ∙ those-append t (upFrom 1 i) (suc i ∷ []))
+          let number : 1 + i ≡ suc i = omega arith in
+          rw up (ap (those t) (upFrom-more 1 i) ∙ those-append t (upFrom 1 i) ((1 + i) ∷ []) ∙ rw number)
 
       pub picking-yes : getD cs i 0 ≡ b → (k count′ : ℕ) → k ≡ i′ → count′ ≡ count + 1 → Picking cs b i′ count′ (set ns count k)
       picking-yes y k count′ c d =

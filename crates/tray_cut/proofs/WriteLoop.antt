@@ -1,4 +1,4 @@
--- The loop that writes chosen slips of a tray, one behind the other.
+-- The loop that writes chosen slips of a tray, one after another.
 --   Writing s es M here a b a′ b′ at i == the slips of the first i numbers of M are written over a and b, and have `at` letters
 --   writing-none, writing-more, writing-all == at the start, after one slip more, at the end
 --   turn-..  == what a turn asks of the next slip, and of the room for it

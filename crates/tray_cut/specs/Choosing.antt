@@ -1,11 +1,13 @@
 -- Slips chosen out of a tray, s with ends es.
 --   SideSlips cs b == the numbers of the slips of side b, where cs are the sides of all slips
+--   CanCut s es M  == the tray is accepted, and M are numbers of its slips, ascending: these can be cut out as a tray of their own
 --   CanWrite, SlipsWritten == what writing the slips numbered in M after `here` letters asks and leaves; r letters are written
 use mathlib.Core.Path.{_≡_}
 use mathlib.Core.List.{List}
-use Prim.Native.Nat.{ℕ, _+_, _≤_}
+use Prim.Native.Nat.{ℕ, _+_, _≤_, _<_}
 use lib.ListN.{length, take}
 use Rattle.words.specs.Lists.{All, over}
+use Rattle.words.specs.steps.Members.{In, Asc}
 use Rattle.trays.specs.Limits.{maxSlips, maxLetters}
 use Rattle.trays.specs.Slips.{slipsOf, only}
 use Rattle.trays.specs.Faults.{trayFault}
@@ -17,6 +19,11 @@ pub record SideSlips (cs : List ℕ) (b : ℕ) (r : Chosen) : Type 0 where
   pub size : length (r .slips) ≡ maxSlips
   pub few : r .count ≤ length cs
   pub slips-are : take (r .count) (r .slips) ≡ ofSide cs b
+
+pub record CanCut (s es M : List ℕ) : Type 0 where
+  pub tray : trayFault s es .number ≡ 0
+  pub rise : Asc _<_ M
+  pub real : (i : ℕ) → In i M → (1 ≤ i) × (i ≤ length es)
 
 pub record CanWrite (s es M : List ℕ) (here a b : ℕ) : Type 0 where
   pub tray : trayFault s es .number ≡ 0

@@ -1,6 +1,8 @@
-// Slips chosen out of a tray: those of a side; and chosen slips written as a tray of their own.
-ghost use Prim.Native.Nat.{_≤_};
+// Slips chosen out of a tray: those of a side; chosen slips written as a tray of their own, and the numbers that they had.
+ghost use mathlib.Core.Path.{_≡_};
+ghost use Prim.Native.Nat.{_≤_, _<_};
 ghost use lib.ListN.{length};
+ghost use Rattle.words.specs.Lists.{entry};
 ghost use Rattle.trays.specs.Limits.{maxSlips};
 ghost use Rattle.tray_cut.specs.Choosing.{SideSlips, CanWrite, SlipsWritten};
 use tables::narrow;
@@ -55,4 +57,12 @@ pub fn write_slips(
         i += 1;
     }
     at
+}
+
+// The number that slip `i` of a tray cut out of another has in that other tray, where `slips` lists these numbers.
+pub fn number_of(slips: &[u16], i: usize) -> usize
+    requires { ⌜ (1 ≤ i) × (i ≤ length (now slips)) ⌝ }
+    ensures { λ r. ⌜ (r ≡ entry (now (slips .entry)) i) × (r < 65536) ⌝ }
+{
+    wide(slips[i - 1])
 }

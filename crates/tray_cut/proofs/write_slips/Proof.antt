@@ -43,9 +43,6 @@ sub-copy c = search turn-at
 part-copy-start : tie.Need-part-copy-start Inv-loop μ-loop
 part-copy-start c = search turn-at
 
-part-copy-end : tie.Need-part-copy-end Inv-loop μ-loop
-part-copy-end c = search needs
-
 copy-requires : tie.Need-copy-requires Inv-loop μ-loop
 copy-requires c κs = search turn-room
 
@@ -75,5 +72,5 @@ returns c = search writing-all
 
 pub write-slips-spec : {M : Type 1} → statement M
 write-slips-spec = tie.close (tie.spec Inv-loop μ-loop loop-holds (λ c. search needs) (λ c. search needs) (λ c κs. search needs) slip-part-requires
-    sub-copy part-copy-start part-copy-end copy-requires add-at add-narrow narrow-requires (λ c. search needs) slice-write-bounds (λ c. search needs)
-    (λ c. search needs) loop-again same-length same-length-2 returns)
+    sub-copy part-copy-start (λ c. search needs) copy-requires add-at add-narrow narrow-requires (λ c. search needs) slice-write-bounds (λ c. search
+    needs) (λ c. search needs) loop-again same-length same-length-2 returns)

@@ -1,7 +1,7 @@
-use Rattle.compose_names.proofs.Rows.{number-at}
+use Rattle.tray_cut.proofs.CutTray.{number-at}
 use borrow.Author.Needs.{needs}
-use Rattle.compose_names.proofs.number_of.Statement.{statement}
-use Rattle.compose_names.proofs.number_of.Tie as tie
+use Rattle.tray_cut.proofs.number_of.Statement.{statement}
+use Rattle.tray_cut.proofs.number_of.Tie as tie
 
 returns : tie.Need-returns
 returns c = (search number-at, search needs)
