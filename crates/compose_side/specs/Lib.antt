@@ -1,0 +1,2 @@
+-- Composing one side of a tray.
+pub mod steps

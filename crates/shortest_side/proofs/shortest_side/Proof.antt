@@ -1,0 +1,20 @@
+use Rattle.shortest_side.proofs.TopSteps.{says-tray, says-room, side-asks, says-all}
+use borrow.Author.Needs.{needs}
+use Rattle.shortest_side.proofs.shortest_side.Statement.{statement}
+use Rattle.shortest_side.proofs.shortest_side.Tie as tie
+
+returns : tie.Need-returns
+returns c = search says-tray
+
+returns-2 : tie.Need-returns-2
+returns-2 c = search says-room
+
+seek-side-requires : tie.Need-seek-side-requires
+seek-side-requires c κs = search side-asks
+
+returns-3 : tie.Need-returns-3
+returns-3 c = search says-all
+
+pub shortest-side-spec : {M : Type 1} → statement M
+shortest-side-spec = tie.close (tie.spec (λ c κs. search needs) (λ c κs. search needs) returns (λ c κs. search needs) returns-2
+    seek-side-requires (λ c. search needs) (λ c. search needs) returns-3)

@@ -1,0 +1,2 @@
+-- The shortest legend of one side of a tray.
+pub mod steps
