@@ -1,5 +1,6 @@
 -- Laws.
 pub mod Fitting
+pub mod SideFits
 pub mod RefusalsFit
 pub mod ComposeRefusals
 pub mod Sizes
