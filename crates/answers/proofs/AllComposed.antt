@@ -11,11 +11,12 @@ use Prim.Native.Nat.{ℕ}
 use Prim.Native.String.{String}
 use Rattle.words.specs.Quoted.{word}
 use Rattle.trays.specs.Slips.{numbers}
-use Rattle.trays.specs.Faults.{refusal}
-use Rattle.greedy.specs.Composing.{usual, whole, joinsOf}
+use Rattle.trays.specs.Faults.{refusal, firstRow}
+use Rattle.trays.specs.Sides.{obverse}
+use Rattle.greedy.specs.Composing.{Composing, usual, whole, sided, joinsOf}
 use Rattle.answers.specs.declared.Join.{Join}
 use Rattle.answers.specs.declared.Place.{Place}
-use Rattle.answers.specs.Composing.{composeFault, flatPlaces}
+use Rattle.answers.specs.Composing.{composeFault, roomRows, outcomeOf, flatPlaces, flatRecords}
 use Rattle.answers.specs.Records.{joinRecord, placeRecord}
 
 abbrev joined : ℕ → ℕ → ℕ → Join
@@ -76,3 +77,14 @@ pub rows-computed :
     ≡ (refusal 21 0 ∷ refusal 21 0 ∷ refusal 6 2 ∷ refusal 7 0 ∷ refusal 8 4 ∷ refusal 9 1 ∷ refusal 0 0 ∷ [])
 unfolding composeFault
 rows-computed = refl
+
+-- of a side its own slips are counted: AB, O ABC, R AVG, O BA, and O A, which is set aside
+abbrev ofObverse : Composing
+ofObverse = sided usual obverse (word " OROO") (map word ("AB" ∷ "ABC" ∷ "AVG" ∷ "BA" ∷ "A" ∷ []))
+
+pub side-computed :
+    (outcomeOf ofObverse ≡ record { number = 0; detail = 0; slips = 3; kept = 2; letters = 5; saved = 1; legend = 4; joins = 1 })
+    × (flatRecords ofObverse obverse ≡ 2 ∷ 2 ∷ 1 ∷ 0 ∷ 79 ∷ 4 ∷ 1 ∷ 1 ∷ 0 ∷ 79 ∷ 5 ∷ 2 ∷ 0 ∷ 2 ∷ 79 ∷ [])
+    × (firstRow (roomRows ofObverse 4 1 3) ≡ refusal 0 0)
+    × (firstRow (roomRows ofObverse 4 1 2) ≡ refusal 9 1)
+side-computed = (refl, refl, refl, refl)

@@ -4,6 +4,7 @@ use Rattle.greedy.specs.Claims.{Greedy-legends, Fewer-joins, Stop-free, All-tri
 use Rattle.matching.specs.Moves.{Longest-endings, Few-moves}
 use Rattle.shortest.specs.Claims.{Shortest-legends}
 use Rattle.merge_rule.specs.Claims.{Same-legend, One-or-four}
+use Rattle.merge_rule.specs.Sides.{Same-legend-sides, One-or-four-sides}
 use Rattle.trays.specs.Stored.{Stored-trays}
 use Rattle.fold_rule.specs.Claims.{Fold-table, Fold-sign}
 use Rattle.sheet_rule.specs.Stored.{Stored-files}
@@ -31,6 +32,9 @@ pub record Demands : Type 0 where
   pub same-legend : Same-legend
   -- of two accepted trays the outcome can fail by 1 or 4 alone
   pub one-or-four : One-or-four
+  -- the same of two trays with sides: the legend of each side; of two accepted trays 1 or 4 alone, and 22 never of the outcome
+  pub same-legend-sides : Same-legend-sides
+  pub one-or-four-sides : One-or-four-sides
   -- the state is the longest ending of the text so far that begins a slip
   pub longest-endings : Longest-endings
   -- moves are at most 2 × the letters
