@@ -1,8 +1,8 @@
 -- Members that ascend from 1 compose as a tray that holds these only.
+--   onlyOf c      == the members of what is composed, as slips of their own
 --   nth-entry     == the numbering of that tray's slips (Chosen) is the list of the members
 --   NAME-alone    == NAME of a member is NAME of that tray's slip
 --   alone-of      == all that is composed
---   members-alone == so of an accepted tray, as a tray of its own letters and ends
 -- The numbering by the members renumbers the tray of their own (Chosen), and everything that is composed goes along with a renumbering (Relabel).
 use mathlib.Core.Path.{_≡_, refl, sym, ap, _∙_}
 use mathlib.Core.List.{List, map}
@@ -19,11 +19,14 @@ use Rattle.trays.specs.Aside.{isAside, kept}
 use Rattle.trays.proofs.Kept.{in-kept}
 use Rattle.greedy.specs.Joins.{plainFor, rejoin}
 use Rattle.greedy.specs.Composing.{Composing, rule, joinsOf, legendOf, placeOf, comparedOf}
-use Rattle.greedy.specs.Sides.{onlyOf, Alone}
+use Rattle.greedy.specs.Sides.{Alone}
 use Rattle.greedy.proofs.Relabel.{Renumbers, Within, relabel, plain-in, saved-relabel, total-relabel, isAside-relabel, kept-relabel}
 use Rattle.greedy.proofs.Relabel.{kept-renumbers, joins-relabel, legend-relabel, placeFor-relabel, comparedFor-relabel}
 use Rattle.greedy.proofs.Chosen.{Real, numbers-real, nth, nth-renumbers, nth-numbers}
 use Rattle.greedy.proofs.GreedyLegends.{greedy-of}
+
+abbrev pub onlyOf : Composing → Composing
+onlyOf c = let os = only (c .slips) (c .members) in record { slips = os; members = numbers os; least = c .least }
 
 pub nth-entry : (n : ℕ) (M : List ℕ) (i : ℕ) → i ≤ length M → nth M n i ≡ entry M i
 nth-entry n M zero h = refl

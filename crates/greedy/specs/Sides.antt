@@ -1,16 +1,11 @@
 -- Some of the slips, composed as a tray that holds these only.
---   onlyOf c   == the members of what is composed, as slips of their own
 --   Alone c d  == c composes as d does, where slip i of d is the i-th member of c
 use mathlib.Core.Path.{_≡_}
 use mathlib.Core.List.{map}
 use Rattle.words.specs.Lists.{entry}
-use Rattle.trays.specs.Slips.{numbers, only}
 use Rattle.trays.specs.Aside.{isAside}
 use Rattle.greedy.specs.Joins.{saved, rejoin}
 use Rattle.greedy.specs.Composing.{Composing, keptOf, joinsOf, walkOf, legendOf, placeOf, comparedOf, keptLetters}
-
-abbrev pub onlyOf : Composing → Composing
-onlyOf c = let os = only (c .slips) (c .members) in record { slips = os; members = numbers os; least = c .least }
 
 -- Rules, sides: exactly as a tray holding that side only would, slip numbers being the original ones.
 pub record Alone (c d : Composing) : Type 0 where

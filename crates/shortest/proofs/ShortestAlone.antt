@@ -23,10 +23,9 @@ use Rattle.trays.proofs.Kept.{in-kept}
 use Rattle.greedy.specs.Legends.{spelled}
 use Rattle.greedy.specs.Orders.{weight, laidAfter, orderLegend}
 use Rattle.greedy.specs.Composing.{Composing, rule, keptOf}
-use Rattle.greedy.specs.Sides.{onlyOf}
 use Rattle.greedy.proofs.Relabel.{Renumbers, eqb-relabel, kept-relabel, kept-renumbers}
 use Rattle.greedy.proofs.Chosen.{Real, nth, nth-renumbers, nth-numbers}
-use Rattle.greedy.proofs.Alone.{nth-entry}
+use Rattle.greedy.proofs.Alone.{onlyOf, nth-entry}
 use Rattle.shortest.specs.Orders.{without, orders, less, firstLeast, shortestFor, shortestOrder}
 use Rattle.shortest.specs.Sides.{AloneShortest}
 use Rattle.shortest.proofs.Firsts.{firstFrom-map, firstFrom-same}
