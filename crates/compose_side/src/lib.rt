@@ -17,7 +17,7 @@ use trays::MAX_SLIPS;
 use trays::Settings;
 
 // The slips with these numbers of an accepted tray, composed as a tray of their own.
-pub fn compose_cut(
+fn compose_cut(
     letters: &[u8],
     ends: &[u16],
     slips: &[u16],

@@ -24,7 +24,7 @@ use Rattle.greedy.specs.Composing.{sided, legendOf}
 use Rattle.merge_rule.specs.Merging.{merged}
 use Rattle.merge_rule.specs.Claims.{longEnds}
 
--- Rules, two trays: equal slips must be of equal side. Two labelled slips are the same where both side and letters are.
+-- A slip with its side is a list too, so that two of them are the same where both side and letters are.
 abbrev pub labelled : List (List ℕ) → List ℕ → List (List ℕ)
 labelled [] cs = []
 labelled (x ∷ xs) cs = (headOr 0 cs ∷ x) ∷ labelled xs (tailOf cs)
@@ -36,11 +36,11 @@ lettersAmong ms = map tailOf ms
 abbrev pub sidesAmong : List (List ℕ) → List ℕ
 sidesAmong ms = map (headOr 0) ms
 
--- Rules, two trays: equal slips must be of equal side.
+-- Rules, sides: merged as two trays are, where equal slips are of equal side.
 abbrev pub mergedSides : List ℕ → List ℕ → List ℕ → List ℕ → List ℕ → List ℕ → List (List ℕ)
 mergedSides s es cs t fs ds = merged same (labelled (slipsOf s es) cs) (labelled (slipsOf t fs) ds)
 
--- Rules, place A: room for any tray and its sides is lent. Place B: the first tray, then the second, then the outcome, each with its sides.
+-- Rules, sides: 15 also asks for 200 lent sides. Then the first tray, the second and the outcome, each with its sides.
 abbrev pub mergeSidesRows : ℕ → ℕ → ℕ → List ℕ → List ℕ → List ℕ → List ℕ → List ℕ → List ℕ → List Refusal
 mergeSidesRows a b d s es cs t fs ds =
     let m = mergedSides s es cs t fs ds in
@@ -57,13 +57,13 @@ pub record AsLongSide (g : Settings) (b : ℕ) (s es cs t fs ds : List ℕ) : Ty
       legendOf (sided g b (sidesAmong m) (slipsOf (lettersOf (lettersAmong m)) (endsOf (lettersAmong m))))
       ≡ legendOf (sided g b (cs ++ ds) (slipsOf (s ++ t) (longEnds s es fs)))
 
--- Rules, two trays: where the long tray is itself accepted, and 22 is silent of both lists of sides. Of the two trays only the first needs to be accepted.
+-- Rules, sides: where the long tray is itself accepted, and 22 is silent of both lists of sides. Of the two trays only the first needs to be accepted.
 abbrev pub Same-legend-sides : Type 0
 Same-legend-sides =
     (g : Settings) (b : ℕ) (s es cs t fs ds : List ℕ) → AcceptedSides s es cs → sidesRow fs ds .number ≡ 0
     → trayFault (s ++ t) (longEnds s es fs) .number ≡ 0 → AsLongSide g b s es cs t fs ds
 
--- Rules, two trays: the outcome is judged as a tray with its sides is.
+-- Rules, two trays: only by 1 or 4; so 22 never speaks of the outcome.
 abbrev pub One-or-four-sides : Type 0
 One-or-four-sides =
     (s es cs t fs ds : List ℕ) → AcceptedSides s es cs → AcceptedSides t fs ds
