@@ -6,13 +6,13 @@
 --   number-at        == the number that one of them had
 use mathlib.Core.Path.{_≡_, sym, _∙_, ap}
 use mathlib.Core.List.{List}
-use Prim.Native.Nat.{ℕ, zero, suc, _-_, _≤_}
-use native.Mathlib.Numerals.{sub-one}
+use Prim.Native.Nat.{ℕ, _-_, _≤_}
 use native.Mathlib.Omega.{arith}
 use lib.ListN.{length, getD, take, replicate, length-map}
 use lib.Seq.{take-append-seam}
 use Rattle.words.specs.Lists.{entry, over}
 use Rattle.words.proofs.Buffers.{length-over}
+use Rattle.words.proofs.Picks.{entry-at}
 use Rattle.words.proofs.Sums.{all-in}
 use Rattle.trays.specs.Limits.{maxSlips, maxLetters}
 use Rattle.trays.specs.Slips.{slipsOf, slip, only}
@@ -86,5 +86,4 @@ module _ (s es M : List ℕ) (h : CanCut s es M) where
 
 -- the number of slip i is the one at i - 1
 pub number-at : (N : List ℕ) (i r : ℕ) → 1 ≤ i → r ≡ getD N (i - 1) 0 → r ≡ entry N i
-number-at N zero r h e = absurd (omega arith)
-number-at N (suc i) r h e = e ∙ rw sub-one
+number-at N i r h e = e ∙ entry-at N i h

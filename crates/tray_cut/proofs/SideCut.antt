@@ -1,7 +1,8 @@
 -- The slips of a side of an accepted tray, chosen: they can be cut out.
 --   sides-few  == what choosing them asks
 --   slips-..   == the part of the numbers that is lent
---   side-cut   == it can be cut out as a tray of its own
+--   own-cut    == the slips of a side can be cut out as a tray of their own; side-few == which has no more than a tray may have
+--   side-cut   == so can those chosen
 use mathlib.Core.Path.{_≡_, sym}
 use mathlib.Core.List.{List}
 use Prim.Native.Nat.{ℕ, _≤_}
@@ -16,6 +17,7 @@ use Rattle.greedy.proofs.Chosen.{Real}
 use Rattle.greedy.proofs.SideLists.{side-real}
 use Rattle.tray_cut.specs.declared.Chosen.{Chosen}
 use Rattle.tray_cut.specs.Choosing.{SideSlips, CanCut}
+use Rattle.tray_cut.proofs.CutTray.{chosen-few}
 
 module _ (s es cs : List ℕ) (h : AcceptedSides s es cs) where
   same-count : length cs ≡ length es
@@ -23,6 +25,14 @@ module _ (s es cs : List ℕ) (h : AcceptedSides s es cs) where
 
   pub sides-few : length cs ≤ maxSlips
   sides-few = omega (arith, same-count, accepted-tells s es (h .tray) .few)
+
+  own-cut : (b : ℕ) → CanCut s es (ofSide cs b)
+  own-cut b =
+      let R : Real (length es) (ofSide cs b) = side-real cs b (length es) same-count in
+      record { tray = h .tray; rise = R .rise; real = R .real }
+
+  pub side-few : (b : ℕ) → length (ofSide cs b) ≤ maxSlips
+  side-few b = chosen-few s es (ofSide cs b) (own-cut b)
 
   module _ (b : ℕ) (o : Chosen) (S : SideSlips cs b o) where
     pub slips-fit : o .count ≤ length (o .slips)
@@ -32,6 +42,4 @@ module _ (s es cs : List ℕ) (h : AcceptedSides s es cs) where
     slips-counted = sym (length-take-le (o .count) (o .slips) slips-fit)
 
     pub side-cut : CanCut s es (take (o .count) (o .slips))
-    side-cut =
-        let R : Real (length es) (ofSide cs b) = side-real cs b (length es) same-count in
-        rw (S .slips-are) record { tray = h .tray; rise = R .rise; real = R .real }
+    side-cut = rw (S .slips-are) (own-cut b)

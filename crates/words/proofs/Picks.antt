@@ -1,5 +1,6 @@
 -- Members picked by a test, and members by their place.
 --   getD xs i d   == the member of xs at place i, from 0
+--   entry-at      == the i-th of a list, counted from 1, stands at place i - 1
 -- Tests that agree on the members of a list pick the same ones. A member stands at some place, and in a list that ascends by an
 -- irreflexive relation at one place only.
 use mathlib.Core.Path.{_≡_, refl, sym, ap, _∙_}
@@ -7,11 +8,12 @@ use mathlib.Core.Bool.{Bool, true, false, _&&_}
 use mathlib.Core.List.{List, [], _∷_, _++_, List·Memᴰ·head, List·Memᴰ·tail, List·Memᴰ·not-nil, List·Memᴰ·append-cases}
 use mathlib.Core.List.{Memᴰ·append-left, Memᴰ·append-right}
 use mathlib.Core.Logic.{inl, inr}
-use Prim.Native.Nat.{ℕ, zero, suc, _<_}
+use Prim.Native.Nat.{ℕ, zero, suc, _-_, _≤_, _<_}
 use native.Mathlib.Decide.{decLt}
+use native.Mathlib.Numerals.{sub-one}
 use native.Mathlib.Omega.{arith}
 use lib.ListN.{length, getD}
-use Rattle.words.specs.Lists.{each, those}
+use Rattle.words.specs.Lists.{each, those, entry}
 use Rattle.words.proofs.Tests.{tell}
 use Rattle.words.proofs.Members.{In, by-in, Asc, those-yes, those-no}
 
@@ -104,6 +106,10 @@ asc-before R [] ys p a b i j = absurd (List·Memᴰ·not-nil i)
 asc-before R (x ∷ xs) ys p a b i j = by-in i (λ e. rw e (p .0 b (Memᴰ·append-right xs j))) (λ k. asc-before R xs ys (p .1) a b k j)
 
 -- at a place within the list the default does not matter
+pub entry-at : (xs : List ℕ) (i : ℕ) → 1 ≤ i → getD xs (i - 1) 0 ≡ entry xs i
+entry-at xs zero h = absurd (omega arith)
+entry-at xs (suc i) h = rw sub-one
+
 pub getD-default : {A : Type 0} (xs : List A) (i : ℕ) (d e : A) → i < length xs → getD xs i d ≡ getD xs i e
 getD-default [] i d e h = absurd (omega arith)
 getD-default (x ∷ xs) zero d e h = refl
