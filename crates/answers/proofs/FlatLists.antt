@@ -1,4 +1,4 @@
--- Joins, places and occurrences as numbers: how many, and which.
+-- Joins, places, records of places and occurrences as numbers: how many, and which.
 --   ..-length == so many numbers for each
 --   ..-at     == number j of the one at index i; `at` is its index in the list of numbers
 use mathlib.Core.Path.{_≡_, refl, _∙_, ap}
@@ -12,7 +12,7 @@ use Rattle.trays.specs.Slips.{numbers}
 use Rattle.greedy.specs.Joins.{Join, join}
 use Rattle.greedy.specs.Composing.{Composing}
 use Rattle.matching.specs.Occurrences.{Occurrence, occurrence}
-use Rattle.answers.specs.Composing.{joinCells, joinNumbers, flatJoins, placeCells, placeNumbers, flatPlaces}
+use Rattle.answers.specs.Composing.{joinCells, joinNumbers, flatJoins, placeCells, placeNumbers, flatPlaces, recordCells, recordNumbers, flatRecords}
 use Rattle.answers.specs.Finding.{foundNumbers, flatFound}
 
 pub joins-length : (js : List Join) → length (flatJoins js) ≡ joinCells * length js
@@ -39,3 +39,12 @@ module _ (c : Composing) where
   places-at i j at h l e =
       flat-at placeCells (placeNumbers c) (λ n. refl) 0 (numbers (c .slips)) i j at (rw (length-upFrom 1 (length (c .slips))) h) l e
       ∙ ap (λ (n : ℕ). getD (placeNumbers c n) j 0) (upFrom-at 1 (length (c .slips)) i h ∙ one-add i)
+
+-- of records it counts members
+module _ (c : Composing) (b : ℕ) where
+  pub records-length : length (flatRecords c b) ≡ recordCells * length (c .members)
+  records-length = flat-length recordCells (recordNumbers c b) (λ i. refl) (c .members)
+
+  pub records-at : (i j at : ℕ) → i < length (c .members) → j < recordCells → at ≡ recordCells * i + j →
+      getD (flatRecords c b) at 0 ≡ getD (recordNumbers c b (getD (c .members) i 0)) j 0
+  records-at = flat-at recordCells (recordNumbers c b) (λ i. refl) 0 (c .members)

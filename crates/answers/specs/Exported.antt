@@ -1,7 +1,7 @@
 -- The calls for other languages: the answer is a list of numbers.
 --   inNumbers r    == the answer of composing as eight numbers; searchNumbers r == that of finding as four
 --   shortestNumbers r == that of the shortest legend as fourteen: number, detail, letters, count and the order's ten
---   ComposeExported, FindExported, ShortestExported == what the calls leave; m is the least overlap
+--   ComposeExported, FindExported, ShortestExported == what the calls leave; m is the least overlap, b the side named
 use mathlib.Core.Path.{_≡_}
 use mathlib.Core.List.{List, [], _∷_, map}
 use Prim.Native.Nat.{ℕ, _-_}
@@ -19,9 +19,9 @@ abbrev pub inNumbers : Composed → List ℕ
 inNumbers r =
     r .number ∷ (r .detail ∷ (r .slips ∷ (r .kept ∷ (r .letters ∷ (r .saved ∷ (r .legend ∷ (r .joins ∷ [])))))))
 
-pub record ComposeExported (m : ℕ) (s es w w′ l l′ j j′ p p′ a′ : List ℕ) : Type 0 where
+pub record ComposeExported (m b : ℕ) (s es cs w w′ l l′ j j′ p p′ a′ : List ℕ) : Type 0 where
   pub answer : Composed
-  pub says : ComposeFlat (record { least = m }) s es w w′ l l′ j j′ p p′ answer
+  pub says : ComposeFlat (record { least = m; side = b }) s es cs w w′ l l′ j j′ p p′ answer
   pub numbers-are : a′ ≡ inNumbers answer
 
 abbrev pub searchNumbers : Search → List ℕ
@@ -35,7 +35,7 @@ pub record FindExported (s es t w w′ o o′ a′ : List ℕ) : Type 0 where
 abbrev pub shortestNumbers : Shortest → List ℕ
 shortestNumbers r = r .number ∷ (r .detail ∷ (r .legend ∷ (r .count ∷ map (λ i. getD (r .order) i 0) (upFrom 0 maxShortest))))
 
-pub record ShortestExported (m : ℕ) (s es w w′ l l′ a′ : List ℕ) : Type 0 where
+pub record ShortestExported (m b : ℕ) (s es cs w w′ l l′ a′ : List ℕ) : Type 0 where
   pub answer : Shortest
-  pub says : ShortestSays (record { least = m }) s es w w′ l l′ answer
+  pub says : ShortestSays (record { least = m; side = b }) s es cs w w′ l l′ answer
   pub numbers-are : a′ ≡ shortestNumbers answer

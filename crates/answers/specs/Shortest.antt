@@ -1,8 +1,8 @@
--- The shortest legend: refusals 20 and 8 after those of the settings, of the tray and 7, the answer, and what each buffer holds afterwards.
+-- The shortest legend of a side: refusals 20 and 8 after those of the settings, of the tray, of its sides and 7, the answer, and what each buffer holds afterwards.
 --   shortestRows c l         == place C: room for l letters
---   shortestFault g s es w l == what refuses the call, with the settings g, a work area of w cells and room for l letters
---   shortestOf g s es w l    == the answer
---   ShortestSays             == the promise, for every input: settings g; tray s, es; work area w and legend l before, w′ and l′ after; answer r
+--   shortestFault g s es cs w l == what refuses the call, with the settings g, a work area of w cells and room for l letters
+--   shortestOf g s es cs w l == the answer
+--   ShortestSays             == the promise, for every input: settings g; tray s, es, cs; work area w and legend l before, w′ and l′ after; answer r
 use mathlib.Core.Path.{_≡_}
 use mathlib.Core.List.{List, [], _∷_, _++_}
 use Prim.Native.Nat.{ℕ, zero, suc}
@@ -13,8 +13,9 @@ use Rattle.trays.specs.declared.Refusal.{Refusal}
 use Rattle.trays.specs.Limits.{maxShortest}
 use Rattle.trays.specs.declared.Settings.{Settings}
 use Rattle.trays.specs.Slips.{slipsOf}
-use Rattle.trays.specs.Faults.{row, firstRow, setRows, written}
-use Rattle.greedy.specs.Composing.{Composing, whole, keptOf}
+use Rattle.trays.specs.Faults.{row, firstRow, written}
+use Rattle.trays.specs.Sides.{sidedRows}
+use Rattle.greedy.specs.Composing.{Composing, sided, keptOf}
 use Rattle.shortest.specs.Orders.{shortestOrder, shortestLegend}
 use Rattle.answers.specs.WorkArea.{workRow, WorkKept}
 use Rattle.answers.specs.declared.Shortest.{Shortest}
@@ -24,8 +25,9 @@ use Rattle.answers.specs.Composing.{beforeC}
 abbrev pub shortestRows : Composing → ℕ → List Refusal
 shortestRows c l = let need = length (shortestLegend c) in row 20 (ltb maxShortest (length (keptOf c))) 0 ∷ (row 8 (ltb l need) need ∷ [])
 
-unfoldable pub shortestFault : Settings → List ℕ → List ℕ → ℕ → ℕ → Refusal
-shortestFault g s es w l = firstRow (setRows (g .least) s es ++ (workRow w ∷ shortestRows (whole g (slipsOf s es)) l))
+unfoldable pub shortestFault : Settings → List ℕ → List ℕ → List ℕ → ℕ → ℕ → Refusal
+shortestFault g s es cs w l =
+    firstRow (sidedRows (g .least) (g .side) s es cs ++ (workRow w ∷ shortestRows (sided g cs (slipsOf s es)) l))
 
 -- a count and ten numbers, 0 past the count
 abbrev pub shortestOutcome : Composing → Shortest
@@ -45,10 +47,10 @@ shortestRefused f = record { number = f .number; detail = f .detail; legend = 0;
 abbrev pub shortestBy : Refusal → Composing → Shortest
 shortestBy f c = elim (f .number) [ zero ↦ shortestOutcome c | suc n ↦ shortestRefused f ]
 
-unfoldable pub shortestOf : Settings → List ℕ → List ℕ → ℕ → ℕ → Shortest
-shortestOf g s es w l = shortestBy (shortestFault g s es w l) (whole g (slipsOf s es))
+unfoldable pub shortestOf : Settings → List ℕ → List ℕ → List ℕ → ℕ → ℕ → Shortest
+shortestOf g s es cs w l = shortestBy (shortestFault g s es cs w l) (sided g cs (slipsOf s es))
 
-pub record ShortestSays (g : Settings) (s es w w′ l l′ : List ℕ) (r : Shortest) : Type 0 where
-  pub answer-is : r ≡ shortestOf g s es (length w) (length l)
-  pub legend-is : l′ ≡ written (shortestFault g s es (length w) (length l)) (shortestLegend (whole g (slipsOf s es))) l
-  pub work-is : WorkKept (beforeC g s es (length w)) w w′
+pub record ShortestSays (g : Settings) (s es cs w w′ l l′ : List ℕ) (r : Shortest) : Type 0 where
+  pub answer-is : r ≡ shortestOf g s es cs (length w) (length l)
+  pub legend-is : l′ ≡ written (shortestFault g s es cs (length w) (length l)) (shortestLegend (sided g cs (slipsOf s es))) l
+  pub work-is : WorkKept (beforeC g s es cs (length w)) w w′

@@ -20,21 +20,22 @@ pub struct Join {
     pub overlap: u16,
 }
 
-// A slip, its place in the legend, whether it was kept, and how many letters were compared to find the place, 0 if kept.
+// A slip, its place in the legend, whether it was kept, how many letters were compared to find the place, 0 if kept, and its side.
 pub struct Place {
     pub slip: u16,
     pub place: u16,
     pub kept: bool,
     pub compared: u16,
+    pub side: u8,
 }
 
 // How many numbers a join has where it is told in numbers.
 pub const JOIN_CELLS: usize = 3;
 
-// How many numbers a place has where it is told in numbers.
+// How many numbers a place has where it is staged, without its slip's number and side.
 pub const PLACE_CELLS: usize = 3;
 
-// How many numbers a record of places with its side has where it is told in numbers.
+// How many numbers a record of places has where it is told in numbers.
 pub const RECORD_CELLS: usize = 5;
 
 // 12: a text has at most this many letters.

@@ -8,10 +8,10 @@ use Prim.Native.String.{String}
 use Rattle.words.specs.Quoted.{word}
 use Rattle.trays.specs.Sides.{blankSide, obverse, reverse}
 use Rattle.greedy.specs.Joins.{join}
-use Rattle.greedy.specs.Composing.{Composing, usual, sided, keptOf, joinsOf, walkOf, legendOf, placeOf}
+use Rattle.greedy.specs.Composing.{Composing, usualOf, sided, keptOf, joinsOf, walkOf, legendOf, placeOf}
 
 abbrev of : ℕ → String → List String → Composing
-of b cs ws = sided usual b (word cs) (map word ws)
+of b cs ws = sided (usualOf b) (word cs) (map word ws)
 
 abbrev tray : ℕ → Composing
 tray b = of b " ORO" ("AB" ∷ "ABC" ∷ "AVG" ∷ "BA" ∷ [])

@@ -20,6 +20,7 @@ use Rattle.words.specs.Quoted.{word}
 use Rattle.trays.specs.declared.Settings.{Settings}
 use Rattle.trays.specs.Slips.{numbers}
 use Rattle.trays.specs.Aside.{kept}
+use Rattle.trays.specs.Sides.{blankSide}
 use Rattle.greedy.specs.Joins.{Join, join, plainFor, saved}
 use Rattle.greedy.specs.Legends.{tried}
 use Rattle.greedy.specs.Composing.{usual, whole, keptOf, joinsOf, walkOf, legendOf, placeOf, comparedOf, keptLetters}
@@ -137,7 +138,7 @@ set =
     ∷ (32, specimen ("AVG" ∷ "VG" ∷ "VGP" ∷ []) (1 ∷ 3 ∷ []) [] "AVGVGP" (1 ∷ 2 ∷ 4 ∷ []) 0 6)
     ∷ []
 
-pub set-computed : map (λ s. computed (record { least = s .0 }) (s .1)) set ≡ map (λ s. s .1 .outcome) set
+pub set-computed : map (λ s. computed (record { least = s .0; side = blankSide }) (s .1)) set ≡ map (λ s. s .1 .outcome) set
 unfolding set
 set-computed = refl
 
@@ -171,7 +172,7 @@ tight = (refl, refl)
 -- with a least overlap of 2 the text saves what the joins do not
 pub least-needed :
     let ss = map word ("AB" ∷ "BC" ∷ []) in
-    let c = whole (record { least = 2 }) ss in
+    let c = whole (record { least = 2; side = blankSide }) ss in
     (stopFree ss (keptOf c) ≡ true) × (holdsAll ss (keptOf c) (word "ABC") ≡ true) × (keptLetters c ≡ 4) × (bound c (word "ABC") ≡ 3)
 least-needed = (refl, refl, refl, refl)
 

@@ -1,9 +1,9 @@
 -- What is composed: slips, the numbers of those that take part, and the least overlap. Requests widen this record, and everything that is composed is a
 -- function of it.
---   usual           == the settings that the programs pass: every overlap that has a letter may count
+--   usualOf b       == the settings that the programs pass for side b: every overlap that has a letter may count; usual == for the blank side
 --   among g M ss    == the slips ss, of which those numbered in M are members, with the settings g
 --   whole g ss      == every slip a member
---   sided g b cs ss == those of side b members, where the slips have the sides cs
+--   sided g cs ss   == those of the side that g names members, where the slips have the sides cs
 --   rule c          == which overlap strings count
 --   keptOf c        == the kept members
 --   joinsOf c       == the joins of the plain rule; walkOf c == those of the walk
@@ -16,7 +16,7 @@ use Prim.Native.Nat.{ℕ}
 use Rattle.trays.specs.declared.Settings.{Settings}
 use Rattle.trays.specs.Slips.{numbers, total}
 use Rattle.trays.specs.Aside.{kept, counted}
-use Rattle.trays.specs.Sides.{ofSide}
+use Rattle.trays.specs.Sides.{blankSide, ofSide}
 use Rattle.greedy.specs.Joins.{Join, plainFor}
 use Rattle.greedy.specs.Walk.{walkFor}
 use Rattle.greedy.specs.Legends.{Piece, piecesFor, legendFor, placeFor, comparedFor}
@@ -26,8 +26,11 @@ pub record Composing : Type 0 where
   pub members : List ℕ
   pub least : ℕ
 
+abbrev pub usualOf : ℕ → Settings
+usualOf b = record { least = 1; side = b }
+
 abbrev pub usual : Settings
-usual = record { least = 1 }
+usual = usualOf blankSide
 
 abbrev pub among : Settings → List ℕ → List (List ℕ) → Composing
 among g M ss = record { slips = ss; members = M; least = g .least }
@@ -36,8 +39,8 @@ abbrev pub whole : Settings → List (List ℕ) → Composing
 whole g ss = among g (numbers ss) ss
 
 -- Rules, sides: slips of different sides neither overlap nor set each other aside, so that a side's slips alone take part; their numbers are those of the tray.
-abbrev pub sided : Settings → ℕ → List ℕ → List (List ℕ) → Composing
-sided g b cs ss = among g (ofSide cs b) ss
+abbrev pub sided : Settings → List ℕ → List (List ℕ) → Composing
+sided g cs ss = among g (ofSide cs (g .side)) ss
 
 abbrev pub rule : Composing → List ℕ → Bool
 rule c = counted (c .least)

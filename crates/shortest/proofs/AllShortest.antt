@@ -9,8 +9,8 @@ use Prim.Native.String.{String}
 use lib.ListN.{length}
 use Rattle.words.specs.Quoted.{word}
 use Rattle.trays.specs.declared.Settings.{Settings}
-use Rattle.trays.specs.Sides.{obverse}
-use Rattle.greedy.specs.Composing.{usual, whole, sided}
+use Rattle.trays.specs.Sides.{blankSide, obverse}
+use Rattle.greedy.specs.Composing.{usualOf, usual, whole, sided}
 use Rattle.greedy.specs.Claims.{holdsAll}
 use Rattle.shortest.specs.Orders.{shortestOrder, shortestLegend}
 
@@ -62,7 +62,7 @@ set =
     ∷ (3, short ("ABY" ∷ "XAB" ∷ "BX" ∷ []) (1 ∷ 2 ∷ 3 ∷ []) "ABYXABBX")
     ∷ []
 
-pub set-computed : map (λ s. (s .0, computed (record { least = s .0 }) (s .1))) set ≡ set
+pub set-computed : map (λ s. (s .0, computed (record { least = s .0; side = blankSide }) (s .1))) set ≡ set
 set-computed = refl
 
 -- Where a kept slip begins with a stop, a text may be shorter: A.B holds A. and .B and has three letters, their legend four.
@@ -78,7 +78,7 @@ shorter-text = (refl, refl)
 -- So it may with a least overlap of 2: ABC holds AB and BC.
 pub shorter-by-one :
     let ss = map word ("AB" ∷ "BC" ∷ []) in
-    (holdsAll ss (1 ∷ 2 ∷ []) (word "ABC") ≡ true) × (length (word "ABC") ≡ 3) × (length (shortestLegend (whole (record { least = 2 }) ss)) ≡ 4)
+    (holdsAll ss (1 ∷ 2 ∷ []) (word "ABC") ≡ true) × (length (word "ABC") ≡ 3) × (length (shortestLegend (whole (record { least = 2; side = blankSide }) ss)) ≡ 4)
 shorter-by-one = (refl, refl, refl)
 
 -- The slips of a side alone, by their numbers in the tray; of all four together the order is another.
@@ -86,6 +86,6 @@ abbrev four : List (List ℕ)
 four = map word ("CAB" ∷ "ABC" ∷ "BCA" ∷ "BA" ∷ [])
 
 pub side-computed :
-    let c = sided usual obverse (word " ORO") four in
+    let c = sided (usualOf obverse) (word " ORO") four in
     (shortestOrder c ≡ 4 ∷ 2 ∷ []) × (shortestLegend c ≡ word "BABC") × (shortestOrder (whole usual four) ≡ 2 ∷ 3 ∷ 1 ∷ 4 ∷ [])
 side-computed = (refl, refl, refl)

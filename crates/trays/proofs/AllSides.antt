@@ -4,12 +4,17 @@
 --   side-signs           == the three sides, and bytes that are none
 --   side-rows            == 22: of a list of sides, and of the side named
 --   sides-after-the-tray == 21, 1 to 6 and 22: which is reported of several
+--   sided-pairs          == pairs of one side and of two; 22 comes after 6 and before 10 and 11
 use mathlib.Core.Path.{_≡_, refl}
 use mathlib.Core.Bool.{true, false}
 use mathlib.Core.List.{[], _∷_, map}
+use Prim.Native.Nat.{ℕ}
+use Prim.Native.String.{String}
 use Rattle.words.specs.Quoted.{word}
+use Rattle.trays.specs.declared.Pair.{Pair}
 use Rattle.trays.specs.Faults.{refusal}
-use Rattle.trays.specs.Sides.{blankSide, obverse, reverse, isSide, ofSide, sidesRow, sideFault, sidedFault}
+use Rattle.trays.specs.Sides.{blankSide, obverse, reverse, isSide, ofSide, sidesRow, sideFault, sidedFault, pairFault}
+use Rattle.trays.specs.Answers.{pairOf}
 
 pub numbers-of-sides :
     (ofSide (word " ORO") obverse ≡ 2 ∷ 4 ∷ [])
@@ -51,3 +56,23 @@ pub sides-after-the-tray :
     ≡ (refusal 21 0 ∷ refusal 6 1 ∷ refusal 22 0 ∷ refusal 22 0 ∷ refusal 22 0 ∷ refusal 0 0 ∷ [])
 unfolding sidedFault
 sides-after-the-tray = refl
+
+-- AVG three times, of which the first two are of one side; then, of the slips 4 and 4, a wrong value, a list one short, and a byte that is no sign too
+abbrev pair : ℕ → ℕ → ℕ → Pair
+pair n d k = record { number = n; detail = d; letters = k }
+
+abbrev pairIn : String → String → ℕ → ℕ → Pair
+pairIn s cs i j = pairOf 1 (word s) (3 ∷ 6 ∷ 9 ∷ []) (word cs) i j
+
+pub sided-pairs :
+    (pairIn "AVGAVGAVG" "OOR" 1 2
+    ∷ pairIn "AVGAVGAVG" "OOR" 1 3
+    ∷ pairIn "AVGAVGAVG" "OOR" 3 1
+    ∷ pairIn "AVGAVGAVG" "OOo" 4 4
+    ∷ pairIn "AVGAVGAVG" "OO" 4 4
+    ∷ pairIn "AVGAVGAV#" "OO" 4 4
+    ∷ pairIn "AVGAVGAVG" "OOR" 4 4
+    ∷ [])
+    ≡ (pair 0 0 3 ∷ pair 0 0 0 ∷ pair 0 0 0 ∷ pair 22 0 0 ∷ pair 22 0 0 ∷ pair 6 3 0 ∷ pair 10 4 0 ∷ [])
+unfolding pairFault
+sided-pairs = refl

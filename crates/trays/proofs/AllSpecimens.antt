@@ -18,7 +18,8 @@ use Rattle.trays.specs.declared.Refusal.{Refusal}
 use Rattle.trays.specs.declared.Pair.{Pair}
 use Rattle.trays.specs.Slips.{numbers}
 use Rattle.trays.specs.Aside.{kept, counted}
-use Rattle.trays.specs.Faults.{firstRow, trayRowsFor, trayFault, setFault, slipFault, pairFault, refusal}
+use Rattle.trays.specs.Faults.{firstRow, trayRowsFor, trayFault, setFault, slipFault, refusal}
+use Rattle.trays.specs.Sides.{pairFault}
 use Rattle.trays.specs.Written.{lettersOf, endsOf, writtenBy}
 use Rattle.trays.specs.Answers.{stretchOf, pairOf}
 
@@ -138,7 +139,7 @@ abbrev pub stretchAt : ℕ → List ℕ
 stretchAt i = stretchOf (word "AVGCAESAVG") (3 ∷ 10 ∷ []) i
 
 abbrev pub pairAt : ℕ → ℕ → Pair
-pairAt i j = pairOf 1 (word "AVGCAESAVG") (3 ∷ 10 ∷ []) i j
+pairAt i j = pairOf 1 (word "AVGCAESAVG") (3 ∷ 10 ∷ []) (word "  ") i j
 
 abbrev pair : ℕ → ℕ → ℕ → Pair
 pair n d k = record { number = n; detail = d; letters = k }
@@ -153,17 +154,17 @@ unfolding pairFault
 pairs = refl
 
 -- A. and .B: the overlap of stops alone is none
-pub stopped-pair : pairOf 1 (word "A..B") (2 ∷ 4 ∷ []) 1 2 ≡ pair 0 0 0
+pub stopped-pair : pairOf 1 (word "A..B") (2 ∷ 4 ∷ []) (word "  ") 1 2 ≡ pair 0 0 0
 unfolding pairFault
 stopped-pair = refl
 
 -- CAESAVG, AVG share three letters: 3 is the highest setting at which these count, and 32 the highest at which the call is not turned back; 0 and 33 are
 -- turned back before anything else
 abbrev pairSet : ℕ → Pair
-pairSet m = pairOf m (word "CAESAVGAVG") (7 ∷ 10 ∷ []) 1 2
+pairSet m = pairOf m (word "CAESAVGAVG") (7 ∷ 10 ∷ []) (word "  ") 1 2
 
 pub set-pairs :
-    (map pairSet (0 ∷ 1 ∷ 3 ∷ 4 ∷ 32 ∷ 33 ∷ []) ++ map (λ m. pairOf m (word "ab") (1 ∷ []) 3 3) (0 ∷ 1 ∷ 32 ∷ 33 ∷ []))
+    (map pairSet (0 ∷ 1 ∷ 3 ∷ 4 ∷ 32 ∷ 33 ∷ []) ++ map (λ m. pairOf m (word "ab") (1 ∷ []) (word " ") 3 3) (0 ∷ 1 ∷ 32 ∷ 33 ∷ []))
     ≡ (pair 21 0 0 ∷ pair 0 0 3 ∷ pair 0 0 3 ∷ pair 0 0 0 ∷ pair 0 0 0 ∷ pair 21 0 0 ∷ pair 21 0 0 ∷ pair 5 0 0 ∷ pair 5 0 0 ∷ pair 21 0 0 ∷ [])
 unfolding pairFault
 set-pairs = refl

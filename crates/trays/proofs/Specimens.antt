@@ -4,11 +4,13 @@
 use mathlib.Core.Path.{_≡_, refl}
 use mathlib.Core.List.{List, [], _∷_, map}
 use Prim.Native.Nat.{ℕ, suc, _+_, _*_}
+use lib.ListN.{replicate}
 use Rattle.words.specs.Lists.{those, upFrom}
 use Rattle.words.specs.Quoted.{word}
 use Rattle.trays.specs.Limits.{maxSlips, maxSlip, maxLetters, maxText, workNeed, maxFile, endsNeed, maxShortest, maxLeast}
 use Rattle.trays.specs.Slips.{slipsOf, slip, numbers, isLetter, spanOf, total}
-use Rattle.trays.specs.Faults.{refusal, written, trayFault, slipFault, pairFault}
+use Rattle.trays.specs.Faults.{refusal, written, trayFault, slipFault}
+use Rattle.trays.specs.Sides.{blankSide, pairFault}
 use Rattle.trays.specs.Answers.{Stretch}
 
 -- each by its number in documents 01 and 02
@@ -65,7 +67,7 @@ requests = refl
 
 -- the first number that is no slip's; 10 before 11
 pairs :
-    (pairFault 1 letters bounds 6 0 ∷ pairFault 1 letters bounds 6 6 ∷ pairFault 1 letters bounds 5 5 ∷ [])
+    (map (λ (p : ℕ × ℕ). pairFault 1 letters bounds (replicate 5 blankSide) (p .0) (p .1)) ((6, 0) ∷ (6, 6) ∷ (5, 5) ∷ []))
     ≡ (refusal 10 6 ∷ refusal 10 6 ∷ refusal 11 5 ∷ [])
 unfolding pairFault
 pairs = refl

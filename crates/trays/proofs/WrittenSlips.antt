@@ -5,8 +5,8 @@
 --   tray-refused, tray-wrote == the two ways to keep the promise of a call that writes a tray
 -- and what a caller has of such a call, where f turns it back, or the slips xs are written:
 --   refused-as         == the answer names f
---   letters-first, ends-first == the lent buffers begin with the letters and the ends of xs
---   letters-count, ends-count == the answer has their counts; letters-within, ends-within == which the buffers have
+--   letters-first, ends-first, sides-first == the lent buffers begin with the letters and the ends of xs, and with their sides cs
+--   letters-count, ends-count, sides-count == the answer has their counts; letters-within, .. == which the buffers have
 use mathlib.Core.Path.{_≡_, refl, sym, _∙_, ap}
 use mathlib.Core.List.{List, [], _∷_, _++_, append-nil, append-assoc}
 use Prim.Native.Nat.{ℕ, zero, suc, _+_, _≤_}
@@ -55,7 +55,7 @@ slips-behind here (x ∷ xs) t es =
 pub slips-written : (xs : List (List ℕ)) → slipsOf (lettersOf xs) (endsOf xs) ≡ xs
 slips-written xs = simp append-nil at (slips-behind 0 xs [] [])
 
-module _ (f : Refusal) (xs : List (List ℕ)) where
+module _ (f : Refusal) (xs : List (List ℕ)) (cs : List ℕ) where
   wrote-by : f .number ≡ 0 → writtenBy f xs ≡ wrote xs
   wrote-by z = rw (z, writtenBy)
 
@@ -74,25 +74,27 @@ module _ (f : Refusal) (xs : List (List ℕ)) where
       go (suc n) e = rw (e, writtenBy)
 
   pub tray-refused :
-      (f .number ≡ 0 → ⊥) → (a b : List ℕ)
-      → TrayWritten f xs a a b b (record { number = f .number; detail = f .detail; letters = 0; slips = 0 })
-  tray-refused z a b =
+      (f .number ≡ 0 → ⊥) → (a b d : List ℕ)
+      → TrayWritten f xs cs a a b b d d (record { number = f .number; detail = f .detail; letters = 0; slips = 0 })
+  tray-refused z a b d =
       let h : 1 ≤ f .number = omega arith in
       record {
         answer-is = sym (refused-by z);
         letters-are = sym (written-none f (lettersOf xs) a h);
         ends-are = sym (written-none f (endsOf xs) b h);
+        sides-are = sym (written-none f cs d h);
       }
 
-  module _ (a a′ b b′ : List ℕ) (r : Written) where
-    pub tray-wrote : f .number ≡ 0 → TrayWritten accepted xs a a′ b b′ r → TrayWritten f xs a a′ b b′ r
+  module _ (a a′ b b′ d d′ : List ℕ) (r : Written) where
+    pub tray-wrote : f .number ≡ 0 → TrayWritten accepted xs cs a a′ b b′ d d′ r → TrayWritten f xs cs a a′ b b′ d d′ r
     tray-wrote z t = record {
       answer-is = t .answer-is ∙ sym (wrote-by z);
       letters-are = t .letters-are ∙ sym (written-all f (lettersOf xs) a z);
       ends-are = t .ends-are ∙ sym (written-all f (endsOf xs) b z);
+      sides-are = t .sides-are ∙ sym (written-all f cs d z);
     }
 
-    module _ (t : TrayWritten f xs a a′ b b′ r) where
+    module _ (t : TrayWritten f xs cs a a′ b b′ d d′ r) where
       number-is : r .number ≡ f .number
       number-is = ap (λ (c : Written). c .number) (t .answer-is) ∙ number-by
 
@@ -125,3 +127,13 @@ module _ (f : Refusal) (xs : List (List ℕ)) where
 
         pub ends-within : r .slips ≤ length b′
         ends-within = omega (arith, ends-count, length-take (r .slips) b′)
+
+        module _ (e : length cs ≡ length xs) where
+          pub sides-first : take (r .slips) d′ ≡ cs
+          sides-first = rw (answer, t .sides-are, written-all f cs d silent) (take-at cs _ (length xs) e)
+
+          pub sides-count : r .slips ≡ length (take (r .slips) d′)
+          sides-count = rw sides-first (ap (λ (c : Written). c .slips) answer ∙ sym e)
+
+          pub sides-within : r .slips ≤ length d′
+          sides-within = omega (arith, sides-count, length-take (r .slips) d′)

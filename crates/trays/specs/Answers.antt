@@ -1,13 +1,16 @@
 -- What the calls on a tray answer, for every input.
 use mathlib.Core.Path.{_≡_}
+use mathlib.Core.Bool.{cond}
 use mathlib.Core.List.{List, []}
 use Prim.Native.Nat.{ℕ, zero, suc, _+_}
+use lib.Dec.{eqb}
 use Rattle.words.specs.Words.{overlapFor}
 use Rattle.trays.specs.declared.Pair.{Pair}
 use Rattle.trays.specs.declared.Located.{Located}
 use Rattle.trays.specs.Slips.{slipsOf, slip, startOf, endOf}
 use Rattle.trays.specs.Aside.{counted}
-use Rattle.trays.specs.Faults.{slipFault, pairFault}
+use Rattle.trays.specs.Faults.{slipFault}
+use Rattle.trays.specs.Sides.{sideOf, pairFault}
 
 -- the letters of slip i, none if refused
 abbrev pub stretchOf : List ℕ → List ℕ → ℕ → List ℕ
@@ -34,9 +37,12 @@ locatedOf s es i =
     let f = slipFault s es i in
     record { number = f .number; detail = f .detail; start = stretchStart s es i; end = stretchEnd s es i }
 
+-- Rules, sides: slips of different sides do not overlap.
+abbrev pub overlapOf : ℕ → List (List ℕ) → List ℕ → ℕ → ℕ → ℕ
+overlapOf m ss cs i j = cond (eqb (sideOf cs i) (sideOf cs j)) (overlapFor (counted m) (slip ss i) (slip ss j)) 0
+
 -- pair_overlap, where the least overlap is m: the refusal, and the overlap's letters, 0 if refused
-abbrev pub pairOf : ℕ → List ℕ → List ℕ → ℕ → ℕ → Pair
-pairOf m s es i j =
-    let f = pairFault m s es i j in
-    let ss = slipsOf s es in
-    record { number = f .number; detail = f .detail; letters = elim (f .number) [ zero ↦ overlapFor (counted m) (slip ss i) (slip ss j) | suc n ↦ 0 ] }
+abbrev pub pairOf : ℕ → List ℕ → List ℕ → List ℕ → ℕ → ℕ → Pair
+pairOf m s es cs i j =
+    let f = pairFault m s es cs i j in
+    record { number = f .number; detail = f .detail; letters = elim (f .number) [ zero ↦ overlapOf m (slipsOf s es) cs i j | suc n ↦ 0 ] }

@@ -1,4 +1,4 @@
--- Refusals 21, 1 to 6, 10 and 11 with their details, as the rows of the rules' table.
+-- Refusals 21, 1 to 6 and 10 with their details, as the rows of the rules' table, and the row 11. Row 22 stands in Sides, and after it the rows of a pair.
 --   row n b d     == the row numbered n with detail d if its condition b holds, else no refusal
 --   firstRow rs   == the first refusal of the rows, which are taken top to bottom
 --   written f xs old == a lent buffer afterwards: xs written over its first part, unless f refuses the call
@@ -97,6 +97,3 @@ slipFault s es i = firstRow (trayRows s es ++ (slipRow es i ∷ []))
 
 abbrev pub pairRow : ℕ → ℕ → Refusal
 pairRow i j = row 11 (eqb i j) i
-
-unfoldable pub pairFault : ℕ → List ℕ → List ℕ → ℕ → ℕ → Refusal
-pairFault m s es i j = firstRow (setRows m s es ++ (slipRow es i ∷ (slipRow es j ∷ (pairRow i j ∷ []))))

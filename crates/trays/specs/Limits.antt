@@ -25,7 +25,7 @@ workNeed = 32000
 abbrev pub maxFile : ℕ
 maxFile = 16384
 
--- 15: the lent ends are at least this many
+-- 15: the lent ends are at least this many, and the lent sides too
 abbrev pub endsNeed : ℕ
 endsNeed = 1700
 

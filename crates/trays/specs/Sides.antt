@@ -10,6 +10,7 @@
 --   sidedFault        == the first of these that speaks
 --   sidedTrayRows     == the rows that judge a tray and its sides, whichever side is named: 1 to 6, 22
 --   AcceptedSides     == none of these speaks
+--   pairFault         == what refuses a question about slips i and j, which names no side: 21, 1 to 6, 22, 10, 11
 use mathlib.Core.Path.{_≡_}
 use mathlib.Core.Bool.{Bool, _||_, not}
 use mathlib.Core.List.{List, [], _∷_, _++_}
@@ -18,7 +19,7 @@ use lib.Dec.{eqb}
 use lib.ListN.{length}
 use Rattle.words.specs.Lists.{any, those, upFrom, entry}
 use Rattle.trays.specs.declared.Refusal.{Refusal}
-use Rattle.trays.specs.Faults.{row, firstRow, trayRows, trayFault, setRows}
+use Rattle.trays.specs.Faults.{row, firstRow, trayRows, trayFault, setRows, slipRow, pairRow}
 
 -- Rules, sides: a slip's side is blank, O or R.
 abbrev pub blankSide : ℕ
@@ -62,3 +63,7 @@ sidedTrayRows s es cs = trayRows s es ++ (sidesRow es cs ∷ [])
 pub record AcceptedSides (s es cs : List ℕ) : Type 0 where
   pub tray : trayFault s es .number ≡ 0
   pub sides : sidesRow es cs .number ≡ 0
+
+-- Rules, place B: 22 is checked before the slips named.
+unfoldable pub pairFault : ℕ → List ℕ → List ℕ → List ℕ → ℕ → ℕ → Refusal
+pairFault m s es cs i j = firstRow (setRows m s es ++ (sidesRow es cs ∷ (slipRow es i ∷ (slipRow es j ∷ (pairRow i j ∷ [])))))

@@ -1,10 +1,10 @@
--- Slips written as a tray into lent letters and ends: what a call that does so answers, and what the two buffers hold afterwards.
+-- Slips written as a tray into lent letters, ends and sides: what a call that does so answers, and what the three buffers hold afterwards.
 --   lettersOf xs      == the letters of the slips xs, one after another
 --   endsFrom here xs  == the ends of the slips xs, where letters come before them up to `here`; endsOf xs == where none do
 --   sizeRows xs       == rows 1 and 4 of a tray written of the slips xs
 --   wrote xs          == the answer once the slips xs are written
 --   writtenBy f xs    == the answer, where f is what refuses the call
---   TrayWritten       == the promise: lent letters a and ends b before, a′ and b′ after; answer r
+--   TrayWritten       == the promise, of slips xs with the sides cs: lent letters a, ends b and sides d before, a′, b′ and d′ after; answer r
 use mathlib.Core.Path.{_≡_}
 use mathlib.Core.List.{List, [], _∷_}
 use Prim.Native.Nat.{ℕ, zero, suc, _+_}
@@ -35,7 +35,8 @@ wrote xs = record { number = 0; detail = 0; letters = length (lettersOf xs); sli
 abbrev pub writtenBy : Refusal → List (List ℕ) → Written
 writtenBy f xs = elim (f .number) [ zero ↦ wrote xs | suc n ↦ record { number = suc n; detail = f .detail; letters = 0; slips = 0 } ]
 
-pub record TrayWritten (f : Refusal) (xs : List (List ℕ)) (a a′ b b′ : List ℕ) (r : Written) : Type 0 where
+pub record TrayWritten (f : Refusal) (xs : List (List ℕ)) (cs a a′ b b′ d d′ : List ℕ) (r : Written) : Type 0 where
   pub answer-is : r ≡ writtenBy f xs
   pub letters-are : a′ ≡ written f (lettersOf xs) a
   pub ends-are : b′ ≡ written f (endsOf xs) b
+  pub sides-are : d′ ≡ written f cs d

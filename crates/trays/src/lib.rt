@@ -27,9 +27,10 @@ pub const OBVERSE: u8 = 79;
 // The side R, the reverse of a coin.
 pub const REVERSE: u8 = 82;
 
-// What the person composing sets: an overlap of fewer letters than the least counts as empty.
+// What the person composing sets: an overlap of fewer letters than the least counts as empty, and the slips of the side named take part.
 pub struct Settings {
     pub least: u32,
+    pub side: u8,
 }
 // A refusal of the rules' table: its number and detail, or 0 and 0.
 pub struct Refusal {
@@ -49,7 +50,7 @@ pub struct Located {
     pub start: u32,
     pub end: u32,
 }
-// What a call that writes a tray answers: the refusal, or 0 and 0 with the counts of letters and slips.
+// What a call that writes a tray answers: the refusal, or 0 and 0 with the counts of letters and slips; there is a side for each slip.
 pub struct Written {
     pub number: u8,
     pub detail: u32,
