@@ -1,3 +1,2 @@
 -- Laws of composing.
 pub mod TopSteps
-pub mod StagedTells

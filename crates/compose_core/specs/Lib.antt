@@ -1,2 +1,1 @@
--- compose_core
-pub mod steps
+-- Composing an accepted tray: what it asks and leaves stands in trie_build and compose_finish.

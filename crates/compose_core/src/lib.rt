@@ -1,12 +1,10 @@
-// Composing, over number slices: the walk over the automaton, the legend, joins and places.
+// Composing an accepted tray, over number slices: the walk over the automaton, the legend, joins and places.
 ghost use Prim.Native.Nat.{_≤_};
 ghost use Rattle.trays.specs.Slips.{slipsOf};
 ghost use Rattle.greedy.specs.Composing.{whole};
 ghost use Rattle.trie_build.specs.steps.Built.{Buildable};
 ghost use Rattle.compose_finish.specs.steps.Finishing.{Finished};
-ghost use Rattle.compose_core.specs.steps.Composing.{Staged};
 use answers::Composed;
-use layout::WORK_NEED;
 use trays::MAX_SLIPS;
 use trays::Settings;
 
@@ -58,38 +56,6 @@ pub fn compose_accepted(
         &overs,
         k,
         joins,
-        joins_room,
-        places_room,
-    )
-}
-
-// Composes any tray, or refuses it: the legend into its buffer, joins and places as numbers into the work area. `joins_room` joins and `places_room` places
-// can be taken.
-pub fn compose_staged(
-    letters: &[u8],
-    ends: &[u16],
-    settings: Settings,
-    work: &mut [u16],
-    legend: &mut [u8],
-    joins_room: usize,
-    places_room: usize,
-) -> Composed
-    ensures { λ r. ⌜ Staged settings (now (letters .entry)) (now (ends .entry)) (now (work .entry)) (now (work .exit))
-        (now (legend .entry)) (now (legend .exit)) «joins_room» «places_room» r ⌝ }
-{
-    let tray = tray_check::check_set_tray(letters, ends, settings.least);
-    if tray.number != 0 {
-        return compose_finish::refused(tray.number, tray.detail);
-    }
-    if work.len() < WORK_NEED {
-        return compose_finish::refused(7, 0);
-    }
-    compose_accepted(
-        letters,
-        ends,
-        settings,
-        work,
-        legend,
         joins_room,
         places_room,
     )

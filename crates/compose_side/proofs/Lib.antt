@@ -2,3 +2,4 @@
 pub mod CutSteps
 pub mod NamedSteps
 pub mod TopSteps
+pub mod StagedTells

@@ -48,13 +48,12 @@ fn compose_cut(
     )
 }
 
-// One side of an accepted tray, composed in a work area that is large enough. Where it is refused, no join and no record is told.
+// The side that the settings name of an accepted tray, composed in a work area that is large enough. Where it is refused, no join and no record is told.
 fn compose_side(
     letters: &[u8],
     ends: &[u16],
     sides: &[u8],
     settings: Settings,
-    side: u8,
     work: &mut [u16],
     legend: &mut [u8],
     joins_room: usize,
@@ -62,9 +61,10 @@ fn compose_side(
 ) -> Composed
     requires { ⌜ 1 ≤ settings .least ⌝ }
     requires { ⌜ SideAsks (now letters) (now ends) (now sides) (now work) ⌝ }
-    ensures { λ r. ⌜ S.SideFinished (sided settings side (now (sides .entry)) (slipsOf (now (letters .entry)) (now (ends .entry)))) side
+    ensures { λ r. ⌜ S.SideFinished (sided settings (now (sides .entry)) (slipsOf (now (letters .entry)) (now (ends .entry)))) (settings .side)
         (now (work .entry)) (now (work .exit)) (now (legend .entry)) (now (legend .exit)) «joins_room» «places_room» r ⌝ }
 {
+    let side = settings.side;
     let own = tray_cut::side_slips(sides, side);
     let slips = own.slips;
     let count = own.count;
@@ -83,23 +83,22 @@ fn compose_side(
     answer
 }
 
-// Composes one side of any tray, or refuses it: the legend into its buffer, joins and records of places as numbers into the work area. `joins_room` joins and
+// Composes the side that the settings name of any tray, or refuses it: the legend into its buffer, joins and records of places as numbers into the work area. `joins_room` joins and
 // `places_room` records can be taken.
 pub fn compose_staged(
     letters: &[u8],
     ends: &[u16],
     sides: &[u8],
     settings: Settings,
-    side: u8,
     work: &mut [u16],
     legend: &mut [u8],
     joins_room: usize,
     places_room: usize,
 ) -> Composed
-    ensures { λ r. ⌜ S.SideStaged settings side (now (letters .entry)) (now (ends .entry)) (now (sides .entry)) (now (work .entry)) (now (work .exit))
+    ensures { λ r. ⌜ S.Staged settings (now (letters .entry)) (now (ends .entry)) (now (sides .entry)) (now (work .entry)) (now (work .exit))
         (now (legend .entry)) (now (legend .exit)) «joins_room» «places_room» r ⌝ }
 {
-    let fault = tray_check::check_sided_tray(letters, ends, sides, settings.least, side);
+    let fault = tray_check::check_sided_tray(letters, ends, sides, settings.least, settings.side);
     if fault.number != 0 {
         return compose_finish::refused(fault.number, fault.detail);
     }
@@ -111,7 +110,6 @@ pub fn compose_staged(
         ends,
         sides,
         settings,
-        side,
         work,
         legend,
         joins_room,
