@@ -1,26 +1,27 @@
-// The shortest legend of a tray with at most ten kept slips.
+// The shortest legend of a side with at most ten kept slips.
 ghost use Rattle.answers.specs.Shortest.{ShortestSays};
 use answers::Shortest;
 use layout::WORK_NEED;
 use trays::Settings;
 
-// The shortest legend of any tray, or the refusal.
+// The shortest legend of the side that the settings name of any tray, or the refusal.
 pub fn shortest_legend(
     letters: &[u8],
     ends: &[u16],
+    sides: &[u8],
     settings: Settings,
     work: &mut [u16],
     legend: &mut [u8],
 ) -> Shortest
-    ensures { λ r. ⌜ ShortestSays settings (now (letters .entry)) (now (ends .entry)) (now (work .entry)) (now (work .exit))
+    ensures { λ r. ⌜ ShortestSays settings (now (letters .entry)) (now (ends .entry)) (now (sides .entry)) (now (work .entry)) (now (work .exit))
         (now (legend .entry)) (now (legend .exit)) r ⌝ }
 {
-    let tray = tray_check::check_set_tray(letters, ends, settings.least);
-    if tray.number != 0 {
-        return shortest_core::refused(tray.number, tray.detail);
+    let fault = tray_check::check_sided_tray(letters, ends, sides, settings.least, settings.side);
+    if fault.number != 0 {
+        return shortest_core::refused(fault.number, fault.detail);
     }
     if work.len() < WORK_NEED {
         return shortest_core::refused(7, 0);
     }
-    shortest_core::seek(letters, ends, settings, work, legend)
+    shortest_side::seek_side(letters, ends, sides, settings, work, legend)
 }

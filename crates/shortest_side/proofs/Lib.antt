@@ -1,4 +1,3 @@
--- The shortest legend of one side of a tray: the order named, what was found of the tray that is cut out, the ways through the call.
+-- The shortest legend of one side of a tray: the order named, what was found of the tray that is cut out.
 pub mod NameSteps
 pub mod SideSteps
-pub mod TopSteps

@@ -175,6 +175,6 @@ module _ (g : Settings) (s es M w : List ℕ) (h : CanCut s es M) (w₁ l l′ :
       }
 
 -- the numbers chosen are those of the side
-pub side-sought : (cs : List ℕ) (b : ℕ) (o : Chosen) → SideSlips cs b o → (g : Settings) (ss : List (List ℕ)) (w w′ l l′ : List ℕ) (r : Shortest)
-    → Finished (among g (take (o .count) (o .slips)) ss) w w′ l l′ r → Finished (sided g b cs ss) w w′ l l′ r
-side-sought cs b o S g ss w w′ l l′ r F = subst (λ (M : List ℕ). Finished (among g M ss) w w′ l l′ r) (S .slips-are) F
+pub side-sought : (g : Settings) (cs : List ℕ) (o : Chosen) → SideSlips cs (g .side) o → (ss : List (List ℕ)) (w w′ l l′ : List ℕ) (r : Shortest)
+    → Finished (among g (take (o .count) (o .slips)) ss) w w′ l l′ r → Finished (sided g cs ss) w w′ l l′ r
+side-sought g cs o S ss w w′ l l′ r F = subst (λ (M : List ℕ). Finished (among g M ss) w w′ l l′ r) (S .slips-are) F

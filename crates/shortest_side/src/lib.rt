@@ -13,7 +13,6 @@ ghost use Rattle.tray_cut.specs.Choosing.{CanCut};
 ghost use Rattle.shortest_core.specs.steps.Seeking.{tenOf, Finished};
 ghost use Rattle.shortest_side.specs.steps.Sides as S;
 use answers::Shortest;
-use layout::WORK_NEED;
 use tables::narrow;
 use tables::whole;
 use tables::wide;
@@ -59,21 +58,21 @@ fn name_order(slips: &[u16], order: &[u16], count: usize) -> [u16; MAX_SHORTEST]
     named
 }
 
-// The shortest legend of one side of an accepted tray, in a work area that is large enough. Where it is refused, the order is ten times 0.
-fn seek_side(
+// The shortest legend of the side that the settings name of an accepted tray, in a work area that is large enough. Where it is refused, the order is ten
+// times 0.
+pub fn seek_side(
     letters: &[u8],
     ends: &[u16],
     sides: &[u8],
     settings: Settings,
-    side: u8,
     work: &mut [u16],
     legend: &mut [u8],
 ) -> Shortest
     requires { ⌜ SideAsks (now letters) (now ends) (now sides) (now work) ⌝ }
-    ensures { λ r. ⌜ Finished (sided settings side (now (sides .entry)) (slipsOf (now (letters .entry)) (now (ends .entry)))) (now (work .entry))
+    ensures { λ r. ⌜ Finished (sided settings (now (sides .entry)) (slipsOf (now (letters .entry)) (now (ends .entry)))) (now (work .entry))
         (now (work .exit)) (now (legend .entry)) (now (legend .exit)) r ⌝ }
 {
-    let own = tray_cut::side_slips(sides, side);
+    let own = tray_cut::side_slips(sides, settings.side);
     let slips = own.slips;
     let count = own.count;
     let found = seek_cut(letters, ends, &slips[..count], settings, work, legend);
@@ -86,27 +85,4 @@ fn seek_side(
         count: found.count,
         order: named,
     }
-}
-
-// The shortest legend of one side of any tray, or the refusal.
-pub fn shortest_side(
-    letters: &[u8],
-    ends: &[u16],
-    sides: &[u8],
-    settings: Settings,
-    side: u8,
-    work: &mut [u16],
-    legend: &mut [u8],
-) -> Shortest
-    ensures { λ r. ⌜ S.SideShortest settings side (now (letters .entry)) (now (ends .entry)) (now (sides .entry)) (now (work .entry)) (now (work .exit))
-        (now (legend .entry)) (now (legend .exit)) r ⌝ }
-{
-    let fault = tray_check::check_sided_tray(letters, ends, sides, settings.least, side);
-    if fault.number != 0 {
-        return shortest_core::refused(fault.number, fault.detail);
-    }
-    if work.len() < WORK_NEED {
-        return shortest_core::refused(7, 0);
-    }
-    seek_side(letters, ends, sides, settings, side, work, legend)
 }
