@@ -1,4 +1,4 @@
-// Composing, with joins and places as structs in lent lists.
+// Composing, with joins and records of places as structs in lent lists.
 ghost use Rattle.answers.specs.Records.{ComposeSays};
 ghost use Rattle.compose_tray.specs.steps.Counted.{StagedCounts};
 use answers::Composed;
@@ -6,29 +6,31 @@ use answers::Join;
 use answers::Place;
 use trays::Settings;
 
-// The answer, and how many joins and places are staged for it.
+// The answer, and how many joins and records are staged for it.
 pub struct ToStore {
     pub answer: Composed,
     pub joins: usize,
     pub places: usize,
 }
 
-// Composes any tray, or refuses it, with the joins and the places staged. A refusal counts none.
+// Composes a side of any tray, or refuses it, with the joins and the records staged. A refusal counts none.
 fn staged(
     letters: &[u8],
     ends: &[u16],
+    sides: &[u8],
     settings: Settings,
     work: &mut [u16],
     legend: &mut [u8],
     joins_room: usize,
     places_room: usize,
 ) -> ToStore
-    ensures { λ r. ⌜ StagedCounts settings (now (letters .entry)) (now (ends .entry)) (now (work .entry)) (now (work .exit))
+    ensures { λ r. ⌜ StagedCounts settings (now (letters .entry)) (now (ends .entry)) (now (sides .entry)) (now (work .entry)) (now (work .exit))
         (now (legend .entry)) (now (legend .exit)) «joins_room» «places_room» r ⌝ }
 {
-    let answer = compose_core::compose_staged(
+    let answer = compose_side::compose_staged(
         letters,
         ends,
+        sides,
         settings,
         work,
         legend,
@@ -44,17 +46,19 @@ fn staged(
     }
 }
 
-// Composes any tray, or refuses it: the legend into its buffer, the joins in the order made and the places in slip order into their lists.
+// Composes the side that the settings name of any tray, or refuses it: the legend into its buffer, the joins in the order made and the records of places in
+// slip order into their lists.
 pub fn compose_tray(
     letters: &[u8],
     ends: &[u16],
+    sides: &[u8],
     settings: Settings,
     work: &mut [u16],
     legend: &mut [u8],
     joins: &mut [Join],
     places: &mut [Place],
 ) -> Composed
-    ensures { λ r. ⌜ ComposeSays settings (now (letters .entry)) (now (ends .entry)) (now (work .entry)) (now (work .exit))
+    ensures { λ r. ⌜ ComposeSays settings (now (letters .entry)) (now (ends .entry)) (now (sides .entry)) (now (work .entry)) (now (work .exit))
         (now (legend .entry)) (now (legend .exit)) (now (joins .entry)) (now (joins .exit)) (now (places .entry)) (now (places .exit)) r ⌝ }
 {
     let joins_room = joins.len();
@@ -62,6 +66,7 @@ pub fn compose_tray(
     let counted = staged(
         letters,
         ends,
+        sides,
         settings,
         &mut *work,
         legend,
