@@ -1,27 +1,30 @@
 -- The ways through the functions on one slip and on a pair.
 --   request-..  == row 10
 --   slip-..     == rows 1 to 6, then 10
---   pair-..     == rows 21, 1 to 6, 10, 10, 11
+--   pair-..     == rows 21, 1 to 6, 22, 10, 10, 11; then pairs of one side, and of two
 use mathlib.Core.Path.{_≡_, refl, sym, _∙_, ap, ap₂}
-use mathlib.Core.Bool.{_||_}
-use mathlib.Core.List.{List, [], _∷_}
+use mathlib.Core.Bool.{Bool, true, false, _||_}
+use mathlib.Core.List.{List, [], _∷_, _++_, append-assoc}
 use Prim.Native.Nat.{ℕ, zero, suc, _-_, _^_, _≤_, _<_, _+_}
 use borrow.Author.Tests.{lt-ltb, le-ltb, eq-eqb, ne-eqb}
 use native.Mathlib.Omega.{arith}
 use lib.Dec.{ltb, eqb}
-use lib.ListN.{length, take, drop}
+use lib.ListN.{length, getD, take, drop}
+use Rattle.words.proofs.Picks.{entry-at}
 use Rattle.trays.specs.declared.Refusal.{Refusal}
 use Rattle.trays.specs.declared.Pair.{Pair}
 use Rattle.trays.specs.declared.Span.{Span}
 use Rattle.trays.specs.declared.Located.{Located}
 use Rattle.trays.specs.Slips.{spanOf}
-use Rattle.trays.specs.Faults.{refusal, accepted, orElse, firstRow, trayRows, trayFault, setRows, setFault, slipRow, slipFault, pairRow, pairFault}
+use Rattle.trays.specs.Faults.{refusal, accepted, orElse, firstRow, trayRows, trayFault, setRows, slipRow, slipFault, pairRow}
+use Rattle.trays.specs.Sides.{blankSide, sideOf, sidesRow, sideRow, sidedFault, AcceptedSides, pairFault}
 use Rattle.trays.specs.Answers.{stretchOf, stretchStart, stretchEnd, Stretch, locatedOf, pairOf}
 use Rattle.trays.proofs.Rows.{or-zero, or-some, both-silent, by-number, rows-append}
 use Rattle.trays.proofs.Accepted.{row-silent, range-silent, accepted-tells}
-use Rattle.trays.proofs.SetTrays.{set-tells}
+use Rattle.trays.proofs.SidedTrays.{sides-tell, sided-tells}
 use Rattle.slips.proofs.Stretches.{part-rises, part-fits, part-is}
 use Rattle.slips.specs.Pairs.{TwoSlips, Overlap}
+use Rattle.tray_ask.specs.steps.Sides.{TwoSides}
 
 pub request-zero : (es : List ℕ) (i : ℕ) (r : Refusal) → r ≡ refusal 10 i → i ≡ 0 → r ≡ slipRow es i
 request-zero es i r q e = q ∙ rw (eq-eqb i 0 e)
@@ -62,38 +65,44 @@ slip-good s es i h =
     let k = row-accepts es i (both-silent (slipRow es i) accepted (g .1) .0) in
     (g .0, k .0, k .1)
 
-module _ (m : ℕ) (s es : List ℕ) (i j : ℕ) where
-  -- the rows of a pair: settings and tray, each slip's, then 11
-  pair-rows : pairFault m s es i j ≡ orElse (setFault m s es) (orElse (slipRow es i) (orElse (slipRow es j) (orElse (pairRow i j) accepted)))
-  unfolding setFault pairFault
-  pair-rows = rows-append (setRows m s es) (slipRow es i ∷ (slipRow es j ∷ (pairRow i j ∷ [])))
+module _ (m : ℕ) (s es cs : List ℕ) (i j : ℕ) where
+  -- the rows of a pair: settings, tray and sides, each slip's, then 11; a blank is a side, so that of the side named nothing is refused
+  pair-rows : pairFault m s es cs i j ≡ orElse (sidedFault m blankSide s es cs) (orElse (slipRow es i) (orElse (slipRow es j) (orElse (pairRow i j) accepted)))
+  unfolding sidedFault pairFault
+  pair-rows =
+      let set = setRows m s es in
+      let rest = slipRow es i ∷ (slipRow es j ∷ (pairRow i j ∷ [])) in
+      let sides = sidesRow es cs ∷ [] in
+      ap firstRow (sym (append-assoc set sides rest))
+      ∙ rows-append (set ++ sides) rest
+      ∙ ap (λ f. orElse f (firstRow rest)) (rows-append set sides ∙ sym (rows-append set (sidesRow es cs ∷ (sideRow blankSide ∷ []))))
 
-  module _ (t : Refusal) (d : t ≡ setFault m s es) where
-    pub pair-set : (t .number ≡ 0 → ⊥) → t ≡ pairFault m s es i j
+  module _ (t : Refusal) (d : t ≡ sidedFault m blankSide s es cs) where
+    pub pair-set : (t .number ≡ 0 → ⊥) → t ≡ pairFault m s es cs i j
     pair-set z = rw (pair-rows, ← d) (sym (or-some t _ (omega arith)))
 
     module _ (y : t .number ≡ 0) (f : Refusal) (e : f ≡ slipRow es i) where
-      pub pair-left : (f .number ≡ 0 → ⊥) → f ≡ pairFault m s es i j
+      pub pair-left : (f .number ≡ 0 → ⊥) → f ≡ pairFault m s es cs i j
       pair-left z = rw (pair-rows, ← d, or-zero t _ y, ← e) (sym (or-some f _ (omega arith)))
 
       module _ (z : f .number ≡ 0) (g : Refusal) (h : g ≡ slipRow es j) where
-        pub pair-right : (g .number ≡ 0 → ⊥) → g ≡ pairFault m s es i j
+        pub pair-right : (g .number ≡ 0 → ⊥) → g ≡ pairFault m s es cs i j
         pair-right w = rw (pair-rows, ← d, or-zero t _ y, ← e, or-zero f _ z, ← h) (sym (or-some g _ (omega arith)))
 
-        pub pair-twice : (r : Refusal) → r ≡ refusal 11 i → g .number ≡ 0 → i ≡ j → r ≡ pairFault m s es i j
+        pub pair-twice : (r : Refusal) → r ≡ refusal 11 i → g .number ≡ 0 → i ≡ j → r ≡ pairFault m s es cs i j
         pair-twice r p w q = p ∙ rw (pair-rows, ← d, or-zero t _ y, ← e, or-zero f _ z, ← h, or-zero g _ w, eq-eqb i j q)
 
-        pub pair-different : (r : Refusal) → r ≡ refusal 0 0 → g .number ≡ 0 → (i ≡ j → ⊥) → r ≡ pairFault m s es i j
+        pub pair-different : (r : Refusal) → r ≡ refusal 0 0 → g .number ≡ 0 → (i ≡ j → ⊥) → r ≡ pairFault m s es cs i j
         pair-different r p w q = p ∙ rw (pair-rows, ← d, or-zero t _ y, ← e, or-zero f _ z, ← h, or-zero g _ w, ne-eqb i j q)
 
-  pub pair-good : pairFault m s es i j .number ≡ 0 → (trayFault s es .number ≡ 0) × (1 ≤ i) × (i ≤ length es) × (1 ≤ j) × (j ≤ length es)
+  pub pair-good : pairFault m s es cs i j .number ≡ 0 → AcceptedSides s es cs × (1 ≤ i) × (i ≤ length es) × (1 ≤ j) × (j ≤ length es)
   pair-good h =
       let last = orElse (slipRow es j) (orElse (pairRow i j) accepted) in
-      let a = both-silent (setFault m s es) (orElse (slipRow es i) last) (rw pair-rows at h) in
+      let a = both-silent (sidedFault m blankSide s es cs) (orElse (slipRow es i) last) (rw pair-rows at h) in
       let b = both-silent (slipRow es i) last (a .1) in
       let l = row-accepts es i (b .0) in
       let r = row-accepts es j (both-silent (slipRow es j) (orElse (pairRow i j) accepted) (b .1) .0) in
-      (set-tells m s es (a .0) .tray, l .0, l .1, r .0, r .1)
+      (sided-tells m blankSide s es cs (a .0) .accepted, l .0, l .1, r .0, r .1)
 
 -- the refusal of a slip, and two places
 abbrev located : List ℕ → List ℕ → ℕ → ℕ → ℕ → Located
@@ -159,35 +168,55 @@ module _ (s es : List ℕ) (i : ℕ) (f : Refusal) (e : f ≡ slipFault s es i) 
             detail-is = rw e;
           }
 
-module _ (m : ℕ) (s es : List ℕ) (i j : ℕ) (f : Refusal) (e : f ≡ pairFault m s es i j) where
-  pub pair-refused : (f .number ≡ 0 → ⊥) → _≡_ {A = Pair} (record { number = f .number; detail = f .detail; letters = 0 }) (pairOf m s es i j)
+module _ (m : ℕ) (s es cs : List ℕ) (i j : ℕ) (f : Refusal) (e : f ≡ pairFault m s es cs i j) where
+  pub pair-refused : (f .number ≡ 0 → ⊥) → _≡_ {A = Pair} (record { number = f .number; detail = f .detail; letters = 0 }) (pairOf m s es cs i j)
   pair-refused z = rw e (ap (λ (n : ℕ). paired n) (nothing (f .number) z (ap (λ (r : Refusal). r .number) e)))
     where
       paired : ℕ → Pair
-      paired n = record { number = pairFault m s es i j .number; detail = pairFault m s es i j .detail; letters = n }
+      paired n = record { number = pairFault m s es cs i j .number; detail = pairFault m s es cs i j .detail; letters = n }
 
-      nothing : (n : ℕ) → (n ≡ 0 → ⊥) → n ≡ pairFault m s es i j .number → 0 ≡ pairOf m s es i j .letters
+      nothing : (n : ℕ) → (n ≡ 0 → ⊥) → n ≡ pairFault m s es cs i j .number → 0 ≡ pairOf m s es cs i j .letters
       nothing zero w h = absurd (w refl)
       nothing (suc n) w h = rw (sym h, pairOf)
 
   module _ (z : f .number ≡ 0) where
-    pub pair-tells : (trayFault s es .number ≡ 0) × (1 ≤ i) × (i ≤ length es) × (1 ≤ j) × (j ≤ length es)
-    pair-tells = pair-good m s es i j (rw e at z)
+    pair-tells : AcceptedSides s es cs × (1 ≤ i) × (i ≤ length es) × (1 ≤ j) × (j ≤ length es)
+    pair-tells = pair-good m s es cs i j (rw e at z)
 
     pub pair-slips : (l r : ℕ) → l ≡ i → r ≡ j → TwoSlips s es l r
     pair-slips l r el er =
         let t = pair-tells in
         record {
-          tray = t .0;
+          tray = t .0 .tray;
           left-some = rw el (t .1);
           left-most = rw el (t .2);
           right-some = rw er (t .3);
           right-most = rw er (t .4);
         }
 
+    pub pair-sides : (l r : ℕ) → l ≡ i → r ≡ j → TwoSides cs l r
+    pair-sides l r el er =
+        let t = pair-tells in
+        let n = sides-tell es cs (t .0 .sides) .0 in
+        record {
+          left-some = omega (arith, t .1);
+          left-most = omega (arith, t .2);
+          right-some = omega (arith, t .3);
+          right-most = omega (arith, t .4);
+        }
+
+    pub pair-apart : (l r : ℕ) → l ≡ i → r ≡ j → (b : Bool) → b ≡ eqb (sideOf cs l) (sideOf cs r) → b ≡ false
+        → _≡_ {A = Pair} (record { number = f .number; detail = f .detail; letters = 0 }) (pairOf m s es cs i j)
+    pair-apart l r el er b q n = let u : eqb (sideOf cs i) (sideOf cs j) ≡ false = rw (← el, ← er) (sym q ∙ n) in rw (e, rw e at z, u)
+
     module _ (l r o n : ℕ) (el : l ≡ i) (er : r ≡ j) (O : Overlap o s es l r n) where
       pub pair-small : n < 2 ^ 32
       pair-small = omega (arith, O .short)
 
-      pub pair-found : o ≡ m → _≡_ {A = Pair} (record { number = f .number; detail = f .detail; letters = n }) (pairOf m s es i j)
-      pair-found eo = rw (e, O .is, el, er, eo, rw e at z)
+      pub pair-found : o ≡ m → (b : Bool) → b ≡ eqb (sideOf cs l) (sideOf cs r) → b ≡ true
+          → _≡_ {A = Pair} (record { number = f .number; detail = f .detail; letters = n }) (pairOf m s es cs i j)
+      pair-found eo b q y = let u : eqb (sideOf cs i) (sideOf cs j) ≡ true = rw (← el, ← er) (sym q ∙ y) in rw (e, O .is, el, er, eo, rw e at z, u)
+
+pub sides-same : (cs : List ℕ) (l r : ℕ) (b : Bool) → TwoSides cs l r → b ≡ eqb (getD cs (l - 1) 0) (getD cs (r - 1) 0)
+    → b ≡ eqb (sideOf cs l) (sideOf cs r)
+sides-same cs l r b t e = e ∙ ap₂ eqb (entry-at cs l (t .left-some)) (entry-at cs r (t .right-some))

@@ -1,11 +1,15 @@
-// Requests on a tray: one slip's letters, the overlap of a pair.
+// Requests on a tray: one slip's letters, the overlap of a pair. One slip's letters are asked for without sides.
 ghost use mathlib.Core.Path.{_≡_};
 ghost use Prim.Native.Nat.{_<_};
+ghost use lib.Dec.{eqb};
 ghost use Rattle.trays.specs.Faults as F;
+ghost use Rattle.trays.specs.Sides as B;
 ghost use Rattle.trays.specs.Answers.{Stretch, locatedOf, pairOf};
+ghost use Rattle.tray_ask.specs.steps.Sides.{TwoSides};
 use slips::slip_span;
-use tray_check::check_set_tray;
+use tray_check::check_sided_tray;
 use tray_check::check_tray;
+use trays::BLANK_SIDE;
 use trays::Located;
 use trays::Pair;
 use trays::Refusal;
@@ -80,11 +84,18 @@ pub fn slip_place(letters: &[u8], ends: &[u16], slip: u32) -> Located
     }
 }
 
-// Refusals 21, 1 to 6, 10 and 11, for a pair of slip numbers.
-fn check_pair(letters: &[u8], ends: &[u16], left: u32, right: u32, least: u32) -> Refusal
-    ensures { λ r. ⌜ r ≡ F.pairFault least (now (letters .entry)) (now (ends .entry)) left right ⌝ }
+// Refusals 21, 1 to 6, 22, 10 and 11, for a pair of slip numbers. No side is named, so the check of the sides is handed a blank.
+fn check_pair(
+    letters: &[u8],
+    ends: &[u16],
+    sides: &[u8],
+    left: u32,
+    right: u32,
+    least: u32,
+) -> Refusal
+    ensures { λ r. ⌜ r ≡ B.pairFault least (now (letters .entry)) (now (ends .entry)) (now (sides .entry)) left right ⌝ }
 {
-    let tray = check_set_tray(letters, ends, least);
+    let tray = check_sided_tray(letters, ends, sides, least, BLANK_SIDE);
     if tray.number != 0 {
         return tray;
     }
@@ -102,11 +113,26 @@ fn check_pair(letters: &[u8], ends: &[u16], left: u32, right: u32, least: u32) -
     refuse(0, 0)
 }
 
-// The overlap of a pair of slips, by comparing their letters; 0 if it has fewer letters than the least.
-pub fn pair_overlap(letters: &[u8], ends: &[u16], left: u32, right: u32, least: u32) -> Pair
-    ensures { λ r. ⌜ r ≡ pairOf least (now (letters .entry)) (now (ends .entry)) left right ⌝ }
+// Whether two slips are of one side.
+fn same_side(sides: &[u8], left: usize, right: usize) -> bool
+    requires { ⌜ TwoSides (now sides) left right ⌝ }
+    ensures { λ r. ⌜ r ≡ eqb (B.sideOf (now (sides .entry)) left) (B.sideOf (now (sides .entry)) right) ⌝ }
 {
-    let fault = check_pair(letters, ends, left, right, least);
+    sides[left - 1] == sides[right - 1]
+}
+
+// The overlap of a pair of slips, by comparing their letters; 0 if it has fewer letters than the least, or the slips are of different sides.
+pub fn pair_overlap(
+    letters: &[u8],
+    ends: &[u16],
+    sides: &[u8],
+    left: u32,
+    right: u32,
+    least: u32,
+) -> Pair
+    ensures { λ r. ⌜ r ≡ pairOf least (now (letters .entry)) (now (ends .entry)) (now (sides .entry)) left right ⌝ }
+{
+    let fault = check_pair(letters, ends, sides, left, right, least);
     if fault.number != 0 {
         return Pair {
             number: fault.number,
@@ -114,10 +140,24 @@ pub fn pair_overlap(letters: &[u8], ends: &[u16], left: u32, right: u32, least: 
             letters: 0,
         };
     }
-    let shared = slips::slip_overlap(letters, ends, left as usize, right as usize, least as usize);
+    let same = same_side(sides, left as usize, right as usize);
+    if same {
+        let shared = slips::slip_overlap(
+            letters,
+            ends,
+            left as usize,
+            right as usize,
+            least as usize,
+        );
+        return Pair {
+            number: fault.number,
+            detail: fault.detail,
+            letters: shared as u32,
+        };
+    }
     Pair {
         number: fault.number,
         detail: fault.detail,
-        letters: shared as u32,
+        letters: 0,
     }
 }

@@ -1,0 +1,2 @@
+-- Requests on a tray: their answers stand in trays.
+pub mod steps

@@ -1,0 +1,2 @@
+-- What only functions within need.
+pub mod Sides
