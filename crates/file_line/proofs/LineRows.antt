@@ -2,7 +2,7 @@
 --   line-..   == what each test of line_fault says of rows 17, 18, 19
 --   parse-..  == the answers of line_at
 use mathlib.Core.Path.{_≡_, refl, sym, _∙_}
-use mathlib.Core.Bool.{true}
+use mathlib.Core.Bool.{Bool, true, false}
 use mathlib.Core.List.{List}
 use Prim.Native.Nat.{ℕ, suc, _+_, _-_, _≤_, _<_}
 use borrow.Author.Tests.{le-leb, lt-leb, eq-eqb, ne-eqb}
@@ -11,8 +11,9 @@ use native.Mathlib.Omega.{arith}
 use lib.Dec.{eqb}
 use lib.ListN.{length, getD, take, drop, drop-of-length-le}
 use Rattle.words.specs.Lists.{lastOr}
+use Rattle.trays.specs.Sides.{isSide}
 use Rattle.tray_check.proofs.CheckLoops.{last-some}
-use Rattle.file_rule.specs.Lines.{lf, blank, field, firstLine, isLaidOut}
+use Rattle.file_rule.specs.Lines.{lf, field, firstLine, sideField, isLaidOut}
 use Rattle.file_rule.specs.Faults.{lineFault}
 use Rattle.file_rule.specs.declared.Line.{Line}
 use Rattle.file_line.specs.steps.Parsed.{lineAt}
@@ -38,13 +39,16 @@ module _ (l : List ℕ) (k : ℕ) where
         pub line-stated : stated ≡ 0 → 17 ≡ lineFault k l .number
         line-stated y = rw (le-leb 10 (length l) h, ended, ← s, le-leb 1 slip (omega arith), ← t, y)
 
-        module _ (y : stated ≡ 0 → ⊥) where
-          pub line-column : (getD l 8 0 ≡ blank → ⊥) → 17 ≡ lineFault k l .number
-          line-column c = rw (le-leb 10 (length l) h, ended, ← s, le-leb 1 slip (omega arith), ← t, le-leb 1 stated (omega arith), ne-eqb _ _ c)
+        module _ (y : stated ≡ 0 → ⊥) (b : Bool) (q : b ≡ isSide (sideField l)) where
+          to-side : isLaidOut l ≡ b
+          to-side = rw (le-leb 10 (length l) h, ended, ← s, le-leb 1 slip (omega arith), ← t, le-leb 1 stated (omega arith), ← q)
 
-          module _ (c : getD l 8 0 ≡ blank) where
+          pub line-column : b ≡ false → 17 ≡ lineFault k l .number
+          line-column c = rw (to-side ∙ c)
+
+          module _ (c : b ≡ true) where
             laid : isLaidOut l ≡ true
-            laid = rw (le-leb 10 (length l) h, ended, ← s, le-leb 1 slip (omega arith), ← t, le-leb 1 stated (omega arith), eq-eqb _ _ c)
+            laid = to-side ∙ c
 
             pub line-number : (slip - 1 ≡ k → ⊥) → 18 ≡ lineFault k l .number
             line-number n = rw (laid, ← s, ne-eqb slip (suc k) (λ q. n (omega arith)))

@@ -9,6 +9,11 @@ use file_rule::BLANK;
 use file_rule::LF;
 use file_rule::Line;
 
+// Where the side and the letters of a line start, counted from 0: columns 9 and 10.
+pub const SIDE_COLUMN: usize = 8;
+
+pub const LETTERS_COLUMN: usize = 9;
+
 fn wide(x: u8) -> usize
     ensures { λ r. ⌜ r ≡ x ⌝ }
 {
@@ -59,7 +64,7 @@ fn field(columns: &[u8]) -> usize
     0
 }
 
-// What turns back a line, with its LF, as line k: 17, 18, 19, or 0.
+// What refuses a line, with its LF, as line k: 17, 18, 19, or 0.
 fn line_fault(line: &[u8], k: usize) -> u8
     ensures { λ r. ⌜ r ≡ F.lineFault k (now (line .entry)) .number ⌝ }
 {
@@ -78,16 +83,18 @@ fn line_fault(line: &[u8], k: usize) -> u8
     if stated == 0 {
         return 17;
     }
-    if line[8] != BLANK {
-        return 17;
+    let good = tray_check::is_side(line[SIDE_COLUMN]);
+    if good {
+        if slip - 1 != k {
+            return 18;
+        }
+        if stated - 1 != n - 10 {
+            return 19;
+        }
+        0
+    } else {
+        17
     }
-    if slip - 1 != k {
-        return 18;
-    }
-    if stated - 1 != n - 10 {
-        return 19;
-    }
-    0
 }
 
 // Where the line that starts at a place ends: after its LF, or where the file ends.

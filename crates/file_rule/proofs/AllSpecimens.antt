@@ -13,14 +13,18 @@ use Rattle.trays.specs.Faults.{refusal}
 use Rattle.trays.specs.Written.{lettersOf, endsOf, writtenBy}
 use Rattle.fold_rule.specs.Folding.{fold}
 use Rattle.file_rule.specs.Faults.{readFault}
-use Rattle.file_rule.specs.Answers.{slipsIn}
+use Rattle.file_rule.specs.Answers.{slipsIn, sidesIn}
 
 abbrev pub composeFile : List ℕ
 composeFile = word "   1   7 IMPCAES\n   2   3 AES\n   3   7 CAESAVG\n   4   6 VGPIVS\n   5   4 SIMP\n"
 
--- read_tray's answer, where just enough letters and ends are lent
+-- what turns a file back, all that it meets being lent
+abbrev found : String → Refusal
+found t = readFault (word t) 16384 1700 1700
+
+-- read_tray's answer, where just enough letters, ends and sides are lent
 abbrev answered : List ℕ → Written
-answered s = writtenBy (readFault s 16384 1700) (slipsIn s)
+answered s = writtenBy (readFault s 16384 1700 1700) (slipsIn s)
 
 pub compose-answer : answered composeFile ≡ record { number = 0; detail = 0; letters = 27; slips = 5 }
 unfolding readFault
@@ -32,6 +36,15 @@ compose-letters = refl
 
 pub compose-ends : endsOf (slipsIn composeFile) ≡ 7 ∷ 10 ∷ 17 ∷ 23 ∷ 27 ∷ []
 compose-ends = refl
+
+-- column 9 is the side: a blank, O or R, and nothing else; it is not folded, and no letter
+pub side-columns :
+    (sidesIn (word "   1   3 avg\n   2   3Oavg\n   3   3RAVG\n") ≡ word " OR")
+    × (lettersOf (slipsIn (word "   1   3 avg\n   2   3Oavg\n   3   3RAVG\n")) ≡ word "AVGAVGAVG")
+    × (map found ("   1   3OAVG\n" ∷ "   1   3oAVG\n" ∷ "   1   3rAVG\n" ∷ "   1   3.AVG\n" ∷ "   1   0R\n" ∷ "   1   1R\n" ∷ [])
+    ≡ refusal 0 0 ∷ refusal 17 1 ∷ refusal 17 1 ∷ refusal 17 1 ∷ refusal 0 0 ∷ refusal 19 1 ∷ [])
+unfolding readFault fold
+side-columns = (refl, refl, refl)
 
 -- as readers type it, with a digit and a CR in slip 3: letters are filed folded, those two as 0, and each length counts the bytes of the line
 abbrev typedFile : List ℕ
@@ -53,10 +66,6 @@ empty-answer = refl
 bare-slip : endsOf (slipsIn (word "   1   3 AVG\n   2   0 \n")) ≡ 3 ∷ 3 ∷ []
 bare-slip = refl
 
--- what turns a file back, all that it meets being lent
-abbrev found : String → Refusal
-found t = readFault (word t) 16384 1700
-
 layouts :
     map found ("   1   3 AVG" ∷ "0001   3 AVG\n" ∷ "  1    3 AVG\n" ∷ "   1  03 AVG\n" ∷ "   1   3AVG\n" ∷ "   1     AVG\n" ∷ "   1   3 AVG\n\n" ∷ [])
     ≡ refusal 17 1 ∷ refusal 17 1 ∷ refusal 17 1 ∷ refusal 17 1 ∷ refusal 17 1 ∷ refusal 17 1 ∷ refusal 17 2 ∷ []
@@ -70,10 +79,10 @@ numbers-and-lengths :
 unfolding readFault
 numbers-and-lengths = refl
 
-lent-too-few : readFault [] 16383 1700 ∷ readFault [] 16384 1699 ∷ [] ≡ refusal 15 0 ∷ refusal 15 0 ∷ []
+lent-too-few : readFault [] 16383 1700 1700 ∷ readFault [] 16384 1699 1700 ∷ readFault [] 16384 1700 1699 ∷ [] ≡ refusal 15 0 ∷ refusal 15 0 ∷ refusal 15 0 ∷ []
 unfolding readFault
 lent-too-few = refl
 
-file-too-long : readFault (replicate 16385 65) 16384 1700 ≡ refusal 16 0
+file-too-long : readFault (replicate 16385 65) 16384 1700 1700 ≡ refusal 16 0
 unfolding readFault
 file-too-long = refl

@@ -2,3 +2,4 @@
 pub mod AllSpecimens
 pub mod FirstLines
 pub mod LineFaults
+pub mod SideColumns

@@ -3,7 +3,7 @@
 --   or-last       == no row behind the last one
 --   rows a b c    == the rows 17, 18, 19 of line k, where a, b, c say whether each holds
 --   fault-detail  == a fault of line k has k as its detail
---   long-enough   == a line without a fault has at least 10 bytes
+--   laid-out      == a line without a fault has the layout of a tray line; long-enough == and at least 10 bytes
 use mathlib.Core.Path.{_≡_, refl, sym, _∙_, ap}
 use mathlib.Core.Bool.{Bool, true, false, not}
 use mathlib.Core.List.{List, [], _∷_}
@@ -55,10 +55,11 @@ module _ (k : ℕ) where
     pub fault-detail : (lineFault k l .number ≡ 0 → ⊥) → refusal (lineFault k l .number) k ≡ lineFault k l
     fault-detail = detail (not (isLaidOut l)) misnumbered mismeasured
 
+    pub laid-out : lineFault k l .number ≡ 0 → isLaidOut l ≡ true
+    laid-out z = not-false (isLaidOut l) (silent (not (isLaidOut l)) misnumbered mismeasured z)
+
     pub long-enough : lineFault k l .number ≡ 0 → 10 ≤ length l
-    long-enough z =
-        let p : not (isLaidOut l) ≡ false = silent (not (isLaidOut l)) misnumbered mismeasured z in
-        leb-true 10 (length l) (both (leb 10 (length l)) _ (not-false (isLaidOut l) p) .0)
+    long-enough z = leb-true 10 (length l) (both (leb 10 (length l)) _ (laid-out z) .0)
 
 pub lines-accepted : (k : ℕ) (ls : List (List ℕ)) → linesFault k ls .number ≡ 0 → linesFault k ls ≡ accepted
 lines-accepted k [] z = refl

@@ -6,6 +6,7 @@
 --   field cs       == 1 + the number that the columns cs hold; 0 if they hold none
 --   slipField l    == the slip number of the line l
 --   lengthField l  == its stated length
+--   sideField l    == its side, as it stands
 --   isLaidOut l    == l has the layout of a tray line
 --   typed l        == the letters of l, as they stand
 --   letters l      == the same as they are filed
@@ -15,6 +16,7 @@ use Prim.Native.Nat.{ℕ, suc, _+_, _-_, _*_}
 use lib.Dec.{eqb, leb}
 use lib.ListN.{length, getD, take, drop}
 use Rattle.words.specs.Lists.{headOr, lastOr}
+use Rattle.trays.specs.Sides.{isSide}
 use Rattle.fold_rule.specs.Folding.{fold}
 
 abbrev pub lf : ℕ
@@ -48,16 +50,19 @@ field [] = 0
 field (c ∷ cs) =
     elim (eqb c blank) [ true ↦ field cs | false ↦ elim (eqb c 48 && leb 1 (length cs)) [ true ↦ 0 | false ↦ number 0 (c ∷ cs) ] ]
 
--- Tray line: slip number in columns 1 to 4, length in 5 to 8, a blank in 9, letters from 10, LF.
+-- Tray line: slip number in columns 1 to 4, length in 5 to 8, the side in 9 (a blank, O or R), letters from 10, LF.
 abbrev pub slipField : List ℕ → ℕ
 slipField l = field (take 4 l)
 
 abbrev pub lengthField : List ℕ → ℕ
 lengthField l = field (take 4 (drop 4 l))
 
+abbrev pub sideField : List ℕ → ℕ
+sideField l = getD l 8 0
+
 abbrev pub isLaidOut : List ℕ → Bool
 isLaidOut l =
-    leb 10 (length l) && (eqb (lastOr 0 l) lf && (leb 1 (slipField l) && (leb 1 (lengthField l) && eqb (getD l 8 0) blank)))
+    leb 10 (length l) && (eqb (lastOr 0 l) lf && (leb 1 (slipField l) && (leb 1 (lengthField l) && isSide (sideField l))))
 
 abbrev pub typed : List ℕ → List ℕ
 typed l = take (length l - 10) (drop 9 l)

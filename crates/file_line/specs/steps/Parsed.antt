@@ -1,5 +1,5 @@
 -- What the parser of a line answers.
---   lineAt s at k  == its answer at the place `at` of the file s, for line k: what turns the line back, and the place behind it, of a bad line too
+--   lineAt s at k  == its answer at the place `at` of the file s, for line k: what refuses the line, and the place after it, of a bad line too
 use mathlib.Core.List.{List}
 use Prim.Native.Nat.{ℕ, _+_}
 use lib.ListN.{length, drop}

@@ -13,4 +13,4 @@ returns-2 : tie.Need-returns-2
 returns-2 c = search read-copied
 
 pub read-tray-spec : {M : Type 1} → statement M
-read-tray-spec = tie.close (tie.spec (λ c κs. search needs) returns copy-file-requires (λ c. search needs) (λ c. search needs) returns-2)
+read-tray-spec = tie.close (tie.spec (λ c κs. search needs) returns copy-file-requires (λ c. search needs) (λ c. search needs) (λ c. search needs) returns-2)
