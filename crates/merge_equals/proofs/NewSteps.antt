@@ -1,9 +1,10 @@
 -- The loop over the second tray's slips.
---   Found ws xs i count total ns == the new ones of the first i slips of xs are the first `count` numbers of ns, and have `total` letters
+--   Found ws xs ls i count total ns == the new ones of the first i slips of xs, whose letters are ls, are the first `count` numbers of ns, and have `total`
+--                                      letters
 --   found-none, found-new, found-old, found-all == at the start, after a slip that is new or is not, at the end
 use mathlib.Core.Path.{_≡_, refl, sym, _∙_, ap}
-use mathlib.Core.Bool.{Bool, true, false, not}
-use mathlib.Core.List.{List, [], _∷_, _++_, map, map-append, append-nil, append-assoc}
+use mathlib.Core.Bool.{Bool, true, false}
+use mathlib.Core.List.{List, [], _∷_, _++_, map-append, append-nil, append-assoc}
 use Prim.Native.Nat.{ℕ, suc, _+_, _-_, _*_, _^_, _≤_, _<_}
 use native.Mathlib.Numerals.{add-one}
 use native.Mathlib.Omega.{arith}
@@ -20,33 +21,37 @@ use Rattle.trays.specs.Written.{lettersOf}
 use Rattle.trays.proofs.Accepted.{accepted-tells, slips-count}
 use Rattle.trays.proofs.Spans.{accepted-spanned}
 use Rattle.trays.proofs.WrittenSlips.{letters-snoc}
-use Rattle.merge_rule.specs.Merging.{merged}
+use Rattle.merge_rule.specs.Merging.{merged, labelled}
+use Rattle.merge_rule.proofs.Labelled.{labelled-count}
 use Rattle.merge_rule.proofs.Merged.{merged-equal, merged-new}
 use Rattle.merge_equals.specs.Equals.{BothTrays, SecondSlip, isNew, NewSlips}
 
-pub record Found (ws xs : List (List ℕ)) (i count total : ℕ) (ns : List ℕ) : Type 0 where
+pub record Found (ws xs ls : List (List ℕ)) (i count total : ℕ) (ns : List ℕ) : Type 0 where
   pub upto : i ≤ length xs
   pub few : count ≤ i
   pub size : length ns ≡ maxSlips
   pub real : All (λ k. (1 ≤ k) × (k ≤ length xs)) (take count ns)
   pub slips-are : merged same ws (take i xs) ≡ ws ++ only xs (take count ns)
-  pub letters-are : total ≡ length (lettersOf (only xs (take count ns)))
+  pub letters-are : total ≡ length (lettersOf (only ls (take count ns)))
   pub bound : total ≤ maxSlip * i
 
-module _ (s es t fs : List ℕ) (B : BothTrays s es t fs) where
+module _ (s es cs t fs ds : List ℕ) (B : BothTrays s es cs t fs ds) where
   abbrev ws : List (List ℕ)
-  ws = slipsOf s es
+  ws = labelled (slipsOf s es) cs
 
   abbrev xs : List (List ℕ)
-  xs = slipsOf t fs
+  xs = labelled (slipsOf t fs) ds
+
+  abbrev ls : List (List ℕ)
+  ls = slipsOf t fs
 
   many : length xs ≡ length fs
-  many = slips-count t fs
+  many = labelled-count (slipsOf t fs) ds ∙ slips-count t fs
 
   few-slips : length fs ≤ maxSlips
   few-slips = accepted-tells t fs (B .second) .few
 
-  pub found-none : Found ws xs 0 0 0 (replicate maxSlips 0)
+  pub found-none : Found ws xs ls 0 0 0 (replicate maxSlips 0)
   found-none =
       record {
         upto = omega arith;
@@ -60,16 +65,16 @@ module _ (s es t fs : List ℕ) (B : BothTrays s es t fs) where
 
   -- slip i + 1 is there, its number fits a cell, and there is room for it
   module _ (i : ℕ) (h : i < length fs) where
-    pub found-slip : (i′ : ℕ) → i′ ≡ i + 1 → SecondSlip s es t fs i′
+    pub found-slip : (i′ : ℕ) → i′ ≡ i + 1 → SecondSlip s es cs t fs ds i′
     found-slip i′ e = record { trays = B; some = omega arith; there = omega arith }
 
     pub found-fits : (i′ : ℕ) → i′ ≡ i + 1 → i′ < 2 ^ 16
     found-fits i′ e = omega (arith, few-slips)
 
-    pub found-room : (count total : ℕ) (ns : List ℕ) → Found ws xs i count total ns → count < maxSlips
+    pub found-room : (count total : ℕ) (ns : List ℕ) → Found ws xs ls i count total ns → count < maxSlips
     found-room count total ns F = omega (arith, F .few, few-slips)
 
-  module _ (i count total : ℕ) (ns : List ℕ) (F : Found ws xs i count total ns) (h : i < length fs) (i′ : ℕ) (e : i′ ≡ i + 1) where
+  module _ (i count total : ℕ) (ns : List ℕ) (F : Found ws xs ls i count total ns) (h : i < length fs) (i′ : ℕ) (e : i′ ≡ i + 1) where
     up : i′ ≡ suc i
     up = e ∙ add-one i
 
@@ -79,7 +84,7 @@ module _ (s es t fs : List ℕ) (B : BothTrays s es t fs) where
     before : take (i′ - 1) xs ≡ take i xs
     before = let u : i′ - 1 ≡ i = omega arith in rw u
 
-    pub found-old : (b : Bool) → b ≡ isNew ws xs i′ → b ≡ false → Found ws xs i′ count total ns
+    pub found-old : (b : Bool) → b ≡ isNew ws xs i′ → b ≡ false → Found ws xs ls i′ count total ns
     found-old b q f =
         let equal : any (same (slip xs i′)) (ws ++ take i xs) ≡ true =
         not-false (any (same (slip xs i′)) (ws ++ take i xs)) (sym (rw before at q) ∙ f) in
@@ -93,11 +98,12 @@ module _ (s es t fs : List ℕ) (B : BothTrays s es t fs) where
           bound = omega (arith, F .bound);
         }
 
-    module _ (b : Bool) (q : b ≡ isNew ws xs i′) (y : b ≡ true) (part : List ℕ) (p : part ≡ slip xs i′) where
+    module _ (b : Bool) (q : b ≡ isNew ws xs i′) (y : b ≡ true) (part : List ℕ) (p : part ≡ slip ls i′) where
       part-short : length part ≤ maxSlip
       part-short = rw p (accepted-spanned t fs (B .second) .short i′ (omega arith) (omega arith))
 
-      pub found-new : (k count′ total′ : ℕ) → k ≡ i′ → count′ ≡ count + 1 → total′ ≡ total + length part → Found ws xs i′ count′ total′ (set ns count k)
+      pub found-new : (k count′ total′ : ℕ) → k ≡ i′ → count′ ≡ count + 1 → total′ ≡ total + length part
+          → Found ws xs ls i′ count′ total′ (set ns count k)
       found-new k count′ total′ c d g =
           let new : any (same (slip xs i′)) (ws ++ take i xs) ≡ false =
           not-true (any (same (slip xs i′)) (ws ++ take i xs)) (sym (rw before at q) ∙ y) in
@@ -105,6 +111,8 @@ module _ (s es t fs : List ℕ) (B : BothTrays s es t fs) where
           rw (d, add-one count, c) (take-suc-set ns count i′ (omega (arith, F .size, F .few, few-slips))) in
           let chosen : only xs (take count′ (set ns count k)) ≡ only xs (take count ns) ++ (slip xs i′ ∷ []) =
           rw more (map-append (slip xs) (take count ns) (i′ ∷ [])) in
+          let plain : only ls (take count′ (set ns count k)) ≡ only ls (take count ns) ++ (slip ls i′ ∷ []) =
+          rw more (map-append (slip ls) (take count ns) (i′ ∷ [])) in
           record {
             upto = omega (arith, many);
             few = omega (arith, F .few);
@@ -114,15 +122,15 @@ module _ (s es t fs : List ℕ) (B : BothTrays s es t fs) where
                 rw (next, chosen)
                 (merged-new same same-trans ws (take i xs) (slip xs i′) new
                 ∙ ap (λ z. z ++ (slip xs i′ ∷ [])) (F .slips-are) ∙ append-assoc ws (only xs (take count ns)) (slip xs i′ ∷ []));
-            letters-are = rw (chosen, letters-snoc, length-append, g, F .letters-are, p);
+            letters-are = rw (plain, letters-snoc, length-append, g, F .letters-are, p);
             bound = omega (arith, F .bound, part-short);
           }
 
       pub found-total : total + length part < 2 ^ 64
       found-total = omega (arith, F .bound, part-short, few-slips)
 
-  pub found-all : (i count total : ℕ) (ns : List ℕ) → Found ws xs i count total ns → length fs ≤ i
-      → NewSlips s es t fs (record { count = count; letters = total; slips = ns })
+  pub found-all : (i count total : ℕ) (ns : List ℕ) → Found ws xs ls i count total ns → length fs ≤ i
+      → NewSlips s es cs t fs ds (record { count = count; letters = total; slips = ns })
   found-all i count total ns F h =
       let whole : take i xs ≡ xs = take-all i xs (omega (arith, many)) in
       record {

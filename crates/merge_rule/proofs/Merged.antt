@@ -1,10 +1,9 @@
 -- Laws of `merged`, for any type and any test of equality eq.
 --   merged-yes, merged-no    == its two clauses: the next member equals one that is written, or none
 --   merged-first, merged-in  == what is written at the start stays written; nothing is written but members of the two lists
---   merged-rise              == it ascends where the two lists do, one behind the other
+--   merged-rise              == it ascends where the two lists do, one after the other
 --   merged-cover             == each member of the two lists is written, or an earlier one that it equals is
 --   merged-map               == merging what f makes of two lists is what f makes of merging them
---   all-merged               == what holds of both lists holds of the merged one
 --   merged-append            == the second list may be merged in two parts
 --   written-earlier          == where eq is transitive, a member equals one written before it where it equals any that comes before it
 --   merged-equal, merged-new == so one member more is left out, or is written last
@@ -18,7 +17,7 @@ use Rattle.words.specs.Lists.{any}
 use Rattle.words.proofs.Tests.{by-test, same-test}
 use Rattle.words.proofs.Members.{In, Asc, by-in, any-in, in-any}
 use Rattle.words.proofs.Picks.{in-without, asc-without, asc-before}
-use Rattle.words.proofs.Sums.{All, all-append, all-in, all-at}
+use Rattle.words.proofs.Sums.{all-in}
 use Rattle.words.proofs.Maps.{any-map}
 use Rattle.merge_rule.specs.Merging.{merged}
 
@@ -42,9 +41,6 @@ module _ {A : Type 0} (eq : A → A → Bool) where
       by-test (any (eq x) ws)
       (λ y. in-without ws x xs (merged-in ws xs (rw (merged-yes ws x xs y) at m)))
       (λ n. rw append-snoc at (merged-in (ws ++ (x ∷ [])) xs (rw (merged-no ws x xs n) at m)))
-
-  pub all-merged : (P : A → Type 0) (ws xs : List A) → All P ws → All P xs → All P (merged eq ws xs)
-  all-merged P ws xs p q = all-in P (merged eq ws xs) (λ x i. all-at P (ws ++ xs) x (all-append P ws xs p q) (merged-in ws xs i))
 
   pub merged-append : (ws xs ys : List A) → merged eq ws (xs ++ ys) ≡ merged eq (merged eq ws xs) ys
   merged-append ws [] ys = refl

@@ -2,7 +2,7 @@
 --   Covers eq M N  == of the numbers N those not in M equal, by eq, an earlier one that is in M
 --   covers-those   == so among the numbers that pass a test which equals pass alike
 --   covers-spare   == where equals have equal letters, M may stand for N
---   picked eq n k  == of the numbers 1 to n, and behind them k more, those that are written; eq tells which are equal
+--   picked eq n k  == of the numbers 1 to n, and after them k more, those that are written; eq tells which are equal
 --   picked-covers  == they cover all the numbers; picked-real == they ascend, and are among them
 --   picked-is      == any two lists merged are the members of the long list by these numbers
 --   pickedOf ws xs  == the numbers, in the long list, of the slips written
@@ -12,13 +12,12 @@
 --   allLegend counts ss == the legend of all the slips ss
 --   partLegend counts f t zs == the legend of those of zs that pass the test t, where f reads a slip's letters
 --   legend-merged  == it is the same of the slips merged and of the long list
---   same-legend    == so the two legends are equal, where all slips take part and are nothing but letters
 -- Merging slips is merging their numbers in the long list. What is left out equals an earlier slip that is written, and passes a test where that one does. So
 -- of the slips that pass it those written may stand for all; and slips chosen from a tray have the legend that they have as a tray of their own.
 use mathlib.Core.Path.{_≡_, refl, sym, ap, _∙_}
 use mathlib.Core.Bool.{Bool, true}
 use mathlib.Core.Logic.{_⊎_, inl, inr}
-use mathlib.Core.List.{List, [], _++_, map, map-id}
+use mathlib.Core.List.{List, [], _++_, map}
 use Prim.Native.Nat.{ℕ, zero, suc, _+_, _<_}
 use native.Mathlib.Nat.{add-assoc}
 use native.Mathlib.Numerals.{one-add}
@@ -28,7 +27,6 @@ use lib.Seq.{getD-append-add}
 use Rattle.words.specs.Lists.{those, upFrom}
 use Rattle.words.specs.Words.{same}
 use Rattle.words.proofs.Members.{In, Asc, those-in, in-those, in-upFrom, asc-upFrom, asc-those}
-use Rattle.words.proofs.Picks.{those-all}
 use Rattle.words.proofs.Sums.{all-in}
 use Rattle.words.proofs.Maps.{those-map, map-same}
 use Rattle.words.proofs.Runs.{upFrom-append, map-places}
@@ -163,9 +161,3 @@ module _ (ws xs : List (List ℕ)) where
         ∙ (sym (passing-legend counts f none t zs pickedOf pickedOf-real)
         ∙ legend-spare counts (map f zs) wanted-spare (passing-real counts f none t zs pickedOf pickedOf-real .rise)
         (passing-real counts f none t zs (numbers zs) (numbers-real zs) .rise)))
-
-pub same-legend : (ws xs : List (List ℕ)) (counts : List ℕ → Bool) → allLegend counts (merged same ws xs) ≡ allLegend counts (ws ++ xs)
-same-legend ws xs counts = sym (all-part (merged same ws xs)) ∙ (legend-merged ws xs counts (λ x. x) refl (λ x. true) ∙ all-part (ws ++ xs))
-  where
-    all-part : (zs : List (List ℕ)) → partLegend counts (λ x. x) (λ x. true) zs ≡ allLegend counts zs
-    all-part zs = rw (map-id zs, those-all (λ i. true) (numbers zs) (λ i m. refl))

@@ -1,4 +1,3 @@
--- Two trays merged, without sides and with them: the slips written, refusals, and what is claimed.
+-- Two trays merged, each with its sides: the slips written, refusals, and what is claimed.
 pub mod Merging
 pub mod Claims
-pub mod Sides

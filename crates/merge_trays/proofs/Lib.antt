@@ -1,3 +1,5 @@
--- Two trays merged: what turns the call back, the steps from the new slips to the outcome.
+-- Two trays merged: what refuses the call, the steps from the new slips to the outcome, the sides written.
 pub mod InputRows
+pub mod Outcome
+pub mod SideLoop
 pub mod MergeSteps

@@ -1,13 +1,13 @@
 -- From the new slips to the outcome.
 --   slips-sum, letters-sum  == how many slips and letters the outcome has
 --   first-.., rest-..       == the first tray is copied, and the new slips are written into the rest of both buffers
---   merged-written          == together they are the outcome
---   too-many, too-long, can-merge, within == the ways through merge_accepted
---   merge-refused, merge-done == the ways through merge_trays
+--   merged-written          == together they are the letters and ends of the outcome
+--   few-and-small           == how large the counts are that the code adds up; outcome-size == their sums are the counts of the outcome
+--   can-merge, can-write-sides == what writing asks, where no row speaks
+--   merge-lent, merge-inputs, merge-size, merge-done == the ways through merge_trays
 use mathlib.Core.Path.{_≡_, refl, sym, _∙_, ap}
 use mathlib.Core.List.{List, _++_}
-use Prim.Native.Nat.{ℕ, _+_, _-_, _^_, _≤_, _<_}
-use borrow.Author.Tests.{lt-ltb, le-ltb}
+use Prim.Native.Nat.{ℕ, _+_, _-_, _*_, _≤_}
 use borrow.Rule.Slice.PartMut.{putMid}
 use native.Mathlib.Omega.{arith}
 use lib.ListN.{length, take, drop, length-append, length-drop, length-map}
@@ -18,172 +18,219 @@ use Rattle.tables.specs.Tables.{table}
 use Rattle.tables.specs.Copying.{CanCopy}
 use Rattle.trays.specs.declared.Refusal.{Refusal}
 use Rattle.trays.specs.declared.Written.{Written}
-use Rattle.trays.specs.Limits.{maxSlips, maxLetters}
+use Rattle.trays.specs.Limits.{maxSlips, maxSlip, maxLetters}
 use Rattle.trays.specs.Slips.{slipsOf, only}
-use Rattle.trays.specs.Faults.{refusal, accepted, firstRow}
-use Rattle.trays.specs.Written.{lettersOf, endsFrom, endsOf, sizeRows, TrayWritten}
+use Rattle.trays.specs.Faults.{orElse, trayFault}
+use Rattle.trays.specs.Written.{lettersOf, endsFrom, endsOf}
 use Rattle.trays.proofs.Accepted.{accepted-tells, slips-count}
 use Rattle.trays.proofs.Rows.{or-zero, or-some}
-use Rattle.trays.proofs.WrittenSlips.{length-ends, letters-append, ends-append, tray-refused}
+use Rattle.trays.proofs.WrittenSlips.{length-ends, letters-append, ends-append, tray-refused, tray-wrote}
 use Rattle.trays.proofs.WrittenTrays.{written-slips}
-use Rattle.merge_rule.specs.Merging.{mergedOf, mergeFault, MergeSays}
+use Rattle.merge_rule.specs.Merging.{lettersAmong, sidesAmong, mergedSides, mergeFault, MergeSays}
 use Rattle.merge_equals.specs.declared.Fresh.{Fresh}
 use Rattle.merge_equals.specs.Equals.{BothTrays, NewSlips}
 use Rattle.tray_cut.specs.Choosing.{CanWrite, SlipsWritten}
-use Rattle.merge_trays.specs.steps.Merging.{unwritten, inputFault, Room, CanMerge, Outcome}
-use Rattle.merge_trays.proofs.InputRows.{fault-is}
+use Rattle.merge_trays.specs.steps.Merging.{unwritten, lentFault, bothFault, sizeFault, Room, chosen, slipsMerged, sidesMerged}
+use Rattle.merge_trays.specs.steps.Merging.{CanMerge, LettersWritten, CanWriteSides}
+use Rattle.merge_trays.proofs.InputRows.{lent-room, both-trays, fault-is, size-silent}
+use Rattle.merge_trays.proofs.Outcome.{letters-merged, sides-merged}
 
 -- a list copied whole
 table-all : (w : List ℕ) → table w 0 (length w) ≡ w
 unfolding table
 table-all w = take-length w
 
-module _ (s es t fs : List ℕ) where
+-- the slips written: those of the first tray, and after them the new ones
+module _ (s es t fs : List ℕ) (new : Fresh) where
   abbrev m : List (List ℕ)
-  m = mergedOf s es t fs
+  m = slipsMerged s es t fs new
 
-  module _ (new : Fresh) (B : BothTrays s es t fs) (N : NewSlips s es t fs new) where
-    -- the numbers of the new slips, and these
-    abbrev M : List ℕ
-    M = take (new .count) (new .slips)
+  abbrev M : List ℕ
+  M = chosen new
 
-    abbrev ys : List (List ℕ)
-    ys = only (slipsOf t fs) M
+  abbrev ys : List (List ℕ)
+  ys = only (slipsOf t fs) M
 
-    few-new : new .count ≤ maxSlips
-    few-new = omega (arith, N .few, accepted-tells t fs (B .second) .few)
-
-    numbers-count : length M ≡ new .count
-    numbers-count = length-take-le (new .count) (new .slips) (omega (arith, N .size, few-new))
-
+  module _ (acc : trayFault s es .number ≡ 0) where
     first-letters : lettersOf (slipsOf s es) ≡ s
-    first-letters = written-slips s es (B .first) .0
+    first-letters = written-slips s es acc .0
 
     first-ends : endsOf (slipsOf s es) ≡ es
-    first-ends = written-slips s es (B .first) .1
-
-    -- both sums fit
-    pub sum-small : length s + new .letters < 2 ^ 64
-    sum-small = omega (arith, N .bound, accepted-tells s es (B .first) .small, accepted-tells t fs (B .second) .few)
-
-    pub slips-sum : length m ≡ length es + new .count
-    slips-sum = rw (N .slips-are, length-append, slips-count, length-map, numbers-count)
+    first-ends = written-slips s es acc .1
 
     letters-are : lettersOf m ≡ s ++ lettersOf ys
-    letters-are = rw (N .slips-are, letters-append, first-letters)
+    letters-are = rw (letters-append, first-letters)
 
     ends-are : endsOf m ≡ es ++ endsFrom (length s) ys
     ends-are =
         let here : 0 + length (lettersOf (slipsOf s es)) ≡ length s = rw first-letters (omega arith) in
-        rw (N .slips-are, ends-append, first-ends, here)
+        rw (ends-append, first-ends, here)
 
-    pub letters-sum : length (lettersOf m) ≡ length s + new .letters
-    letters-sum = rw (letters-are, length-append, N .letters-are)
+    pub letters-sum : new .letters ≡ length (lettersOf ys) → length (lettersOf m) ≡ length s + new .letters
+    letters-sum c = rw (letters-are, length-append, c)
 
-    -- the first tray is copied into the front of both buffers
-    module _ (a b : List ℕ) (C : CanMerge s es t fs new (length a) (length b)) where
-      pub first-room : length s ≤ length a
-      first-room = omega (arith, C .small, C .room .letters)
+  module _ (listed : new .count ≤ length (new .slips)) where
+    numbers-count : length M ≡ new .count
+    numbers-count = length-take-le (new .count) (new .slips) listed
 
-      pub first-slots : CanCopy es 0 (length es) b
-      first-slots = record { there = omega arith; room = omega (arith, C .few, C .room .ends) }
+    pub slips-sum : length m ≡ length es + new .count
+    slips-sum = rw (length-append, slips-count, length-map, numbers-count)
 
-      pub new-listed : new .count ≤ length (new .slips)
-      new-listed = omega (arith, few-new, N .size)
+  -- the first tray is copied into the front of both buffers
+  module _ (a b : List ℕ) (C : CanMerge s es t fs new (length a) (length b)) where
+    pub first-room : length s ≤ length a
+    first-room = omega (arith, C)
 
-      pub new-counted : new .count ≡ length M
-      new-counted = sym numbers-count
+    pub first-slots : CanCopy es 0 (length es) b
+    first-slots = record { there = omega arith; room = omega (arith, C) }
 
-      module _ (a₁ b₁ : List ℕ) (here : ℕ) (p : a₁ ≡ take (length s) s ++ drop (length s) a) (q : here ≡ length s)
-          (r : b₁ ≡ over (table es 0 (length es)) b) where
-        copied-letters : a₁ ≡ over s a
-        copied-letters = p ∙ rw take-length
+    pub new-counted : new .count ≡ length M
+    new-counted = sym (numbers-count (C .listed))
 
-        copied-ends : b₁ ≡ over es b
-        copied-ends = r ∙ ap (λ l. over l b) (table-all es)
+    module _ (a₁ b₁ : List ℕ) (here : ℕ) (p : a₁ ≡ take (length s) s ++ drop (length s) a) (q : here ≡ length s)
+        (r : b₁ ≡ over (table es 0 (length es)) b) where
+      copied-letters : a₁ ≡ over s a
+      copied-letters = p ∙ rw take-length
 
-        letters-long : length a₁ ≡ length a
-        letters-long = rw copied-letters (length-over s a first-room)
+      copied-ends : b₁ ≡ over es b
+      copied-ends = r ∙ ap (λ l. over l b) (table-all es)
 
-        ends-long : length b₁ ≡ length b
-        ends-long = rw copied-ends (length-over es b (omega (arith, C .few, C .room .ends)))
+      letters-long : length a₁ ≡ length a
+      letters-long = rw copied-letters (length-over s a first-room)
 
-        pub rest-letters : here ≤ length a₁
-        rest-letters = omega (arith, letters-long, first-room)
+      ends-long : length b₁ ≡ length b
+      ends-long = rw copied-ends (length-over es b (omega (arith, C)))
 
-        pub rest-ends : length es ≤ length b₁
-        rest-ends = omega (arith, ends-long, C .few, C .room .ends)
+      pub rest-letters : here ≤ length a₁
+      rest-letters = omega (arith, letters-long, first-room)
 
-        pub rest-can : CanWrite t fs M here (length (take (length a₁ - here) (drop here a₁))) (length (take (length b₁ - length es) (drop (length es) b₁)))
-        rest-can =
-            let room : length (take (length a₁ - here) (drop here a₁)) ≡ length a - here = rw (rest-is a₁ here, length-drop, letters-long) in
-            let slots : length (take (length b₁ - length es) (drop (length es) b₁)) ≡ length b - length es =
-            rw (rest-is b₁ (length es), length-drop, ends-long) in
-            record {
-              tray = B .second;
-              real = N .real;
-              few = omega (arith, numbers-count, slots, C .few, C .room .ends);
-              room = omega (arith, room, N .letters-are, C .small, C .room .letters);
-              small = omega (arith, N .letters-are, C .small);
-            }
+      pub rest-ends : length es ≤ length b₁
+      rest-ends = omega (arith, ends-long, C)
 
-        -- the new slips stand in the rest of both
-        module _ (a₂ b₂ : List ℕ) (g : ℕ)
-            (W : SlipsWritten t fs M here (take (length a₁ - here) (drop here a₁)) a₂ (take (length b₁ - length es) (drop (length es) b₁)) b₂ g) where
-          all-letters : putMid here (length a₁ - here) a₁ a₂ ≡ over (lettersOf m) a
-          all-letters = rw letters-are (over-mid s (lettersOf ys) a a₁ a₂ here (sym q) copied-letters (W .letters-are))
+      pub rest-can : CanWrite t fs M here (length (take (length a₁ - here) (drop here a₁))) (length (take (length b₁ - length es) (drop (length es) b₁)))
+      rest-can =
+          let room : length (take (length a₁ - here) (drop here a₁)) ≡ length a - here = rw (rest-is a₁ here, length-drop, letters-long) in
+          let slots : length (take (length b₁ - length es) (drop (length es) b₁)) ≡ length b - length es =
+          rw (rest-is b₁ (length es), length-drop, ends-long) in
+          record {
+            tray = C .second;
+            real = C .real;
+            few = omega (arith, new-counted, slots, C);
+            room = omega (arith, room, C);
+            small = omega (arith, C);
+          }
 
-          all-ends : putMid (length es) (length b₁ - length es) b₁ b₂ ≡ over (endsOf m) b
-          all-ends =
-              rw ends-are (over-mid es (endsFrom (length s) ys) b b₁ b₂ (length es) refl copied-ends (W .ends-are ∙ rw q))
+      -- the new slips stand in the rest of both
+      module _ (a₂ b₂ : List ℕ) (g : ℕ)
+          (W : SlipsWritten t fs M here (take (length a₁ - here) (drop here a₁)) a₂ (take (length b₁ - length es) (drop (length es) b₁)) b₂ g) where
+        all-letters : putMid here (length a₁ - here) a₁ a₂ ≡ over (lettersOf m) a
+        all-letters = rw (letters-are (C .first)) (over-mid s (lettersOf ys) a a₁ a₂ here (sym q) copied-letters (W .letters-are))
 
-          pub all-long : length (putMid here (length a₁ - here) a₁ a₂) ≡ length a
-          all-long = rw all-letters (length-over (lettersOf m) a (omega (arith, letters-sum, C .small, C .room .letters)))
+        all-ends : putMid (length es) (length b₁ - length es) b₁ b₂ ≡ over (endsOf m) b
+        all-ends =
+            rw (ends-are (C .first)) (over-mid es (endsFrom (length s) ys) b b₁ b₂ (length es) refl copied-ends (W .ends-are ∙ rw q))
 
-          pub all-many : length (putMid (length es) (length b₁ - length es) b₁ b₂) ≡ length b
-          all-many = rw all-ends (length-over (endsOf m) b (omega (arith, length-ends 0 m, slips-sum, C .few, C .room .ends)))
+        pub all-long : length (putMid here (length a₁ - here) a₁ a₂) ≡ length a
+        all-long = rw all-letters (length-over (lettersOf m) a (omega (arith, letters-sum (C .first) (C .counted), C)))
 
-          pub merged-written : (n k : ℕ) → n ≡ here + new .letters → k ≡ length es + new .count
-              → TrayWritten accepted m a (putMid here (length a₁ - here) a₁ a₂) b (putMid (length es) (length b₁ - length es) b₁ b₂)
-              (record { number = 0; detail = 0; letters = n; slips = k })
-          merged-written n k u v =
-              let letters : n ≡ length (lettersOf m) = omega (arith, letters-sum) in
-              let slips : k ≡ length m = omega (arith, slips-sum) in
-              record { answer-is = rw (letters, slips); letters-are = all-letters; ends-are = all-ends }
+        pub all-many : length (putMid (length es) (length b₁ - length es) b₁ b₂) ≡ length b
+        all-many = rw all-ends (length-over (endsOf m) b (omega (arith, length-ends 0 m, slips-sum (C .listed), C)))
 
-    -- the outcome's rows
-    module _ (a b : List ℕ) (R : Room (length a) (length b)) where
-      pub too-many : maxSlips < length es + new .count → (r : Written) → r ≡ unwritten 1 0 → Outcome s es t fs a a b b r
-      too-many h r e =
-          let f : firstRow (sizeRows m) ≡ refusal 1 0 = rw (slips-sum, lt-ltb maxSlips (length es + new .count) h) in
-          rw (e, f) (tray-refused (refusal 1 0) m (λ z. omega (arith, z)) a b)
+        pub merged-written : (n k : ℕ) → n ≡ here + new .letters → k ≡ length es + new .count
+            → LettersWritten s es t fs new a (putMid here (length a₁ - here) a₁ a₂) b (putMid (length es) (length b₁ - length es) b₁ b₂)
+            (record { number = 0; detail = 0; letters = n; slips = k })
+        merged-written n k u v =
+            let letters : n ≡ length (lettersOf m) = omega (arith, letters-sum (C .first) (C .counted)) in
+            let slips : k ≡ length m = omega (arith, slips-sum (C .listed)) in
+            record { answer-is = rw (letters, slips); letters-are = all-letters; ends-are = all-ends }
 
-      module _ (few : length es + new .count ≤ maxSlips) where
-        pub too-long : maxLetters < length s + new .letters → (r : Written) → r ≡ unwritten 4 0 → Outcome s es t fs a a b b r
-        too-long h r e =
-            let f : firstRow (sizeRows m) ≡ refusal 4 0 =
-            rw (slips-sum, letters-sum, le-ltb maxSlips (length es + new .count) few, lt-ltb maxLetters (length s + new .letters) h) in
-            rw (e, f) (tray-refused (refusal 4 0) m (λ z. omega (arith, z)) a b)
+-- the new slips of two accepted trays
+module _ (s es cs t fs ds : List ℕ) (f : Refusal) (o : f ≡ bothFault s es cs t fs ds) (silent : f .number ≡ 0) (new : Fresh)
+    (N : NewSlips s es cs t fs ds new) where
+  B : BothTrays s es cs t fs ds
+  B = both-trays s es cs t fs ds f o silent
 
-        module _ (small : length s + new .letters ≤ maxLetters) where
-          pub can-merge : CanMerge s es t fs new (length a) (length b)
-          can-merge = record { trays = B; slips = N; room = R; few = few; small = small }
+  few-new : new .count ≤ maxSlips
+  few-new = omega (arith, N .few, accepted-tells t fs (B .second) .few)
 
-          pub within : (a′ b′ : List ℕ) (r : Written) → TrayWritten accepted m a a′ b b′ r → Outcome s es t fs a a′ b b′ r
-          within a′ b′ r w =
-              let f : firstRow (sizeRows m) ≡ accepted =
-              rw (slips-sum, letters-sum, le-ltb maxSlips (length es + new .count) few, le-ltb maxLetters (length s + new .letters) small) in
-              rw f w
+  listed : new .count ≤ length (new .slips)
+  listed = omega (arith, few-new, N .size)
 
-  -- the whole call
-  module _ (a b : List ℕ) (f : Refusal) (e : f ≡ inputFault (length a) (length b) s es t fs) where
-    pub merge-refused : (f .number ≡ 0 → ⊥) → (r : Written) → r ≡ unwritten (f .number) (f .detail) → MergeSays s es t fs a a b b r
-    merge-refused z r d =
-        let p : 1 ≤ f .number = omega arith in
-        let g : mergeFault (length a) (length b) s es t fs ≡ f = fault-is s es t fs (length a) (length b) ∙ rw (← e) (or-some f _ p) in
-        rw (g, d) (tray-refused f m z a b)
+  pub few-and-small : (length es ≤ maxSlips) × (new .count ≤ maxSlips) × (length s ≤ maxLetters) × (new .letters ≤ maxSlip * maxSlips)
+  few-and-small =
+      let one = accepted-tells s es (B .first) in
+      (one .few, few-new, one .small, omega (arith, N .bound, accepted-tells t fs (B .second) .few))
 
-    pub merge-done : f .number ≡ 0 → (a′ b′ : List ℕ) (r : Written) → Outcome s es t fs a a′ b b′ r → MergeSays s es t fs a a′ b b′ r
-    merge-done z a′ b′ r w =
-        let g : mergeFault (length a) (length b) s es t fs ≡ firstRow (sizeRows m) = fault-is s es t fs (length a) (length b) ∙ rw (← e) (or-zero f _ z) in
-        rw g w
+  outcome-size : sizeFault (length s + new .letters) (length es + new .count)
+      ≡ (let ms = lettersAmong (mergedSides s es cs t fs ds) in sizeFault (length (lettersOf ms)) (length ms))
+  outcome-size =
+      rw (letters-merged s es cs t fs ds new B N, letters-sum s es t fs new (B .first) (N .letters-are), slips-sum s es t fs new listed)
+
+  -- enough is lent, and the outcome is within the limits
+  module _ (a b d : ℕ) (lent : Refusal) (e : lent ≡ lentFault a b d) (enough : lent .number ≡ 0) (size : Refusal)
+      (w : size ≡ sizeFault (length s + new .letters) (length es + new .count)) (z : size .number ≡ 0) where
+    R : Room a b d
+    R = lent-room a b d lent e enough
+
+    within : (length s + new .letters ≤ maxLetters) × (length es + new .count ≤ maxSlips)
+    within = size-silent (length s + new .letters) (length es + new .count) size w z
+
+    pub can-merge : CanMerge s es t fs new a b
+    can-merge = record {
+      first = B .first;
+      second = B .second;
+      listed = listed;
+      real = N .real;
+      counted = N .letters-are;
+      few = within .1;
+      small = within .0;
+      room = R .letters;
+      slots = R .ends;
+    }
+
+    pub can-write-sides : CanWriteSides cs ds new d
+    can-write-sides = record {
+      size = N .size;
+      few = few-new;
+      real = rw (B .second-sides) (N .real);
+      room = omega (arith, within .1, B .first-sides, R .sides);
+    }
+
+-- the whole call
+module _ (s es cs t fs ds a b d : List ℕ) (lent : Refusal) (e : lent ≡ lentFault (length a) (length b) (length d)) where
+  abbrev outcome : List (List ℕ)
+  outcome = mergedSides s es cs t fs ds
+
+  abbrev fault : Refusal
+  fault = mergeFault (length a) (length b) (length d) s es cs t fs ds
+
+  refused-by : (f : Refusal) → fault ≡ f → (f .number ≡ 0 → ⊥) → (r : Written) → r ≡ unwritten f → MergeSays s es cs t fs ds a a b b d d r
+  refused-by f g z r h = rw (g, h) (tray-refused f (lettersAmong outcome) (sidesAmong outcome) z a b d)
+
+  pub merge-lent : (lent .number ≡ 0 → ⊥) → (r : Written) → r ≡ unwritten lent → MergeSays s es cs t fs ds a a b b d d r
+  merge-lent z = refused-by lent (fault-is s es cs t fs ds (length a) (length b) (length d) ∙ rw (← e) (or-some lent _ (omega arith))) z
+
+  module _ (enough : lent .number ≡ 0) (f : Refusal) (o : f ≡ bothFault s es cs t fs ds) where
+    fault-left : fault ≡ orElse f (sizeFault (length (lettersOf (lettersAmong outcome))) (length (lettersAmong outcome)))
+    fault-left = fault-is s es cs t fs ds (length a) (length b) (length d) ∙ rw (← e, ← o) (or-zero lent _ enough)
+
+    pub merge-inputs : (f .number ≡ 0 → ⊥) → (r : Written) → r ≡ unwritten f → MergeSays s es cs t fs ds a a b b d d r
+    merge-inputs z = refused-by f (fault-left ∙ or-some f _ (omega arith)) z
+
+    module _ (silent : f .number ≡ 0) (new : Fresh) (N : NewSlips s es cs t fs ds new) (size : Refusal)
+        (w : size ≡ sizeFault (length s + new .letters) (length es + new .count)) where
+      fault-size : fault ≡ size
+      fault-size = fault-left ∙ or-zero f _ silent ∙ sym (w ∙ outcome-size s es cs t fs ds f o silent new N)
+
+      pub merge-size : (size .number ≡ 0 → ⊥) → (r : Written) → r ≡ unwritten size → MergeSays s es cs t fs ds a a b b d d r
+      merge-size z = refused-by size fault-size z
+
+      pub merge-done : size .number ≡ 0 → (a′ b′ d′ : List ℕ) (r : Written) → LettersWritten s es t fs new a a′ b b′ r
+          → d′ ≡ over (sidesMerged cs ds new) d → MergeSays s es cs t fs ds a a′ b b′ d d′ r
+      merge-done z a′ b′ d′ r L p =
+          let both = both-trays s es cs t fs ds f o silent in
+          let ms = letters-merged s es cs t fs ds new both N in
+          let bs = sides-merged s es cs t fs ds new both N in
+          rw fault-size
+          (tray-wrote size (lettersAmong outcome) (sidesAmong outcome) a a′ b b′ d d′ r z
+          (rw (ms, bs) (record { answer-is = L .answer-is; letters-are = L .letters-are; ends-are = L .ends-are; sides-are = p })))

@@ -1,5 +1,5 @@
 use mathlib.Core.Path.{refl}
-use Rattle.merge_trays.proofs.MergeSteps.{first-room, first-slots, new-listed, new-counted, rest-letters, rest-ends, rest-can}
+use Rattle.merge_trays.proofs.MergeSteps.{first-room, first-slots, new-counted, rest-letters, rest-ends, rest-can}
 use Rattle.merge_trays.proofs.MergeSteps.{all-long, all-many, merged-written}
 use borrow.Author.Needs.{needs}
 use Rattle.merge_trays.proofs.write_merged.Statement.{statement}
@@ -10,9 +10,6 @@ copy-requires c κs = search first-room
 
 copy-cells-requires : tie.Need-copy-cells-requires
 copy-cells-requires c κs = search first-slots
-
-array-share-prefix-slips : tie.Need-array-share-prefix-slips
-array-share-prefix-slips c = search new-listed
 
 slice-aggregate-write-slips : tie.Need-slice-aggregate-write-slips
 slice-aggregate-write-slips c = search new-counted
@@ -44,10 +41,10 @@ returns c =
     let copied = wrote .before .before .before .before .before .before .before in
     let first = copied .before .before .before .before in
     let pre = first .before .before .before .before .before .before .before .before .pre in
-    merged-written _ _ _ _ _ (pre .trays) (pre .slips) _ _ pre _ _ _ (first .copy .ensures .1) (first .copy .ensures .0) (copied .copy-cells .ensures) _ _ _
+    merged-written _ _ _ _ _ _ _ pre _ _ _ (first .copy .ensures .1) (first .copy .ensures .0) (copied .copy-cells .ensures) _ _ _
     (wrote .write-slips .ensures) _ _ refl refl
 
 pub write-merged-spec : {M : Type 1} → statement M
-write-merged-spec = tie.close (tie.spec copy-requires copy-cells-requires array-share-prefix-slips slice-aggregate-write-slips sub-write-slips
+write-merged-spec = tie.close (tie.spec copy-requires copy-cells-requires (λ c. search needs) slice-aggregate-write-slips sub-write-slips
     part-write-slips-start (λ c. search needs) (λ c. search needs) sub-write-slips-2 part-write-slips-start-2 (λ c. search needs) write-slips-requires
     (λ c. search needs) (λ c. search needs) (λ c. search needs) (λ c. search needs) same-length same-length-2 returns)
