@@ -1,14 +1,15 @@
-// Reads a tray file on standard input and writes its sheet. With an argument it says how it is run.
+// Reads a tray file on standard input and writes the sheets of its sides. With an argument it says how it is run.
 use file_rule::ENDS_NEED;
 use file_rule::MAX_FILE;
 use layout::WORK_NEED;
 use sheet_rule::COMPOSE_ROOM;
 use trays::MAX_LETTERS;
 
-// Writes the sheet of a file.
+// Writes the sheets of a file. There are as many sides as ends.
 fn print_sheet(file: &[u8]) {
     let mut letters = [0u8; MAX_FILE];
     let mut ends = [0u16; ENDS_NEED];
+    let mut sides = [0u8; ENDS_NEED];
     let mut work = [0u16; WORK_NEED];
     let mut legend = [0u8; MAX_LETTERS];
     let mut out = [0u8; COMPOSE_ROOM];
@@ -16,6 +17,7 @@ fn print_sheet(file: &[u8]) {
         file,
         &mut letters,
         &mut ends,
+        &mut sides,
         &mut work,
         &mut legend,
         &mut out,

@@ -6,10 +6,11 @@ use layout::WORK_NEED;
 use sheet_of_files::LISTED;
 use sheet_rule::FIND_ROOM;
 
-// Writes the sheet of a tray file and a text file.
+// Writes the sheet of a tray file and a text file. The sides of the slips are read and left: all slips are looked for.
 fn print_sheet(tray: &[u8], text: &mut [u8]) {
     let mut letters = [0u8; MAX_FILE];
     let mut ends = [0u16; ENDS_NEED];
+    let mut sides = [0u8; ENDS_NEED];
     let mut work = [0u16; WORK_NEED];
     let mut found = [0u32; LISTED];
     let mut out = [0u8; FIND_ROOM];
@@ -18,6 +19,7 @@ fn print_sheet(tray: &[u8], text: &mut [u8]) {
         text,
         &mut letters,
         &mut ends,
+        &mut sides,
         &mut work,
         &mut found,
         &mut out,

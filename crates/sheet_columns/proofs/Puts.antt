@@ -1,4 +1,5 @@
 -- A lent buffer written part by part.
+--   put-is     == bytes written after the first `at`
 --   put-none   == nothing written
 --   put-byte   == one byte
 --   put-part   == a part `&mut out[at..]`, to which bytes are copied
@@ -16,7 +17,7 @@ behind-length : (at : ℕ) (ys old : List ℕ) → at + length ys ≤ length old
 behind-length at ys old h =
     rw (length-append, length-take-le at old (omega arith), length-append, length-drop, length-drop) (omega arith)
 
-put-is : (at n : ℕ) (ys old new : List ℕ) → new ≡ writtenBehind at ys old → length ys ≡ n → at + n ≤ length old → Wrote at n ys old new (at + n)
+pub put-is : (at n : ℕ) (ys old new : List ℕ) → new ≡ writtenBehind at ys old → length ys ≡ n → at + n ≤ length old → Wrote at n ys old new (at + n)
 put-is at n ys old new e m h = record { is = e; many = m; room = h; size = rw e (behind-length at ys old (omega arith)); next = refl }
 
 pub put-none : (at : ℕ) (old : List ℕ) → at ≤ length old → Wrote at 0 [] old old at

@@ -11,9 +11,10 @@ use native.Mathlib.Omega.{arith}
 use lib.ListN.{length, getD}
 use Rattle.words.specs.Lists.{each, upFrom}
 use Rattle.words.proofs.Members.{each-append}
-use Rattle.trays.specs.Slips.{endOf}
-use Rattle.answers.specs.Composing.{joinCells, placeCells}
-use Rattle.sheet_rule.specs.Sheets.{threeLine, slipLine, signOf, foundLine, lines}
+use Rattle.trays.specs.declared.Span.{Span}
+use Rattle.trays.specs.Slips.{spanOf}
+use Rattle.answers.specs.Composing.{joinCells, recordCells}
+use Rattle.sheet_rule.specs.Sheets.{slipLine, joinLine, signOf, foundLine, lines}
 use Rattle.sheet_rule.specs.Sheets.{slipLineAt, joinLineAt, foundLineAt, placeWidth, slipSize, joinSize, foundSize}
 use Rattle.sheet_columns.specs.steps.Wrote.{Wrote}
 use Rattle.sheet_lines.specs.steps.Lines.{SlipsFit, JoinsFit, FoundFit}
@@ -38,28 +39,37 @@ lines-turn f w at i next r a b c p q =
 lines-end : (f : ℕ → List ℕ) (w at i n r : ℕ) (a b : List ℕ) → i ≤ n → n ≤ i → Wrote at (w * i) (lines f i) a b r → Wrote at (w * n) (lines f n) a b r
 lines-end f w at i n r a b h g p = let e : n ≡ i = omega arith in rw e p
 
--- slips: `end` is the end of slip i + 1, `here` the one before it
-module _ (es ps : List ℕ) (i here end : ℕ) (h : i < length es) (b : here ≡ endOf es i) (e : end ≡ getD es i 0) where
-  pub slip-rises : SlipsFit es ps → here ≤ end
-  slip-rises F = rw (b, e) (F .rise i h)
+-- slips
+module _ (es ps : List ℕ) (n i k : ℕ) (F : SlipsFit es ps n) (h : i < n) (e : k ≡ getD ps (recordCells * i) 0) where
+  pub slip-some : 1 ≤ k
+  slip-some = rw e (F .some i h)
 
-  pub slip-small : SlipsFit es ps → end - here < 10 ^ 4
-  slip-small F = let l : end < 10 ^ 4 = rw e (F .small i h) in omega arith
+  pub slip-there : k ≤ length es
+  slip-there = rw e (F .there i h)
 
-  pub slip-placed : (x : ℕ) → SlipsFit es ps → x ≡ getD ps (placeCells * i) 0 → x < 10 ^ 5
-  slip-placed x F q = rw q (F .placed i h)
+  pub slip-few : k < 10 ^ 4
+  slip-few = omega (arith, slip-there, F .few)
 
-pub slip-turn : (es ps : List ℕ) (i here end place mark at next r : ℕ) (o o₁ o₂ : List ℕ) → here ≡ endOf es i → end ≡ getD es i 0 →
-    place ≡ getD ps (placeCells * i) 0 → mark ≡ getD ps (placeCells * i + 1) 0 → Wrote at (slipSize * i) (lines (slipLineAt es ps) i) o o₁ next →
-    Wrote next slipSize (slipLine (i + 1) (end - here) place (signOf mark)) o₁ o₂ r → Wrote at (slipSize * (i + 1)) (lines (slipLineAt es ps) (i + 1)) o o₂ r
-slip-turn es ps i here end place mark at next r o o₁ o₂ b e p m x y = lines-turn (slipLineAt es ps) slipSize at i next r o o₁ o₂ x (rw (b, e, p, m) at y)
+  module _ (p : Span) (q : p ≡ spanOf es k) where
+    pub span-rises : p .start ≤ p .end
+    span-rises = rw q (F .rise k slip-some slip-there)
 
-pub here-turn : (es : List ℕ) (i end : ℕ) → end ≡ getD es i 0 → end ≡ endOf es (i + 1)
-here-turn es i end e = rw (add-one i) e
+    pub span-small : p .end - p .start < 10 ^ 4
+    span-small = rw q (omega (arith, F .small k slip-some slip-there))
 
-pub slips-end : (es ps : List ℕ) (at i r : ℕ) (o o₁ : List ℕ) → i ≤ length es → length es ≤ i →
-    Wrote at (slipSize * i) (lines (slipLineAt es ps) i) o o₁ r → Wrote at (slipSize * length es) (lines (slipLineAt es ps) (length es)) o o₁ r
-slips-end es ps at i r o o₁ = lines-end (slipLineAt es ps) slipSize at i (length es) r o o₁
+pub slip-placed : (es ps : List ℕ) (n i x : ℕ) → SlipsFit es ps n → i < n → x ≡ getD ps (recordCells * i + 1) 0 → x < 10 ^ 5
+slip-placed es ps n i x F h e = rw e (F .placed i h)
+
+pub slip-turn : (es ps : List ℕ) (i slip place mark at next r : ℕ) (p : Span) (o o₁ o₂ : List ℕ) → slip ≡ getD ps (recordCells * i) 0 →
+    place ≡ getD ps (recordCells * i + 1) 0 → mark ≡ getD ps (recordCells * i + 2) 0 → p ≡ spanOf es slip →
+    Wrote at (slipSize * i) (lines (slipLineAt es ps) i) o o₁ next → Wrote next slipSize (slipLine slip (p .end - p .start) place (signOf mark)) o₁ o₂ r →
+    Wrote at (slipSize * (i + 1)) (lines (slipLineAt es ps) (i + 1)) o o₂ r
+slip-turn es ps i slip place mark at next r p o o₁ o₂ a b c q x y =
+    lines-turn (slipLineAt es ps) slipSize at i next r o o₁ o₂ x (rw (q, a, b, c) at y)
+
+pub slips-end : (es ps : List ℕ) (n at i r : ℕ) (o o₁ : List ℕ) → i ≤ n → n ≤ i → Wrote at (slipSize * i) (lines (slipLineAt es ps) i) o o₁ r →
+    Wrote at (slipSize * n) (lines (slipLineAt es ps) n) o o₁ r
+slips-end es ps n at i r o o₁ = lines-end (slipLineAt es ps) slipSize at i n r o o₁
 
 -- joins
 module _ (js : List ℕ) (n i : ℕ) (F : JoinsFit js n) (h : i < n) where
@@ -74,7 +84,7 @@ module _ (js : List ℕ) (n i : ℕ) (F : JoinsFit js n) (h : i < n) where
 
 pub join-turn : (js : List ℕ) (i at next r left right shared : ℕ) (o o₁ o₂ : List ℕ) → left ≡ getD js (joinCells * i) 0 →
     right ≡ getD js (joinCells * i + 1) 0 → shared ≡ getD js (joinCells * i + 2) 0 → Wrote at (joinSize * i) (lines (joinLineAt js) i) o o₁ next →
-    Wrote next joinSize (threeLine 4 left right shared) o₁ o₂ r → Wrote at (joinSize * (i + 1)) (lines (joinLineAt js) (i + 1)) o o₂ r
+    Wrote next joinSize (joinLine left right shared) o₁ o₂ r → Wrote at (joinSize * (i + 1)) (lines (joinLineAt js) (i + 1)) o o₂ r
 join-turn js i at next r left right shared o o₁ o₂ a b c x y = lines-turn (joinLineAt js) joinSize at i next r o o₁ o₂ x (rw (a, b, c) at y)
 
 pub joins-end : (js : List ℕ) (n at i r : ℕ) (o o₁ : List ℕ) → i ≤ n → n ≤ i → Wrote at (joinSize * i) (lines (joinLineAt js) i) o o₁ r →

@@ -10,11 +10,12 @@ ghost use Rattle.sheet_rule.specs.Lent as L;
 ghost use Rattle.sheet_lines.specs.steps.Lines as P;
 use answers::Composed;
 use answers::JOIN_CELLS;
-use answers::PLACE_CELLS;
+use answers::RECORD_CELLS;
 use file_rule::BLANK;
 use file_rule::LF;
 use tables::whole;
 use tables::wide;
+use trays::BLANK_SIDE;
 
 // Columns of the letters, moves and end places of `find`.
 const PLACE_WIDTH: usize = 4;
@@ -39,21 +40,33 @@ fn large(xs: &[u32], i: usize) -> usize
     whole(xs[i])
 }
 
-// Three numbers, each in `width` columns, and LF.
-fn three_line(out: &mut [u8], at: usize, width: usize, a: usize, b: usize, c: usize) -> usize
-    requires { ⌜ (1 ≤ width) × (a < 10 ^ width) × (b < 10 ^ width) × (c < 10 ^ width) × (at + (width + (width + (width + 1))) ≤ length (now out)) ⌝ }
-    ensures { λ r. ⌜ W.Wrote at (width + (width + (width + 1))) (S.threeLine width a b c) (now (out .entry)) (now (out .exit)) r ⌝ }
+// Three numbers, each in `width` columns.
+fn put_three(out: &mut [u8], at: usize, width: usize, a: usize, b: usize, c: usize) -> usize
+    requires { ⌜ (1 ≤ width) × (a < 10 ^ width) × (b < 10 ^ width) × (c < 10 ^ width) × (at + (width + (width + width)) ≤ length (now out)) ⌝ }
+    ensures { λ r. ⌜ W.Wrote at (width + (width + width)) (P.threeColumns width a b c) (now (out .entry)) (now (out .exit)) r ⌝ }
 {
     let second = sheet_columns::put_number(out, at, width, a);
     let third = sheet_columns::put_number(out, second, width, b);
-    let last = sheet_columns::put_number(out, third, width, c);
+    sheet_columns::put_number(out, third, width, c)
+}
+
+// The end of a header: for O and R a blank and the letter, then LF.
+fn put_end(out: &mut [u8], at: usize, side: u8) -> usize
+    requires { ⌜ at + P.endRoom ≤ length (now out) ⌝ }
+    ensures { λ r. ⌜ P.Ended side at (now (out .entry)) (now (out .exit)) r ⌝ }
+{
+    if side == BLANK_SIDE {
+        return sheet_columns::put_byte(out, at, LF);
+    }
+    let letter = sheet_columns::put_byte(out, at, BLANK);
+    let last = sheet_columns::put_byte(out, letter, side);
     sheet_columns::put_byte(out, last, LF)
 }
 
-// The header of a `compose` sheet.
-fn tray_line(out: &mut [u8], at: usize, c: Composed) -> usize
-    requires { ⌜ P.HeaderFits c × (at + S.traySize ≤ length (now out)) ⌝ }
-    ensures { λ r. ⌜ W.Wrote at S.traySize (S.trayLine (c .slips) (c .kept) (c .letters) (c .saved) (c .legend)) (now (out .entry)) (now (out .exit)) r ⌝ }
+// The header of a side's sheet.
+fn tray_line(out: &mut [u8], at: usize, side: u8, c: Composed) -> usize
+    requires { ⌜ P.HeaderFits c × (at + S.sideSize ≤ length (now out)) ⌝ }
+    ensures { λ r. ⌜ P.Headed side c at (now (out .entry)) (now (out .exit)) r ⌝ }
 {
     let slips = sheet_columns::put_text(out, at, b"TRAY");
     let kept = sheet_columns::put_number(out, slips, 4, whole(c.slips));
@@ -61,7 +74,8 @@ fn tray_line(out: &mut [u8], at: usize, c: Composed) -> usize
     let letters = whole(c.letters);
     let saved = whole(c.saved);
     let legend = whole(c.legend);
-    three_line(out, sums, 5, letters, saved, legend)
+    let end = put_three(out, sums, 5, letters, saved, legend);
+    put_end(out, end, side)
 }
 
 fn slip_line(
@@ -83,26 +97,33 @@ fn slip_line(
     sheet_columns::put_byte(out, e, LF)
 }
 
-// A line for each slip, from the ends and the places as numbers.
-fn slip_lines(out: &mut [u8], at: usize, ends: &[u16], places: &[u16]) -> usize
-    requires { ⌜ P.SlipsFit (now ends) (now places) × (at + S.slipSize * length (now ends) ≤ length (now out)) ⌝ }
-    ensures { λ r. ⌜ W.Wrote at (S.slipSize * length (now (ends .entry)))
-        (S.lines (S.slipLineAt (now (ends .entry)) (now (places .entry))) (length (now (ends .entry))))
-        (now (out .entry)) (now (out .exit)) r ⌝ }
+// A line for each of `n` records of places, from `RECORD_CELLS` numbers a record: slip, place, 1 if it is kept. The ends tell how long a slip is.
+fn slip_lines(out: &mut [u8], at: usize, ends: &[u16], records: &[u16], n: usize) -> usize
+    requires { ⌜ P.SlipsFit (now ends) (now records) n × (at + S.slipSize * n ≤ length (now out)) ⌝ }
+    ensures { λ r. ⌜ W.Wrote at (S.slipSize * n) (S.lines (S.slipLineAt (now (ends .entry)) (now (records .entry))) n) (now (out .entry))
+        (now (out .exit)) r ⌝ }
 {
     let mut next = at;
-    let mut here: usize = 0;
     let mut i: usize = 0;
-    while i < ends.len() {
-        let end = small(ends, i);
-        let k = PLACE_CELLS * i;
-        let place = small(places, k);
-        let mark = small(places, k + 1);
-        next = slip_line(out, next, i + 1, end - here, place, mark);
-        here = end;
+    while i < n {
+        let k = RECORD_CELLS * i;
+        let slip = small(records, k);
+        let place = small(records, k + 1);
+        let mark = small(records, k + 2);
+        let span = slips::slip_span(ends, slip);
+        next = slip_line(out, next, slip, span.end - span.start, place, mark);
         i += 1;
     }
     next
+}
+
+// The line of a join: three numbers in 4 columns each.
+fn join_line(out: &mut [u8], at: usize, left: usize, right: usize, shared: usize) -> usize
+    requires { ⌜ (left < 10 ^ 4) × (right < 10 ^ 4) × (shared < 10 ^ 4) × (at + S.joinSize ≤ length (now out)) ⌝ }
+    ensures { λ r. ⌜ W.Wrote at S.joinSize (S.joinLine left right shared) (now (out .entry)) (now (out .exit)) r ⌝ }
+{
+    let last = put_three(out, at, 4, left, right, shared);
+    sheet_columns::put_byte(out, last, LF)
 }
 
 // A line for each of `n` joins, from `JOIN_CELLS` numbers a join: left slip, right slip, overlap.
@@ -117,27 +138,28 @@ fn join_lines(out: &mut [u8], at: usize, joins: &[u16], n: usize) -> usize
         let left = small(joins, k);
         let right = small(joins, k + 1);
         let shared = small(joins, k + 2);
-        next = three_line(out, next, 4, left, right, shared);
+        next = join_line(out, next, left, right, shared);
         i += 1;
     }
     next
 }
 
-// The sheet of `compose`, from the numbers of the answer, ends, joins, places and the legend. Answers how many bytes it has.
+// The sheet of one side, from the numbers of the answer, the ends of the whole tray, joins, records of places and the legend. Answers how many bytes it has.
 pub fn compose_lines(
+    side: u8,
     c: Composed,
     ends: &[u16],
     joins: &[u16],
-    places: &[u16],
+    records: &[u16],
     legend: &[u8],
     out: &mut [u8],
 ) -> usize
-    requires { ⌜ P.ComposeAsks c (now ends) (now joins) (now places) (now legend) (length (now out)) ⌝ }
-    ensures { λ r. ⌜ L.Printed (S.composeLines c (now (ends .entry)) (now (joins .entry)) (now (places .entry)) (now (legend .entry)))
+    requires { ⌜ P.ComposeAsks c (now ends) (now joins) (now records) (now legend) (length (now out)) ⌝ }
+    ensures { λ r. ⌜ L.Printed (S.composeLines side c (now (ends .entry)) (now (joins .entry)) (now (records .entry)) (now (legend .entry)))
         (now (out .entry)) (now (out .exit)) r ⌝ }
 {
-    let slips = tray_line(out, 0, c);
-    let pairs = slip_lines(out, slips, ends, places);
+    let slips = tray_line(out, 0, side, c);
+    let pairs = slip_lines(out, slips, ends, records, whole(c.slips));
     let text = join_lines(out, pairs, joins, whole(c.joins));
     let last = sheet_columns::put_text(out, text, legend);
     sheet_columns::put_byte(out, last, LF)

@@ -1,2 +1,3 @@
--- Laws behind the sheet of a tray.
-pub mod TraySteps
+-- Laws behind the sheets of a tray.
+pub mod SideSteps
+pub mod ShownSheets

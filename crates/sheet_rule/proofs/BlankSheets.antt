@@ -11,7 +11,7 @@ use Rattle.words.specs.Lists.{each, those, All, upFrom}
 use Rattle.words.proofs.Members.{those-yes, those-no}
 use Rattle.words.proofs.Runs.{length-upFrom}
 use Rattle.trays.specs.Sides.{blankSide, obverse, reverse}
-use Rattle.greedy.specs.Composing.{usual, among, sided}
+use Rattle.greedy.specs.Composing.{usualOf, usual, among, sided}
 use Rattle.greedy.proofs.SideLists.{side-all, side-none}
 use Rattle.sheet_rule.specs.Sheets.{sideSheetOf}
 use Rattle.sheet_rule.specs.Sides.{isShown, Blank-sheets}
@@ -29,8 +29,8 @@ module _ (cs : List ℕ) (a : All (λ b. b ≡ blankSide) cs) where
 
 pub blank-sheets : Blank-sheets
 blank-sheets cs ss n a =
-    ap (each (λ b. sideSheetOf b (sided usual b cs ss))) one
-    ∙ (append-nil (sideSheetOf blankSide (sided usual blankSide cs ss))
+    ap (each (λ b. sideSheetOf b (sided (usualOf b) cs ss))) one
+    ∙ (append-nil (sideSheetOf blankSide (sided usual cs ss))
     ∙ ap (λ (M : List ℕ). sideSheetOf blankSide (among usual M ss)) (side-all cs blankSide a ∙ ap (upFrom 1) n))
   where
     one : those (isShown cs) (blankSide ∷ (obverse ∷ (reverse ∷ []))) ≡ blankSide ∷ []

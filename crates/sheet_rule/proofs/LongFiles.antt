@@ -20,8 +20,10 @@ use Rattle.trays.proofs.Rows.{both-silent, rows-append}
 use Rattle.fold_rule.specs.Folding.{fold}
 use Rattle.file_rule.specs.Lines.{lf}
 use Rattle.file_rule.specs.Faults.{readFault}
+use Rattle.file_rule.specs.Answers.{sidesIn}
 use Rattle.answers.specs.Finding.{textRows, listRow}
-use Rattle.sheet_rule.specs.Sheets.{composeSheetOf, findSheetOf, refusedLine, maxFound}
+use Rattle.sheet_rule.specs.Sheets.{findSheetOf, refusedLine, maxFound}
+use Rattle.sheet_rule.specs.Sides.{sheetsOf}
 use Rattle.sheet_rule.specs.Programs.{lettersIn, endsIn, composeSheetFault, composeSheet, textOf, textIn, textFault, findSheetFault, findSheet}
 
 -- by whether a list is longer than n
@@ -29,7 +31,7 @@ by-length : {P : Type 0} (n : ℕ) (xs : List ℕ) → (length xs ≤ n → P) �
 by-length n xs short long = by-test (ltb n (length xs)) (λ t. long (ltb-true n (length xs) t)) (λ t. short (ltb-false n (length xs) t))
 
 -- a tray file over its limit
-file-long : (s : List ℕ) → maxFile < length s → readFault s maxFile endsNeed ≡ refusal 16 0
+file-long : (s : List ℕ) → maxFile < length s → readFault s maxFile endsNeed endsNeed ≡ refusal 16 0
 unfolding readFault
 file-long s h = rw (lt-ltb maxFile (length s) h)
 
@@ -41,7 +43,7 @@ unfolding composeSheet composeSheetFault
 compose-long s h =
     ap {B = List ℕ}
     (λ (f : Refusal). let g = orElse f (trayFault (lettersIn s) (endsIn s)) in
-    elim (g .number) [ zero ↦ composeSheetOf (slipsOf (lettersIn s) (endsIn s)) | suc n ↦ refusedLine g ])
+    elim (g .number) [ zero ↦ sheetsOf (sidesIn s) (slipsOf (lettersIn s) (endsIn s)) | suc n ↦ refusedLine g ])
     (file-long s h)
 
 pub compose-cut : (s : List ℕ) → composeSheet (take (maxFile + 1) s) ≡ composeSheet s
@@ -77,18 +79,18 @@ text-least x =
 module _ (s : List ℕ) where
   -- what turns back a tray file beside a text that is too long
   abbrev fault : Refusal
-  fault = orElse (readFault s maxFile endsNeed) (orElse (trayFault (lettersIn s) (endsIn s)) (refusal 12 0))
+  fault = orElse (readFault s maxFile endsNeed endsNeed) (orElse (trayFault (lettersIn s) (endsIn s)) (refusal 12 0))
 
   speaks : fault .number ≡ 0 → ⊥
   speaks h =
-      let outer = both-silent (readFault s maxFile endsNeed) (orElse (trayFault (lettersIn s) (endsIn s)) (refusal 12 0)) h in
+      let outer = both-silent (readFault s maxFile endsNeed endsNeed) (orElse (trayFault (lettersIn s) (endsIn s)) (refusal 12 0)) h in
       let inner : refusal 12 0 .number ≡ 0 = both-silent (trayFault (lettersIn s) (endsIn s)) (refusal 12 0) (outer .1) .1 in
       omega arith
 
   find-text-long : (x : List ℕ) → maxText < length (textIn x) → findSheet s x ≡ refusedLine fault
   unfolding findSheet findSheetFault
   find-text-long x h =
-      ap (λ (f : Refusal). printed s x (orElse (readFault s maxFile endsNeed) f)) (text-long (lettersIn s) (endsIn s) (textIn x) h)
+      ap (λ (f : Refusal). printed s x (orElse (readFault s maxFile endsNeed endsNeed) f)) (text-long (lettersIn s) (endsIn s) (textIn x) h)
       ∙ go (fault .number) refl
     where
       go : (n : ℕ) → fault .number ≡ n → printed s x fault ≡ refusedLine fault

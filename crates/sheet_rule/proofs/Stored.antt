@@ -27,8 +27,8 @@ module _ (m : ℕ) (file : List ℕ) where
   stored-file : (s : List ℕ) → (Accepted m s (endsIn file) → Accepted m (lettersIn file) (endsIn file)) → Stored m s file
   unfolding composeSheetFault trayFault
   stored-file s filed h =
-      let b = both-silent (readFault file maxFile endsNeed) (firstRow (trayRowsFor m s (endsIn file))) h in
-      or-zero (readFault file maxFile endsNeed) _ (b .0)
+      let b = both-silent (readFault file maxFile endsNeed endsNeed) (firstRow (trayRowsFor m s (endsIn file))) h in
+      or-zero (readFault file maxFile endsNeed endsNeed) _ (b .0)
       ∙ rows-stored m maxSlip (lettersIn file) (endsIn file) (filed (rows-tell m s (endsIn file) (b .1)))
 
 pub stored-files : Stored-files

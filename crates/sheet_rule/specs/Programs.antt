@@ -1,6 +1,6 @@
 -- What the programs print, from the bytes of their files: the first refusal of the rules' table that holds, or the sheet.
 --   lettersIn, endsIn file  == the letters and ends of a tray file
---   traySheet s es          == what is printed of a tray: its refusal 1 to 6, or its `compose` sheet
+--   traySheets s es cs      == what is printed of a tray with the sides cs: its refusal 1 to 6 or 22, or the `compose` sheets of its sides
 --   composeSheetFault file  == what refuses a tray file: 16 to 19, then 1 to 6
 --   composeSheet file       == what `compose` prints
 --   textOf text             == the text of a text file: one final LF is not counted
@@ -20,12 +20,14 @@ use Rattle.trays.specs.Limits.{maxFile, endsNeed}
 use Rattle.trays.specs.Slips.{slipsOf}
 use Rattle.trays.specs.Faults.{orElse, firstRow, trayRows, trayFault}
 use Rattle.trays.specs.Written.{lettersOf, endsOf}
+use Rattle.trays.specs.Sides.{sidedTrayRows}
 use Rattle.fold_rule.specs.Folding.{fold}
 use Rattle.file_rule.specs.Lines.{lf}
 use Rattle.file_rule.specs.Faults.{readFault}
-use Rattle.file_rule.specs.Answers.{slipsIn}
+use Rattle.file_rule.specs.Answers.{slipsIn, sidesIn}
 use Rattle.answers.specs.Finding.{textRows, listRow}
-use Rattle.sheet_rule.specs.Sheets.{composeSheetOf, findSheetOf, refusedLine, maxFound}
+use Rattle.sheet_rule.specs.Sheets.{findSheetOf, refusedLine, maxFound}
+use Rattle.sheet_rule.specs.Sides.{sheetsOf}
 
 abbrev pub lettersIn : List ℕ → List ℕ
 lettersIn file = lettersOf (slipsIn file)
@@ -33,17 +35,21 @@ lettersIn file = lettersOf (slipsIn file)
 abbrev pub endsIn : List ℕ → List ℕ
 endsIn file = endsOf (slipsIn file)
 
-abbrev pub traySheet : List ℕ → List ℕ → List ℕ
-traySheet s es = let f = trayFault s es in elim (f .number) [ zero ↦ composeSheetOf (slipsOf s es) | suc n ↦ refusedLine f ]
+-- The tray is judged with all its sides before the first sheet: a refusal prints one line alone.
+abbrev pub traySheets : List ℕ → List ℕ → List ℕ → List ℕ
+traySheets s es cs =
+    let f = firstRow (sidedTrayRows s es cs) in
+    elim (f .number) [ zero ↦ sheetsOf cs (slipsOf s es) | suc n ↦ refusedLine f ]
 
--- A program lends as many letters and ends as a file may need, so 15 is silent.
+-- A program lends as many letters, ends and sides as a file may need, so 15 is silent. 22 is no row here, since it could not speak: column 9 of a file that is
+-- not refused holds sides (`sides-silent` in file_rule/proofs/SideColumns).
 unfoldable pub composeSheetFault : List ℕ → Refusal
-composeSheetFault file = orElse (readFault file maxFile endsNeed) (trayFault (lettersIn file) (endsIn file))
+composeSheetFault file = orElse (readFault file maxFile endsNeed endsNeed) (trayFault (lettersIn file) (endsIn file))
 
 unfoldable pub composeSheet : List ℕ → List ℕ
 composeSheet file =
     let f = composeSheetFault file in
-    elim (f .number) [ zero ↦ composeSheetOf (slipsOf (lettersIn file) (endsIn file)) | suc n ↦ refusedLine f ]
+    elim (f .number) [ zero ↦ sheetsOf (sidesIn file) (slipsOf (lettersIn file) (endsIn file)) | suc n ↦ refusedLine f ]
 
 -- One line; one final LF, if present, is not counted.
 abbrev pub textOf : List ℕ → List ℕ
@@ -61,8 +67,9 @@ textSheet s es t =
     let f = textFault s es t in
     elim (f .number) [ zero ↦ findSheetOf (slipsOf s es) t | suc n ↦ refusedLine f ]
 
+-- Finding takes no sides: all slips of the file are looked for.
 unfoldable pub findSheetFault : List ℕ → List ℕ → Refusal
-findSheetFault file text = orElse (readFault file maxFile endsNeed) (textFault (lettersIn file) (endsIn file) (textIn text))
+findSheetFault file text = orElse (readFault file maxFile endsNeed endsNeed) (textFault (lettersIn file) (endsIn file) (textIn text))
 
 unfoldable pub findSheet : List ℕ → List ℕ → List ℕ
 findSheet file text =

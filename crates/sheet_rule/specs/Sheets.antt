@@ -1,19 +1,20 @@
 -- What the programs print, byte by byte: the rules, files and sheets.
 --   decimal n             == the decimal digits of n, without leading zeros
 --   column w n            == n right-justified in w columns, blanks in front
---   sideMark b            == what stands behind the numbers of a header: a blank and the letter, for O and R
---   sideLine              == the header of a `compose` sheet, with the mark of its side; trayLine == that of the blank side
+--   sideMark b            == what stands after the numbers of a header: a blank and the letter, for O and R
+--   sideLine              == the header of a `compose` sheet, with the mark of its side
 --   slipLine, joinLine    == a slip's line and a join's line of a `compose` sheet
 --   findLine, foundLine   == the header and an occurrence's line of a `find` sheet
 --   refusedLine f         == the line of a refusal
---   NAMESize              == the bytes of the line NAMELine, its LF included
+--   NAMESize              == the bytes of the line NAMELine, its LF included; of a header those of O and R
 --   sideSheetOf b c       == the `compose` sheet of what is composed, where its side is b
 --   composeSheetOf ss     == that of all the slips ss as one side, the blank one, with the usual settings
 --   findSheetOf ss t      == the `find` sheet of the slips ss and the text t
---   composeLines c es js ps t == a `compose` sheet from numbers: the answer c, the ends es, joins js of `joinCells` numbers each, places ps of
---                            `placeCells` numbers a slip, and the legend t
+--   composeLines b c es js ps t == a `compose` sheet of side b from numbers: the answer c, the ends es of the whole tray, joins js of `joinCells` numbers
+--                            each, records of places ps of `recordCells` numbers each, and the legend t
 --   findLines n m k ns    == a `find` sheet from numbers: n letters, m moves, k occurrences ns of two numbers each
---   composeRoom, findRoom == the bytes of the longest sheets
+--   sheetRoom             == the bytes of the longest sheet of one side
+--   composeRoom, findRoom == the bytes that the programs print at most
 use mathlib.Core.Bool.{true, false, cond}
 use mathlib.Core.List.{List, [], _∷_, _++_}
 use Prim.Native.Nat.{ℕ, zero, suc, _+_, _-_, _*_, _/_, _%_}
@@ -32,7 +33,7 @@ use Rattle.greedy.specs.Composing.{Composing, usual, whole, keptOf, joinsOf, le
 use Rattle.matching.specs.Moves.{moves}
 use Rattle.matching.specs.Occurrences.{occurrences}
 use Rattle.answers.specs.declared.Composed.{Composed}
-use Rattle.answers.specs.Composing.{joinCells, placeCells}
+use Rattle.answers.specs.Composing.{joinCells, recordCells}
 
 abbrev pub digit : ℕ → ℕ
 digit d = 48 + d
@@ -62,10 +63,6 @@ countWidth = 6
 abbrev pub detailWidth : ℕ
 detailWidth = 6
 
--- three numbers, each in w columns, and LF
-abbrev pub threeLine : ℕ → ℕ → ℕ → ℕ → List ℕ
-threeLine w a b c = column w a ++ (column w b ++ (column w c ++ (lf ∷ [])))
-
 -- Rules, sides: a blank and the letter after the header of O and R.
 abbrev pub sideMark : ℕ → List ℕ
 sideMark b = cond (eqb b blankSide) [] (blank ∷ (b ∷ []))
@@ -74,11 +71,12 @@ sideMark b = cond (eqb b blankSide) [] (blank ∷ (b ∷ []))
 abbrev pub sideLine : ℕ → ℕ → ℕ → ℕ → ℕ → ℕ → List ℕ
 sideLine n k m s l b = word "TRAY" ++ (column 4 n ++ (column 4 k ++ (column 5 m ++ (column 5 s ++ (column 5 l ++ (sideMark b ++ (lf ∷ [])))))))
 
-abbrev pub trayLine : ℕ → ℕ → ℕ → ℕ → ℕ → List ℕ
-trayLine n k m s l = sideLine n k m s l blankSide
+-- the mark of O or R
+abbrev pub markSize : ℕ
+markSize = 1 + 1
 
-abbrev pub traySize : ℕ
-traySize = 4 + 4 + 4 + 5 + 5 + 5 + 1
+abbrev pub sideSize : ℕ
+sideSize = 4 + 4 + 4 + 5 + 5 + 5 + markSize + 1
 
 -- K
 abbrev pub keptSign : ℕ
@@ -97,7 +95,7 @@ slipSize = 4 + 4 + 5 + 1 + 1 + 1
 
 -- Join line: left, right, overlap (4 each).
 abbrev pub joinLine : ℕ → ℕ → ℕ → List ℕ
-joinLine l r o = threeLine 4 l r o
+joinLine l r o = column 4 l ++ (column 4 r ++ (column 4 o ++ (lf ∷ [])))
 
 abbrev pub joinSize : ℕ
 joinSize = 4 + 4 + 4 + 1
@@ -143,12 +141,14 @@ findSheetOf ss t =
     let fs = occurrences ss t in
     findLine (length t) (moves ss t) (length fs) ++ each (λ f. foundLine (f .end) (f .which)) fs
 
--- the same from numbers: the lines of slip i + 1, of the i-th join, of the i-th occurrence
+-- the same from numbers: the lines of the i-th record of places, of the i-th join, of the i-th occurrence
 abbrev pub signOf : ℕ → ℕ
 signOf k = cond (eqb k 0) asideSign keptSign
 
 abbrev pub slipLineAt : List ℕ → List ℕ → ℕ → List ℕ
-slipLineAt es ps i = slipLine (i + 1) (endOf es (suc i) - startOf es (suc i)) (getD ps (placeCells * i) 0) (signOf (getD ps (placeCells * i + 1) 0))
+slipLineAt es ps i =
+    let k = getD ps (recordCells * i) 0 in
+    slipLine k (endOf es k - startOf es k) (getD ps (recordCells * i + 1) 0) (signOf (getD ps (recordCells * i + 2) 0))
 
 abbrev pub joinLineAt : List ℕ → ℕ → List ℕ
 joinLineAt js i = joinLine (getD js (joinCells * i) 0) (getD js (joinCells * i + 1) 0) (getD js (joinCells * i + 2) 0)
@@ -160,21 +160,26 @@ foundLineAt ns i = foundLine (getD ns (2 * i) 0) (getD ns (2 * i + 1) 0)
 abbrev pub lines : (ℕ → List ℕ) → ℕ → List ℕ
 lines f n = each f (upFrom 0 n)
 
-abbrev pub composeLines : Composed → List ℕ → List ℕ → List ℕ → List ℕ → List ℕ
-composeLines c es js ps t =
-    trayLine (c .slips) (c .kept) (c .letters) (c .saved) (c .legend)
-    ++ (lines (slipLineAt es ps) (length es) ++ (lines (joinLineAt js) (c .joins) ++ (t ++ (lf ∷ []))))
+abbrev pub composeLines : ℕ → Composed → List ℕ → List ℕ → List ℕ → List ℕ → List ℕ
+composeLines b c es js ps t =
+    sideLine (c .slips) (c .kept) (c .letters) (c .saved) (c .legend) b
+    ++ (lines (slipLineAt es ps) (c .slips) ++ (lines (joinLineAt js) (c .joins) ++ (t ++ (lf ∷ []))))
 
 abbrev pub findLines : ℕ → ℕ → ℕ → List ℕ → List ℕ
 findLines n m k ns = findLine n m k ++ lines (foundLineAt ns) k
 
--- the longest sheets: 7,816 and 72,019 bytes
+-- the longest sheet of one side: 7,818 bytes
+abbrev pub sheetRoom : ℕ
+sheetRoom = sideSize + slipSize * maxSlips + joinSize * (maxSlips - 1) + (maxLetters + 1)
+
+-- a sheet for each of the three sides: 23,454 bytes
 abbrev pub composeRoom : ℕ
-composeRoom = traySize + slipSize * maxSlips + joinSize * (maxSlips - 1) + (maxLetters + 1)
+composeRoom = 3 * sheetRoom
 
 -- `find` lists at most this many occurrences
 abbrev pub maxFound : ℕ
 maxFound = 8000
 
+-- 72,019 bytes
 abbrev pub findRoom : ℕ
 findRoom = findSize + foundSize * maxFound

@@ -10,7 +10,7 @@ use lib.Dec.{eqb, leb}
 use lib.ListN.{length}
 use Rattle.words.specs.Lists.{each, those, All}
 use Rattle.trays.specs.Sides.{blankSide, obverse, reverse, ofSide}
-use Rattle.greedy.specs.Composing.{usual, sided}
+use Rattle.greedy.specs.Composing.{usualOf, sided}
 use Rattle.sheet_rule.specs.Sheets.{sideSheetOf, composeSheetOf}
 
 -- Rules, sides: a sheet for each side that has slips, blank, O, R in that order; the empty tray prints one sheet.
@@ -18,7 +18,7 @@ abbrev pub isShown : List ℕ → ℕ → Bool
 isShown cs b = leb 1 (length (ofSide cs b)) || (eqb b blankSide && eqb (length cs) 0)
 
 abbrev pub sheetsOf : List ℕ → List (List ℕ) → List ℕ
-sheetsOf cs ss = each (λ b. sideSheetOf b (sided usual b cs ss)) (those (isShown cs) (blankSide ∷ (obverse ∷ (reverse ∷ []))))
+sheetsOf cs ss = each (λ b. sideSheetOf b (sided (usualOf b) cs ss)) (those (isShown cs) (blankSide ∷ (obverse ∷ (reverse ∷ []))))
 
 -- they have one sheet, the one that has always been printed
 abbrev pub Blank-sheets : Type 0

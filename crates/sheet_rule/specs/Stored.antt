@@ -18,7 +18,7 @@ abbrev pub typedIn : List ℕ → List ℕ
 typedIn file = each typed (linesOf file)
 
 abbrev pub storedFault : ℕ → List ℕ → List ℕ → Refusal
-storedFault m s file = orElse (readFault file maxFile endsNeed) (firstRow (trayRowsFor m s (endsIn file)))
+storedFault m s file = orElse (readFault file maxFile endsNeed endsNeed) (firstRow (trayRowsFor m s (endsIn file)))
 
 -- One with a slip over the limit gives 3 with the lowest such slip, and every other one stays valid.
 abbrev pub Stored : ℕ → List ℕ → List ℕ → Type 0

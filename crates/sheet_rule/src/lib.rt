@@ -1,7 +1,10 @@
-// How much room a sheet needs. What stands on it: specs/Sheets.antt; the functions that write it: sheet_lines.
+// How much room the sheets need. What stands on them: specs/Sheets.antt; the functions that write them: sheet_lines.
 
-// A sheet of `compose` has at most this many bytes.
-pub const COMPOSE_ROOM: usize = 7816;
+// A sheet of one side has at most this many bytes.
+pub const SHEET_ROOM: usize = 7818;
+
+// `compose` prints at most this many: a sheet for each of the three sides.
+pub const COMPOSE_ROOM: usize = 3 * SHEET_ROOM;
 
 // `find` lists at most this many occurrences.
 pub const MAX_FOUND: usize = 8000;

@@ -14,6 +14,7 @@ use Rattle.words.proofs.Members.{In, in-upFrom}
 use Rattle.words.proofs.Maps.{all-each}
 use Rattle.words.proofs.Sums.{All, all-in, all-at, held-in}
 use Rattle.words.proofs.Overlaps.{overlapFor-fits}
+use Rattle.trays.specs.declared.Settings.{Settings}
 use Rattle.trays.specs.Limits.{maxSlips, maxText}
 use Rattle.trays.specs.Slips.{slipsOf, slip, numbers}
 use Rattle.trays.specs.Aside.{counted}
@@ -22,7 +23,7 @@ use Rattle.trays.proofs.Accepted.{accepted-tells, slips-count, numbers-count}
 use Rattle.trays.proofs.Spans.{accepted-spanned}
 use Rattle.greedy.specs.Joins.{Join}
 use Rattle.greedy.specs.Orders.{weight}
-use Rattle.greedy.specs.Composing.{usual, whole, joinsOf}
+use Rattle.greedy.specs.Composing.{whole, joinsOf}
 use Rattle.greedy.proofs.Chains.{Arc}
 use Rattle.greedy.proofs.GreedyLegends.{greedy-of}
 use Rattle.greedy.proofs.Chosen.{numbers-real}
@@ -34,22 +35,22 @@ use Rattle.greedy.proofs.KeptSizes.{TraySlips, traySlips, joins-rep, joins-fewe
 use Rattle.sheet_sizes.specs.Fits.{JoinFits, ComposeFits, OccurrenceFits, FindFits}
 use Rattle.greedy.proofs.Placed.{place-most}
 
-module _ (s es : List ℕ) (acc : trayFault s es .number ≡ 0) where
+module _ (g : Settings) (s es : List ℕ) (acc : trayFault s es .number ≡ 0) where
   open TraySlips (traySlips s es) using (ss, K)
 
   few : length es ≤ maxSlips
   few = accepted-tells s es acc .few
 
-  join-fits : (j : Join) → Arc (weight (counted 1) ss) K j → JoinFits j
+  join-fits : (j : Join) → Arc (weight (counted (g .least)) ss) K j → JoinFits j
   join-fits j (_, _, l, r, o) =
       let (_, a) = kept-real s es acc (j .left) (held-in (j .left) K l) in
       let (p, b) = kept-real s es acc (j .right) (held-in (j .right) K r) in (
         omega (arith, few),
         omega (arith, few),
-        omega (arith, o, overlapFor-fits (counted 1) (slip ss (j .left)) (slip ss (j .right)), accepted-spanned s es acc .short (j .right) p b),
+        omega (arith, o, overlapFor-fits (counted (g .least)) (slip ss (j .left)) (slip ss (j .right)), accepted-spanned s es acc .short (j .right) p b),
       )
 
-  pub compose-fits : ComposeFits (whole usual ss)
+  pub compose-fits : ComposeFits (whole g ss)
   compose-fits =
       let n : length ss ≡ length es = slips-count s es in
       let real : (i : ℕ) → In i (numbers ss) → (1 ≤ i) × (i ≤ length es) = λ i m. omega (arith, in-upFrom 1 (length ss) m) in
@@ -57,15 +58,15 @@ module _ (s es : List ℕ) (acc : trayFault s es .number ≡ 0) where
         slips = omega (arith, few, numbers-count s es);
         kept-slips = kept-few s es acc;
         letters = kept-small s es acc;
-        saved-letters = omega (arith, kept-small s es acc, greedy-of (whole usual ss) (numbers-real ss) .saving);
-        legend = legend-small s es acc usual;
+        saved-letters = omega (arith, kept-small s es acc, greedy-of (whole g ss) (numbers-real ss) .saving);
+        legend = legend-small s es acc g;
         numbers = λ i m. omega (arith, few, real i m);
         lengths = λ i m. accepted-spanned s es acc .short i (real i m .0) (real i m .1);
-        places = λ i m. omega (arith, legend-small s es acc usual, place-most s es acc usual i (real i m .0) (real i m .1));
+        places = λ i m. omega (arith, legend-small s es acc g, place-most s es acc g i (real i m .0) (real i m .1));
         joins =
-            all-in JoinFits (joinsOf (whole usual ss))
-            (λ j m. join-fits j (all-at (Arc (weight (counted 1) ss) K) (joinsOf (whole usual ss)) j (joins-rep s es acc usual .1 .arcs) m));
-        count = joins-fewer s es acc usual;
+            all-in JoinFits (joinsOf (whole g ss))
+            (λ j m. join-fits j (all-at (Arc (weight (counted (g .least)) ss) K) (joinsOf (whole g ss)) j (joins-rep s es acc g .1 .arcs) m));
+        count = joins-fewer s es acc g;
       }
 
 -- occurrences: at each place at most one of each slip

@@ -1,30 +1,33 @@
--- Sheets from numbers: over the numbers that composing and finding leave, they are the sheets of the slips.
+-- Sheets from numbers: over the numbers that composing a side and finding leave, they are the sheets of the side and of the text.
 --   lines-each         == lines by index are lines by element
+--   record-real        == a record has the number of a slip
 --   compose-lines-are, find-lines-are  == the two sheets
-use mathlib.Core.Path.{_≡_, refl, sym, _∙_, ap}
+use mathlib.Core.Path.{_≡_, refl, _∙_, ap}
 use mathlib.Core.Bool.{Bool, true, false, cond}
 use mathlib.Core.List.{List}
-use Prim.Native.Nat.{ℕ, suc, _+_, _-_, _*_, _<_}
+use Prim.Native.Nat.{ℕ, _+_, _-_, _*_, _≤_, _<_}
 use native.Mathlib.Nat.{zero-add}
-use native.Mathlib.Numerals.{add-one}
 use native.Mathlib.Omega.{arith}
 use lib.ListN.{length, getD}
 use Rattle.words.specs.Lists.{each}
-use Rattle.words.proofs.Runs.{length-upFrom, upFrom-at, each-places}
-use Rattle.trays.specs.Slips.{slipsOf, slip, numbers, startOf, endOf}
+use Rattle.words.proofs.Picks.{getD-in}
+use Rattle.words.proofs.Runs.{each-places}
+use Rattle.trays.specs.declared.Settings.{Settings}
+use Rattle.trays.specs.Slips.{slipsOf, slip, startOf, endOf}
 use Rattle.trays.specs.Aside.{isAside}
-use Rattle.trays.specs.Faults.{trayFault}
-use Rattle.trays.proofs.Accepted.{slips-count, numbers-count}
+use Rattle.trays.specs.Sides.{ofSide, AcceptedSides}
+use Rattle.trays.proofs.Accepted.{slips-count}
 use Rattle.trays.proofs.Spans.{accepted-spanned}
 use Rattle.greedy.specs.Joins.{Join, join}
-use Rattle.greedy.specs.Composing.{usual, whole, joinsOf, legendOf}
+use Rattle.greedy.specs.Composing.{Composing, sided, joinsOf, legendOf}
+use Rattle.greedy.proofs.SideLists.{slips-side}
 use Rattle.matching.specs.Moves.{moves}
 use Rattle.matching.specs.Occurrences.{Occurrence, occurrence, occurrences}
-use Rattle.answers.specs.Composing.{outcomeOf, joinCells, flatJoins, placeCells, flatPlaces}
+use Rattle.answers.specs.Composing.{outcomeOf, joinCells, flatJoins, recordCells, flatRecords}
 use Rattle.answers.specs.Finding.{flatFound}
-use Rattle.answers.proofs.FlatLists.{joins-at, found-at, places-at}
+use Rattle.answers.proofs.FlatLists.{joins-at, found-at, records-at}
 use Rattle.sheet_rule.specs.Sheets.{asideSign, keptSign, signOf, joinLine, slipLineOf, slipLineAt, joinLineAt}
-use Rattle.sheet_rule.specs.Sheets.{foundLine, foundLineAt, lines, composeLines, sideSheetOf, composeSheetOf, findLines, findSheetOf}
+use Rattle.sheet_rule.specs.Sheets.{foundLine, foundLineAt, lines, composeLines, sideSheetOf, findLines, findSheetOf}
 
 pub lines-each : {A : Type 0} (d : A) (f : ℕ → List ℕ) (g : A → List ℕ) (xs : List A) → ((i : ℕ) → i < length xs → f i ≡ g (getD xs i d)) →
     lines f (length xs) ≡ each g xs
@@ -48,32 +51,39 @@ sign-flat : (b : Bool) → signOf (cond b 0 1) ≡ cond b asideSign keptSign
 sign-flat true = refl
 sign-flat false = refl
 
-module _ (s es : List ℕ) (acc : trayFault s es .number ≡ 0) where
+module _ (g : Settings) (s es cs : List ℕ) (a : AcceptedSides s es cs) where
   abbrev ss : List (List ℕ)
   ss = slipsOf s es
 
-  slip-flat : (i : ℕ) → i < length es → slipLineAt es (flatPlaces (whole usual ss)) i ≡ slipLineOf (whole usual ss) (suc i)
+  abbrev b : ℕ
+  b = g .side
+
+  abbrev c : Composing
+  c = sided g cs (slipsOf s es)
+
+  abbrev M : List ℕ
+  M = ofSide cs (g .side)
+
+  pub record-real : (i : ℕ) → i < length M → (1 ≤ getD M i 0) × (getD M i 0 ≤ length es)
+  record-real i h = omega (arith, slips-side s es cs b (a .sides) .real (getD M i 0) (getD-in 0 M i h), slips-count s es)
+
+  slip-flat : (i : ℕ) → i < length M → slipLineAt es (flatRecords c b) i ≡ slipLineOf c (getD M i 0)
   slip-flat i h =
-      let n : endOf es (suc i) - startOf es (suc i) ≡ length (slip ss (suc i)) = omega (arith, accepted-spanned s es acc .long (suc i) (omega arith) h) in
-      let l : i < length ss = rw (slips-count s es) h in
-      let place = places-at (whole usual ss) i 0 (placeCells * i) l (omega arith) (omega arith) in
-      let mark = places-at (whole usual ss) i 1 (placeCells * i + 1) l (omega arith) refl in
-      rw (add-one i, n, place, mark, sign-flat (isAside ss (numbers ss) (suc i)))
+      let k = getD M i 0 in
+      let (p, q) = record-real i h in
+      let n : endOf es k - startOf es k ≡ length (slip ss k) = omega (arith, accepted-spanned s es (a .tray) .long k p q) in
+      let at = records-at c b i in
+      let number = at 0 (recordCells * i) h (omega arith) (omega arith) in
+      let place = at 1 (recordCells * i + 1) h (omega arith) refl in
+      let mark = at 2 (recordCells * i + 2) h (omega arith) refl in
+      rw (number, place, mark, n, sign-flat (isAside ss M k))
 
-  slips-flat : lines (slipLineAt es (flatPlaces (whole usual ss))) (length es) ≡ each (slipLineOf (whole usual ss)) (numbers ss)
-  slips-flat =
-      let n = numbers-count s es in
-      ap (lines (slipLineAt es (flatPlaces (whole usual ss)))) (sym n)
-      ∙ lines-each 0 (slipLineAt es (flatPlaces (whole usual ss))) (slipLineOf (whole usual ss)) (numbers ss)
-      (λ i h.
-      let k : getD (numbers ss) i 0 ≡ suc i = upFrom-at 1 (length ss) i (omega (arith, length-upFrom 1 (length ss))) ∙ omega arith in
-      slip-flat i (omega arith) ∙ ap (slipLineOf (whole usual ss)) (sym k))
-
-  -- what compose_lines writes, over the numbers that composing leaves
+  -- what compose_lines writes, over the numbers that composing the side leaves
   pub compose-lines-are :
-      let c = whole usual ss in composeLines (outcomeOf c) es (flatJoins (joinsOf c)) (flatPlaces c) (legendOf c) ≡ composeSheetOf ss
+      let d = sided g cs (slipsOf s es) in
+      composeLines (g .side) (outcomeOf d) es (flatJoins (joinsOf d)) (flatRecords d (g .side)) (legendOf d) ≡ sideSheetOf (g .side) d
   unfolding sideSheetOf
-  compose-lines-are = rw (slips-flat, joins-flat (joinsOf (whole usual ss)))
+  compose-lines-are = rw (lines-each 0 (slipLineAt es (flatRecords c b)) (slipLineOf c) M slip-flat, joins-flat (joinsOf c))
 
 -- what find_lines writes, over the numbers of the occurrences
 pub find-lines-are : (ss : List (List ℕ)) (t : List ℕ) →

@@ -16,7 +16,8 @@ use Rattle.trays.specs.declared.Refusal.{Refusal}
 use Rattle.trays.specs.Limits.{maxSlips, maxSlip, maxLetters, maxFile, endsNeed}
 use Rattle.trays.specs.Slips.{slipsOf, isLetter}
 use Rattle.trays.specs.Faults.{row, orElse, firstRow, notAbove, tooLong, badSlip, badPlace, trayRows, trayFault}
-use Rattle.trays.proofs.Rows.{or-zero, or-some, by-number}
+use Rattle.trays.specs.Sides.{isSide, sidesRow, sidedTrayRows}
+use Rattle.trays.proofs.Rows.{or-zero, or-some, by-number, rows-append}
 use Rattle.trays.proofs.Accepted.{row-silent, slips-count}
 use Rattle.file_rule.specs.Lines.{lf, onFirst, linesOf, isLaidOut, slipField, lengthField, letters}
 use Rattle.file_rule.specs.Faults.{lineFault, linesFault, readFault}
@@ -88,6 +89,14 @@ tray-refusal-fits s es =
       ),
     ))
 
+-- the same and 22, which names no detail
+pub sided-refusal-fits : (s es cs : List ℕ) → RefusalFits (firstRow (sidedTrayRows s es cs))
+unfolding trayFault
+sided-refusal-fits s es cs =
+    rw (rows-append (trayRows s es) (sidesRow es cs ∷ []))
+    (or-fits (trayFault s es) (firstRow (sidesRow es cs ∷ [])) (tray-refusal-fits s es)
+    (λ z. rows-fit (sidesRow es cs ∷ []) (row-fits 22 (not (eqb (length cs) (length es)) || any (λ b. not (isSide b)) cs) 0 (omega arith) (omega arith), tt)))
+
 -- rows 15 to 19: a file has at most as many lines as bytes
 lines-few : (s : List ℕ) → length (linesOf s) ≤ length s
 lines-few [] = omega arith
@@ -115,10 +124,11 @@ lines-fit : (k : ℕ) (ls : List (List ℕ)) → k + length ls ≤ 10 ^ detailWi
 lines-fit k [] h = rows-fit [] tt
 lines-fit k (l ∷ ls) h = or-fits (lineFault k l) (linesFault (suc k) ls) (line-fits k l (omega arith)) (λ z. lines-fit (suc k) ls (omega arith))
 
-pub read-refusal-fits : (s : List ℕ) (a b : ℕ) → RefusalFits (readFault s a b)
+pub read-refusal-fits : (s : List ℕ) (a b d : ℕ) → RefusalFits (readFault s a b d)
 unfolding readFault
-read-refusal-fits s a b =
-    or-fits (row 15 (ltb a maxFile || ltb b endsNeed) 0) _ (row-fits 15 (ltb a maxFile || ltb b endsNeed) 0 (omega arith) (omega arith))
+read-refusal-fits s a b d =
+    let short = ltb a maxFile || (ltb b endsNeed || ltb d endsNeed) in
+    or-fits (row 15 short 0) _ (row-fits 15 short 0 (omega arith) (omega arith))
     (λ y.
     or-fits (row 16 (ltb maxFile (length s)) 0) _ (row-fits 16 (ltb maxFile (length s)) 0 (omega arith) (omega arith))
     (λ z.

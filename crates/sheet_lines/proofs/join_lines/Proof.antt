@@ -18,8 +18,8 @@ abbrev μ-loop : tie.MeasureT-loop
 loop-holds : tie.Need-loop-holds Inv-loop μ-loop
 loop-holds c = (search needs, put-none _ _ (omega arith))
 
-three-line-requires : tie.Need-three-line-requires Inv-loop μ-loop
-three-line-requires c κs = (search needs, search join-left, search join-right, search join-shared, search needs)
+join-line-requires : tie.Need-join-line-requires Inv-loop μ-loop
+join-line-requires c κs = (search join-left, search join-right, search join-shared, search needs)
 
 loop-again : tie.Need-loop-again Inv-loop μ-loop
 loop-again c =
@@ -32,7 +32,7 @@ loop-again c =
     let start = head .before .before .before in (
       search needs,
       join-turn (start .args .joins .now) (l .i) _ _ _ _ _ _ _ _ _ (left-read .small .ensures) (right-read .small2 .ensures) (shared-read .small3 .ensures)
-          (l .inv .1) (printed .three-line .ensures),
+          (l .inv .1) (printed .join-line .ensures),
     )
 
 returns : tie.Need-returns Inv-loop μ-loop
@@ -40,5 +40,5 @@ returns c = search joins-end
 
 pub join-lines-spec : {M : Type 1} → statement M
 join-lines-spec = tie.close (tie.spec Inv-loop μ-loop loop-holds (λ c. search needs) (λ c κs. search needs) (λ c. search needs)
-    (λ c κs. search needs) (λ c. search needs) (λ c κs. search needs) three-line-requires (λ c. search needs) (λ c. search needs) loop-again
+    (λ c κs. search needs) (λ c. search needs) (λ c κs. search needs) join-line-requires (λ c. search needs) (λ c. search needs) loop-again
     (λ c. search needs) returns)
