@@ -6,7 +6,6 @@ use Rattle.greedy.proofs.Placed.{all-tried}
 use Rattle.matching.proofs.States.{longest-endings, few-moves}
 use Rattle.shortest.proofs.Shortest.{shortest-legends}
 use Rattle.merge_rule.proofs.MergedTrays.{same-legend-of, one-or-four}
-use Rattle.merge_rule.proofs.MergedSides.{same-legend-sides, one-or-four-sides}
 use Rattle.trays.proofs.Stored.{stored-trays}
 use Rattle.fold_rule.proofs.Bytes.{fold-table}
 use Rattle.fold_rule.proofs.Signs.{fold-sign}
@@ -27,8 +26,6 @@ demands =
       each-side = each-side;
       same-legend = same-legend-of;
       one-or-four = one-or-four;
-      same-legend-sides = same-legend-sides;
-      one-or-four-sides = one-or-four-sides;
       longest-endings = longest-endings;
       few-moves = few-moves;
       fold-table = fold-table;

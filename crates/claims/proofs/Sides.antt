@@ -1,5 +1,5 @@
 -- What is claimed of each side, proved. The laws hold of any members that ascend from 1, and the slips of a side are such members.
-use mathlib.Core.Path.{_≡_, refl, sym, subst}
+use mathlib.Core.Path.{_≡_, sym, subst}
 use mathlib.Core.List.{List}
 use Prim.Native.Nat.{ℕ}
 use native.Mathlib.Omega.{arith}
@@ -10,7 +10,7 @@ use Rattle.trays.specs.Slips.{slipsOf, only}
 use Rattle.trays.specs.Sides.{sideOf, ofSide}
 use Rattle.trays.proofs.SidedTrays.{sides-tell}
 use Rattle.trays.proofs.WrittenSlips.{slips-written}
-use Rattle.greedy.specs.Composing.{Composing, usual, whole, sided, keptOf}
+use Rattle.greedy.specs.Composing.{Composing, whole, sided, keptOf}
 use Rattle.greedy.specs.Sides.{Alone}
 use Rattle.greedy.proofs.Chosen.{Real, only-accepted}
 use Rattle.greedy.proofs.SideLists.{slips-side}
@@ -25,8 +25,9 @@ use Rattle.shortest.proofs.ShortestAlone.{alone-shortest}
 use Rattle.claims.specs.Sides.{SideAlone, Sides-alone, EachSide, Each-side}
 
 pub sides-alone : Sides-alone
-sides-alone g s es cs b A =
-    let c : Composing = sided g b cs (slipsOf s es) in
+sides-alone g s es cs A =
+    let b : ℕ = g .side in
+    let c : Composing = sided g cs (slipsOf s es) in
     let os : List (List ℕ) = only (slipsOf s es) (ofSide cs b) in
     let R : Real (length (slipsOf s es)) (ofSide cs b) = slips-side s es cs b (A .sides) in
     let cut = sym (slips-written os) in
@@ -37,15 +38,16 @@ sides-alone g s es cs b A =
     }
 
 pub each-side : Each-side
-each-side s es cs b A =
+each-side g s es cs A =
+    let b : ℕ = g .side in
     let ss = slipsOf s es in
     let R : Real (length (slipsOf s es)) (ofSide cs b) = slips-side s es cs b (A .sides) in
     record {
-      greedy = λ g. greedy-of (sided g b cs ss) R;
-      fewer-joins = λ g h. plain-fewer ss (keptOf (sided g b cs ss)) (g .least) (h .least);
-      stop-free = all-count (sided usual b cs ss) refl;
-      all-tried = λ g i p l e.
+      greedy = greedy-of (sided g cs ss) R;
+      fewer-joins = λ h e le. rw e (plain-fewer ss (keptOf (sided g cs ss)) (g .least) (h .least) le);
+      stop-free = all-count (sided g cs ss);
+      all-tried = λ i p l e.
           tried-of g s es (ofSide cs b) (A .tray) R i
           (those-in _ (upFrom-in 1 (length cs) i p (omega (arith, sides-tell es cs (A .sides) .0))) (eq-eqb (sideOf cs i) b e));
-      shortest = λ g. shortest-of (sided g b cs ss) R;
+      shortest = shortest-of (sided g cs ss) R;
     }

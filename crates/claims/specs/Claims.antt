@@ -1,10 +1,10 @@
 -- The demands that speak of the definitions alone, for every accepted tray and, where composing is meant, any settings; and what is claimed of folding and
--- of trays and tray files stored earlier.
+-- of trays and tray files stored earlier. Calls compose one side. The first five demands speak of all slips of a tray together: a side composes as a tray
+-- that holds it only, and of such a tray they speak.
 use Rattle.greedy.specs.Claims.{Greedy-legends, Fewer-joins, Stop-free, All-tried}
 use Rattle.matching.specs.Moves.{Longest-endings, Few-moves}
 use Rattle.shortest.specs.Claims.{Shortest-legends}
 use Rattle.merge_rule.specs.Claims.{Same-legend, One-or-four}
-use Rattle.merge_rule.specs.Sides.{Same-legend-sides, One-or-four-sides}
 use Rattle.trays.specs.Stored.{Stored-trays}
 use Rattle.fold_rule.specs.Claims.{Fold-table, Fold-sign}
 use Rattle.sheet_rule.specs.Stored.{Stored-files}
@@ -28,13 +28,10 @@ pub record Demands : Type 0 where
   pub sides-alone : Sides-alone
   -- and all that is claimed of composing a tray, the shortest legend included, is claimed of each of its sides
   pub each-side : Each-side
-  -- two trays merged: where the tray of both, written one after the other, is accepted, so is the outcome, and it has the same legend
+  -- two trays merged: where the tray of both, written one after the other, is accepted, so is the outcome, and each side has the same legend
   pub same-legend : Same-legend
-  -- of two accepted trays the outcome can fail by 1 or 4 alone
+  -- of two accepted trays the outcome can fail by 1 or 4 alone, and never by 22
   pub one-or-four : One-or-four
-  -- the same of two trays with sides: the legend of each side; of two accepted trays 1 or 4 alone, and 22 never of the outcome
-  pub same-legend-sides : Same-legend-sides
-  pub one-or-four-sides : One-or-four-sides
   -- the state is the longest ending of the text so far that begins a slip
   pub longest-endings : Longest-endings
   -- moves are at most 2 × the letters

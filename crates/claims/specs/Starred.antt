@@ -8,12 +8,13 @@ use mathlib.Core.Bool.{true, false}
 use mathlib.Core.List.{List, [], _∷_, map}
 use Prim.Native.Nat.{ℕ}
 use Prim.Native.String.{String}
-use lib.ListN.{length}
+use lib.ListN.{length, replicate}
 use Rattle.words.specs.Quoted.{word}
 use Rattle.trays.specs.declared.Pair.{Pair}
 use Rattle.trays.specs.Slips.{slipsOf, slip, numbers}
 use Rattle.trays.specs.Aside.{isAside, kept}
 use Rattle.trays.specs.Answers.{pairOf}
+use Rattle.trays.specs.Sides.{blankSide}
 use Rattle.trays.specs.Faults.{trayFault}
 use Rattle.greedy.specs.Joins.{Join, join, saved}
 use Rattle.greedy.specs.Composing.{usual, whole, joinsOf, walkOf, legendOf, placeOf, keptLetters}
@@ -70,7 +71,7 @@ pub data Told : Type 0 where
 
 abbrev pub answer : List ℕ → List ℕ → Asked → Told
 answer s es composing = sheet (sheetOf (slipsOf s es))
-answer s es (overlap-of i j) = pair (pairOf 1 s es i j)
+answer s es (overlap-of i j) = pair (pairOf 1 s es (replicate (length es) blankSide) i j)
 answer s es (finding-in t) = finds (moves (slipsOf s es) (word t)) (occurrences (slipsOf s es) (word t))
 
 pub record Specimen : Type 0 where
