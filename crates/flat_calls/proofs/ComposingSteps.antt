@@ -4,7 +4,8 @@
 use mathlib.Core.Path.{_≡_, _∙_, ap}
 use mathlib.Core.Bool.{true}
 use mathlib.Core.List.{List}
-use Prim.Native.Nat.{ℕ, _*_, _/_, _≤_}
+use Prim.Native.Nat.{ℕ, zero, suc, _*_, _/_, _≤_}
+use native.Mathlib.Nat.{mul-zero, mul-suc}
 use borrow.Author.Tests.{leb-true}
 use native.Mathlib.Omega.{arith}
 use lib.Dec.{leb}
@@ -12,36 +13,43 @@ use lib.ListN.{length}
 use Rattle.words.specs.Lists.{over}
 use Rattle.trays.specs.declared.Settings.{Settings}
 use Rattle.tables.specs.Tables.{table}
-use Rattle.layout.specs.Layout.{JOINS, PLACES}
+use Rattle.layout.specs.Layout.{NAMED, RECORDS}
 use Rattle.answers.specs.declared.Composed.{Composed}
-use Rattle.compose_core.specs.steps.Composing.{Staged}
-use Rattle.compose_core.proofs.StagedTells.{staged-tells, staged-room}
-use Rattle.answers.specs.Composing.{joinCells, placeCells}
+use Rattle.compose_side.specs.steps.Sides.{Staged}
+use Rattle.compose_side.proofs.StagedTells.{staged-tells, staged-room}
+use Rattle.answers.specs.Composing.{joinCells, recordCells}
 use Rattle.answers.specs.Flat.{ComposeFlat}
 use Rattle.tables.specs.Copying.{CanCopy}
 
-module _ (g : Settings) (s es w w₁ l l′ : List ℕ) (jr pr : ℕ) (r : Composed) (st : Staged g s es w w₁ l l′ jr pr r) where
-  pub joins-can : (m : ℕ) (j : List ℕ) → m ≡ r .joins → jr ≡ length j / joinCells → CanCopy w₁ JOINS (joinCells * m) j
+times-least : (k n m : ℕ) → k ≤ n → k * m ≤ n * m
+times-least k n zero h = omega (arith, mul-zero k, mul-zero n)
+times-least k n (suc m) h = omega (arith, mul-suc k m, mul-suc n m, times-least k n m h)
+
+module _ (g : Settings) (s es cs w w₁ l l′ : List ℕ) (jr pr : ℕ) (r : Composed) (st : Staged g s es cs w w₁ l l′ jr pr r) where
+  pub joins-can : (m : ℕ) (j : List ℕ) → m ≡ r .joins → jr ≡ length j / joinCells → CanCopy w₁ NAMED (joinCells * m) j
   joins-can m j e q =
-      staged-tells g s es w (length l) jr pr r (st .answer-is)
-      (λ a. let d = staged-room g s es w w₁ l l′ jr pr r st a in record { there = omega (arith, d); room = omega (arith, a .joins-fit) })
+      staged-tells g s es cs w (length l) jr pr r (st .answer-is)
+      (λ a. let d = staged-room g s es cs w w₁ l l′ jr pr r st a in record { there = omega (arith, d); room = omega (arith, a .joins-fit) })
       (λ b. let z = ap (λ (c : Composed). c .joins) (b .answer-is) in record { there = omega arith; room = omega arith })
 
-  -- from any cell up to where the places stand: that it is the right one is for `flat-says`
-  pub places-can : (base m : ℕ) (p : List ℕ) → leb base PLACES ≡ true → m ≡ r .slips → pr ≡ length p / placeCells → CanCopy w₁ base (placeCells * m) p
-  places-can base m p h e q =
-      staged-tells g s es w (length l) jr pr r (st .answer-is)
+  -- from any cell up to where the records stand, and up to as many cells as a record has: that these are the right ones is for `flat-says`
+  pub places-can :
+      (base k m : ℕ) (p : List ℕ) → leb base RECORDS ≡ true → leb k recordCells ≡ true → m ≡ r .slips → pr ≡ length p / recordCells
+      → CanCopy w₁ base (k * m) p
+  places-can base k m p h few e q =
+      let fewer : k * m ≤ recordCells * m = times-least k recordCells m (leb-true k recordCells few) in
+      staged-tells g s es cs w (length l) jr pr r (st .answer-is)
       (λ a.
-      let near : base ≤ PLACES = leb-true base PLACES h in
+      let near : base ≤ RECORDS = leb-true base RECORDS h in
       record { there = omega (arith, a .room, a .few-slips, st .work-is .same); room = omega (arith, a .places-fit) })
       (λ b. let z = ap (λ (c : Composed). c .slips) (b .answer-is) in record { there = omega arith; room = omega arith })
 
   pub flat-says :
-      (j j′ p p′ : List ℕ) (m n : ℕ) → jr ≡ length j / joinCells → pr ≡ length p / placeCells → m ≡ r .joins → n ≡ r .slips
-      → j′ ≡ over (table w₁ JOINS (joinCells * m)) j → p′ ≡ over (table w₁ PLACES (placeCells * n)) p → ComposeFlat g s es w w₁ l l′ j j′ p p′ r
+      (j j′ p p′ : List ℕ) (m n : ℕ) → jr ≡ length j / joinCells → pr ≡ length p / recordCells → m ≡ r .joins → n ≡ r .slips
+      → j′ ≡ over (table w₁ NAMED (joinCells * m)) j → p′ ≡ over (table w₁ RECORDS (recordCells * n)) p → ComposeFlat g s es cs w w₁ l l′ j j′ p p′ r
   unfolding table
   flat-says j j′ p p′ m n ej ep em en hj hp =
-      staged-tells g s es w (length l) jr pr r (st .answer-is)
+      staged-tells g s es cs w (length l) jr pr r (st .answer-is)
       (λ a.
       let z : r .number ≡ 0 = ap (λ (c : Composed). c .number) (a .answer-is) in
       let q = rw (ej, ep) at (a .silent) in
@@ -49,7 +57,7 @@ module _ (g : Settings) (s es w w₁ l l′ : List ℕ) (jr pr : ℕ) (r : Compo
         answer-is = st .answer-is ∙ rw (ej, ep);
         legend-is = st .legend-is ∙ rw (ej, ep);
         joins-are = hj ∙ rw (em, st .joins-are z, q);
-        places-are = hp ∙ rw (en, st .places-are z, q);
+        places-are = hp ∙ rw (en, st .records-are z, q);
         work-is = st .work-is;
       })
       (λ b.

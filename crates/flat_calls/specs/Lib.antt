@@ -1,2 +1,2 @@
--- Composing and finding over slices of numbers: `joinCells` numbers a join, `placeCells` a place, two an occurrence.
+-- Composing and finding over slices of numbers: `joinCells` numbers a join, `recordCells` a record of places, two an occurrence.
 pub mod steps

@@ -1,45 +1,47 @@
-// Composing and finding over slices of numbers: `JOIN_CELLS` numbers a join, `PLACE_CELLS` a place, two an occurrence.
+// Composing and finding over slices of numbers: `JOIN_CELLS` numbers a join, `RECORD_CELLS` a record of places, two an occurrence.
 ghost use Rattle.answers.specs.Flat.{ComposeFlat};
 ghost use Prim.Native.Nat.{_+_, _<_};
 ghost use Rattle.answers.specs.Finding as F;
 ghost use Rattle.flat_calls.specs.steps.Occurrences as N;
 use answers::Composed;
 use answers::JOIN_CELLS;
-use answers::PLACE_CELLS;
+use answers::RECORD_CELLS;
 use answers::Search;
-use layout::JOINS;
-use layout::PLACES;
+use layout::NAMED;
+use layout::RECORDS;
 use tables::number;
 use tables::whole;
 use trays::Settings;
 
-// Composes any tray, or refuses it. A join is three numbers (left slip, right slip, overlap), a place three (the place, 1 if the slip is kept, and the letters
-// compared to find it).
+// Composes the side that the settings name of any tray, or refuses it. A join is three numbers (left slip, right slip, overlap), a record of places five (the
+// slip, its place, 1 if it is kept, the letters compared to find the place, and the side).
 pub fn compose_flat(
     letters: &[u8],
     ends: &[u16],
+    sides: &[u8],
     settings: Settings,
     work: &mut [u16],
     legend: &mut [u8],
     joins: &mut [u16],
     places: &mut [u16],
 ) -> Composed
-    ensures { λ r. ⌜ ComposeFlat settings (now (letters .entry)) (now (ends .entry)) (now (work .entry)) (now (work .exit))
+    ensures { λ r. ⌜ ComposeFlat settings (now (letters .entry)) (now (ends .entry)) (now (sides .entry)) (now (work .entry)) (now (work .exit))
         (now (legend .entry)) (now (legend .exit)) (now (joins .entry)) (now (joins .exit)) (now (places .entry)) (now (places .exit)) r ⌝ }
 {
     let joins_room = joins.len() / JOIN_CELLS;
-    let places_room = places.len() / PLACE_CELLS;
-    let answer = compose_core::compose_staged(
+    let places_room = places.len() / RECORD_CELLS;
+    let answer = compose_side::compose_staged(
         letters,
         ends,
+        sides,
         settings,
         work,
         legend,
         joins_room,
         places_room,
     );
-    tables::copy_cells(work, JOINS, JOIN_CELLS * whole(answer.joins), joins);
-    tables::copy_cells(work, PLACES, PLACE_CELLS * whole(answer.slips), places);
+    tables::copy_cells(work, NAMED, JOIN_CELLS * whole(answer.joins), joins);
+    tables::copy_cells(work, RECORDS, RECORD_CELLS * whole(answer.slips), places);
     answer
 }
 

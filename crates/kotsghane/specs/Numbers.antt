@@ -27,17 +27,18 @@ pub record SlipExported (s es : List ℕ) (i : ℕ) (a′ : List ℕ) : Type 0 w
   pub says : answer ≡ locatedOf s es i
   pub numbers-are : a′ ≡ slipNumbers answer
 
-pub record PairExported (m : ℕ) (s es : List ℕ) (i j : ℕ) (a′ : List ℕ) : Type 0 where
+pub record PairExported (m : ℕ) (s es cs : List ℕ) (i j : ℕ) (a′ : List ℕ) : Type 0 where
   pub answer : Pair
-  pub says : answer ≡ pairOf m s es i j
+  pub says : answer ≡ pairOf m s es cs i j
   pub numbers-are : a′ ≡ pairNumbers answer
 
-pub record ReadExported (file ls ls′ es es′ a′ : List ℕ) : Type 0 where
+pub record ReadExported (file ls ls′ es es′ cs cs′ a′ : List ℕ) : Type 0 where
   pub answer : Written
-  pub says : ReadSays file ls ls′ es es′ answer
+  pub says : ReadSays file ls ls′ es es′ cs cs′ answer
   pub numbers-are : a′ ≡ writtenNumbers answer
 
-pub record MergeExported (s es t fs ls ls′ cs cs′ a′ : List ℕ) : Type 0 where
+-- the trays s, es, cs and t, fs, ds; lent letters a, ends b and sides d before, a′, b′ and d′ after
+pub record MergeExported (s es cs t fs ds a a′ b b′ d d′ n′ : List ℕ) : Type 0 where
   pub answer : Written
-  pub says : MergeSays s es t fs ls ls′ cs cs′ answer
-  pub numbers-are : a′ ≡ writtenNumbers answer
+  pub says : MergeSays s es cs t fs ds a a′ b b′ d d′ answer
+  pub numbers-are : n′ ≡ writtenNumbers answer

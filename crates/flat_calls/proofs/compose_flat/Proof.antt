@@ -17,7 +17,7 @@ returns c =
     let joins-copied = places-counted .before .before .before .before in
     let joins-counted = joins-copied .before .before in
     let composed = joins-counted .before .before .before .before .before .before in
-    flat-says _ _ _ _ _ _ _ _ _ _ (composed .compose-staged .ensures) _ _ _ _ _ _ refl refl (joins-counted .whole .ensures) (places-counted .whole2 .ensures)
+    flat-says _ _ _ _ _ _ _ _ _ _ _ (composed .compose-staged .ensures) _ _ _ _ _ _ refl refl (joins-counted .whole .ensures) (places-counted .whole2 .ensures)
     (joins-copied .copy-cells .ensures) (places-copied .copy-cells2 .ensures)
 
 pub compose-flat-spec : {M : Type 1} → statement M
