@@ -5,6 +5,9 @@ pub mod least;
 pub mod merging;
 pub mod pairs;
 pub mod shortest;
+pub mod sides;
+pub mod sides_refused;
+pub mod sides_written;
 
 /// A tray and its outcome.
 pub struct Specimen {

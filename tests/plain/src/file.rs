@@ -1,7 +1,7 @@
 //! Tray files: a line for each slip.
 use crate::fold::filed;
-use crate::tray::Tray;
-use crate::{refusal, row, unless, Refusal, FILE_ENDS, MAX_FILE};
+use crate::tray::{Slip, Tray};
+use crate::{refusal, row, unless, Refusal, FILE_ENDS, MAX_FILE, SIDES};
 
 /// The number that columns hold: decimal, right-justified, without leading zeros.
 fn number(columns: &[u8]) -> Option<usize> {
@@ -10,32 +10,48 @@ fn number(columns: &[u8]) -> Option<usize> {
     (format!("{n:width$}", width = columns.len()) == text).then_some(n)
 }
 
-/// The slip number, the length stated and the letters of a line, if it is of the layout: columns 1 to 4, 5 to 8, a blank
-/// in 9, letters from 10, LF.
-fn parts(line: &[u8]) -> Option<(usize, usize, &[u8])> {
+/// A line of the layout: columns 1 to 4, 5 to 8, a side in 9, letters from 10, LF.
+struct Line<'a> {
+    number: usize,
+    length: usize,
+    slip: Slip<'a>,
+}
+
+/// The parts of a line, if it is of the layout. Column 9 is taken as it stands: a small o is no side.
+fn parts(line: &[u8]) -> Option<Line<'_>> {
     let line = line.strip_suffix(b"\n")?;
-    if line.len() < 9 || line[8] != b' ' {
+    if line.len() < 9 || !SIDES.contains(&line[8]) {
         return None;
     }
-    Some((number(&line[..4])?, number(&line[4..8])?, &line[9..]))
+    Some(Line {
+        number: number(&line[..4])?,
+        length: number(&line[4..8])?,
+        slip: Slip {
+            side: line[8],
+            letters: &line[9..],
+        },
+    })
 }
 
-/// The letters of a line that stands as line `k`: rows 17, 18 and 19.
-fn letters(line: &[u8], k: usize) -> Result<&[u8], Refusal> {
-    let (slip, stated, letters) = parts(line).ok_or(refusal(17, k))?;
-    unless((slip != k).then_some(refusal(18, k)))?;
-    unless((stated != letters.len()).then_some(refusal(19, k)))?;
-    Ok(letters)
+/// The slip of a line that stands as line `k`, its letters as they are typed: rows 17, 18 and 19.
+fn slip(line: &[u8], k: usize) -> Result<Slip<'_>, Refusal> {
+    let line = parts(line).ok_or(refusal(17, k))?;
+    unless((line.number != k).then_some(refusal(18, k)))?;
+    unless((line.length != line.slip.letters.len()).then_some(refusal(19, k)))?;
+    Ok(line.slip)
 }
 
-/// Reads a tray file where this many letters and ends are lent, or refuses it. An empty file is the empty tray.
+/// Reads a tray file where this many letters, ends and sides are lent, or refuses it. An empty file is the empty tray.
 ///
 /// Rows 15 to 19 judge the file as it is typed. Only then are the letters folded: a byte that is no sign is read as 0, and
 /// the tray check turns it back.
-pub fn read_tray(file: &[u8], letters_lent: usize, ends_lent: usize) -> Result<Tray, Refusal> {
-    unless(row(15, letters_lent < MAX_FILE || ends_lent < FILE_ENDS))?;
+pub fn read_tray(file: &[u8], letters: usize, ends: usize, sides: usize) -> Result<Tray, Refusal> {
+    unless(row(15, letters < MAX_FILE || ends < FILE_ENDS || sides < FILE_ENDS))?;
     unless(row(16, file.len() > MAX_FILE))?;
     let lines = file.split_inclusive(|&byte| byte == b'\n');
-    let slips: Result<Vec<Vec<u8>>, Refusal> = lines.zip(1..).map(|(line, k)| letters(line, k).map(filed)).collect();
-    Ok(Tray::of(&slips?))
+    let typed: Result<Tray, Refusal> = lines.zip(1..).map(|(line, k)| slip(line, k)).collect();
+    typed.map(|tray| Tray {
+        letters: filed(&tray.letters),
+        ..tray
+    })
 }

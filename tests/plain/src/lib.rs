@@ -29,6 +29,37 @@ pub use limits::{
 /// The least overlap that the programs pass: no overlap is too short.
 pub const ONE_LETTER: usize = 1;
 
+/// No side.
+pub const BLANK: u8 = b' ';
+
+/// The obverse.
+pub const OBVERSE: u8 = b'O';
+
+/// The reverse.
+pub const REVERSE: u8 = b'R';
+
+/// The three sides, in the order in which their sheets are printed.
+pub const SIDES: [u8; 3] = [BLANK, OBVERSE, REVERSE];
+
+/// What the person composing sets. Any number and any byte can be set: what may not be is refused.
+#[derive(Clone, Copy, Debug, PartialEq, Eq)]
+pub struct Settings {
+    /// The least overlap: a shorter one counts as empty.
+    pub least: usize,
+    /// The side that is composed.
+    pub side: u8,
+}
+
+impl Settings {
+    /// This least overlap, and the blank side.
+    pub const fn blank(least: usize) -> Settings {
+        Settings { least, side: BLANK }
+    }
+}
+
+/// The settings of the programs, but for the side.
+pub const USUAL: Settings = Settings::blank(ONE_LETTER);
+
 /// The occurrences that the list of the program `find` takes.
 pub const MAX_FOUND: usize = 8_000;
 

@@ -4,7 +4,7 @@
 /// How many cells of 16 bits the work area has, at least (row 7).
 pub const WORK_CELLS: usize = 32_000;
 
-/// The most slips that a tray has (row 1), and how many ends are lent for two trays merged (row 15).
+/// The most slips that a tray has (row 1), and how many ends, and how many sides, are lent for two trays merged (row 15).
 pub const MAX_SLIPS: usize = 200;
 
 /// The most letters that a slip has (row 3).
@@ -19,7 +19,7 @@ pub const MAX_TEXT: usize = 2_000;
 /// The most bytes that a tray file has (row 16), and how many letters are lent for one (row 15).
 pub const MAX_FILE: usize = 16_384;
 
-/// How many ends are lent for a tray file (row 15).
+/// How many ends, and how many sides, are lent for a tray file (row 15).
 pub const FILE_ENDS: usize = 1_700;
 
 /// The most kept slips for which the shortest legend is sought (row 20).
@@ -31,8 +31,8 @@ pub const MAX_LEAST: usize = 32;
 /// How many numbers a join has: left slip, right slip, overlap.
 pub const JOIN_CELLS: usize = 3;
 
-/// How many numbers a place has: the place, whether the slip is kept, the letters compared.
-pub const PLACE_CELLS: usize = 3;
+/// How many numbers a record of places has: the slip, its place, whether it is kept, the letters compared, its side.
+pub const PLACE_CELLS: usize = 5;
 
 /// How many numbers an occurrence has: end place, slip.
 pub const FOUND_CELLS: usize = 2;

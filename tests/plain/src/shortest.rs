@@ -1,7 +1,7 @@
-//! The shortest legend of a small die group: every order of the kept slips is tried.
+//! The shortest legend of a small die group: every order of the kept slips of its side is tried.
 use crate::compose::{fault_before_c, kept_slips};
-use crate::tray::{overlap, Tray};
-use crate::{refusal, row, unless, Refusal, MAX_SHORTEST};
+use crate::tray::{Slip, Tray};
+use crate::{refusal, row, unless, Refusal, Settings, MAX_SHORTEST};
 
 /// A shortest legend.
 #[derive(Clone, Debug, Default, PartialEq, Eq)]
@@ -14,21 +14,22 @@ pub struct Shortest {
 
 /// The letters that a slip adds after these slips, laid as one chain: those beyond the overlap with the last of them, which
 /// counts as empty if it has under `least` letters.
-fn added<'a>(slips: &[&'a [u8]], least: usize, laid: &[usize], next: usize) -> &'a [u8] {
+fn added<'a>(slips: &[Slip<'a>], least: usize, laid: &[usize], next: usize) -> &'a [u8] {
     let slip = slips[next - 1];
-    let shared = laid.last().map_or(0, |&last| overlap(slips[last - 1], slip, least));
-    &slip[shared..]
+    let shared = laid.last().map_or(0, |&last| slips[last - 1].overlap(&slip, least));
+    &slip.letters[shared..]
 }
 
-/// The legend of the kept slips in this order, laid as one chain.
-pub fn order_legend(slips: &[&[u8]], least: usize, order: &[usize]) -> Vec<u8> {
-    let part = |(k, &i): (usize, &usize)| added(slips, least, &order[..k], i);
+/// The legend of these kept slips of a side in this order, laid as one chain.
+pub fn order_legend(tray: &Tray, least: usize, order: &[usize]) -> Vec<u8> {
+    let slips = tray.sided_slips();
+    let part = |(k, &i): (usize, &usize)| added(&slips, least, &order[..k], i);
     order.iter().enumerate().map(part).collect::<Vec<_>>().concat()
 }
 
 /// The slips of which orders are tried, and the best order so far with the letters of its legend.
 struct Trial<'a> {
-    slips: &'a [&'a [u8]],
+    slips: &'a [Slip<'a>],
     least: usize,
     kept: &'a [usize],
     best: Vec<usize>,
@@ -59,9 +60,9 @@ impl Trial<'_> {
 }
 
 /// The order of these kept slips whose legend is shortest; of several, the order that is smallest as a list of slip numbers.
-pub fn shortest_order(slips: &[&[u8]], least: usize, kept: &[usize]) -> Vec<usize> {
+pub fn shortest_order(tray: &Tray, least: usize, kept: &[usize]) -> Vec<usize> {
     let mut trial = Trial {
-        slips,
+        slips: &tray.sided_slips(),
         least,
         kept,
         best: Vec::new(),
@@ -71,14 +72,14 @@ pub fn shortest_order(slips: &[&[u8]], least: usize, kept: &[usize]) -> Vec<usiz
     trial.best
 }
 
-/// The shortest legend of any tray with a least overlap, with this many cells and room for this many letters, or the refusal.
-pub fn shortest_legend(tray: &Tray, least: usize, work: usize, room: usize) -> Result<Shortest, Refusal> {
-    unless(fault_before_c(tray, least, work))?;
-    let slips = tray.slips();
-    let kept = kept_slips(&slips);
+/// The shortest legend of one side of any tray with a least overlap, with this many cells and room for this many letters, or
+/// the refusal.
+pub fn shortest_legend(tray: &Tray, settings: Settings, work: usize, room: usize) -> Result<Shortest, Refusal> {
+    unless(fault_before_c(tray, settings, work))?;
+    let kept = kept_slips(tray, settings.side);
     unless(row(20, kept.len() > MAX_SHORTEST))?;
-    let order = shortest_order(&slips, least, &kept);
-    let legend = order_legend(&slips, least, &order);
+    let order = shortest_order(tray, settings.least, &kept);
+    let legend = order_legend(tray, settings.least, &order);
     unless((legend.len() > room).then_some(refusal(8, legend.len())))?;
     Ok(Shortest { order, legend })
 }

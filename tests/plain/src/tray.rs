@@ -1,5 +1,5 @@
-//! Trays: letters and ends of any kind, what turns one back, its slips, and what is asked of one slip or of a pair.
-use crate::{refusal, row, unless, Refusal, MAX_LEAST, MAX_LETTERS, MAX_SLIP, MAX_SLIPS, SIGNS};
+//! Trays: letters, ends and sides of any kind, what turns one back, its slips, and what is asked of one slip or of a pair.
+use crate::{refusal, row, unless, Refusal, BLANK, MAX_LEAST, MAX_LETTERS, MAX_SLIP, MAX_SLIPS, SIDES, SIGNS};
 
 /// A tray as it is lent. Slip 1 runs from the start to the first end, each other from the end before it to its own.
 #[derive(Clone, Debug, Default, PartialEq, Eq)]
@@ -8,6 +8,17 @@ pub struct Tray {
     pub letters: Vec<u8>,
     /// For each slip its end, any number.
     pub ends: Vec<u16>,
+    /// For each slip its side, any byte; there may be more or fewer than slips.
+    pub sides: Vec<u8>,
+}
+
+/// A slip of an accepted tray. Equal slips have equal letters and are of equal side.
+#[derive(Clone, Copy, Debug, PartialEq, Eq)]
+pub struct Slip<'a> {
+    /// The side.
+    pub side: u8,
+    /// The letters.
+    pub letters: &'a [u8],
 }
 
 /// The longest string that ends `a` and begins `b`. It may be a whole slip, and may be empty.
@@ -20,8 +31,8 @@ pub fn longest_shared<'a>(a: &[u8], b: &'a [u8]) -> &'a [u8] {
     &b[..length]
 }
 
-/// The overlap of `a` with `b`, counted: the longest string that ends `a` and begins `b`, unless it has under `least` letters
-/// or is full stops alone.
+/// The overlap of `a` with `b`, two slips of one side, counted: the longest string that ends `a` and begins `b`, unless it has
+/// under `least` letters or is full stops alone.
 pub fn overlap(a: &[u8], b: &[u8], least: usize) -> usize {
     let shared = longest_shared(a, b);
     let too_short = shared.len() < least;
@@ -33,20 +44,59 @@ pub fn overlap(a: &[u8], b: &[u8], least: usize) -> usize {
     }
 }
 
+impl<'a> Slip<'a> {
+    /// The slip of this side with these letters.
+    fn of<S: AsRef<[u8]>>(side: u8, letters: &'a S) -> Slip<'a> {
+        let letters = letters.as_ref();
+        Slip { side, letters }
+    }
+
+    /// The overlap with a slip to the right, counted: none where the sides differ.
+    pub fn overlap(&self, right: &Slip, least: usize) -> usize {
+        match self.side == right.side {
+            true => overlap(self.letters, right.letters, least),
+            false => 0,
+        }
+    }
+}
+
 /// Row 21: a least overlap that is 0, or more than it may be.
 pub fn least_fault(least: usize) -> Option<Refusal> {
     row(21, least == 0 || least > MAX_LEAST)
 }
 
-impl Tray {
-    /// The tray of these slips.
-    pub fn of<S: AsRef<[u8]>>(slips: &[S]) -> Tray {
+/// Row 22 of the side named: it is none of the three.
+pub fn side_fault(side: u8) -> Option<Refusal> {
+    row(22, !SIDES.contains(&side))
+}
+
+impl<'a> FromIterator<Slip<'a>> for Tray {
+    fn from_iter<I: IntoIterator<Item = Slip<'a>>>(slips: I) -> Tray {
         let mut tray = Tray::default();
         for slip in slips {
-            tray.letters.extend_from_slice(slip.as_ref());
+            tray.letters.extend_from_slice(slip.letters);
             tray.ends.push(tray.letters.len() as u16);
+            tray.sides.push(slip.side);
         }
         tray
+    }
+}
+
+impl Tray {
+    /// The tray of these slips, all of them blank.
+    pub fn of<S: AsRef<[u8]>>(slips: &[S]) -> Tray {
+        slips.iter().map(|slip| Slip::of(BLANK, slip)).collect()
+    }
+
+    /// The tray of these slips, each with its side before it.
+    pub fn sided<S: AsRef<[u8]>>(slips: &[(u8, S)]) -> Tray {
+        slips.iter().map(|(side, slip)| Slip::of(*side, slip)).collect()
+    }
+
+    /// The tray of these letters and ends, all slips of it blank.
+    pub fn all_blank(letters: Vec<u8>, ends: Vec<u16>) -> Tray {
+        let sides = vec![BLANK; ends.len()];
+        Tray { letters, ends, sides }
     }
 
     /// Where each slip starts and ends, as the ends say.
@@ -72,10 +122,24 @@ impl Tray {
             .or_else(|| lowest(6, &|start, end| self.letters[start..end].iter().any(outside)))
     }
 
-    /// The slips of an accepted tray; slip 1 stands first.
+    /// Rows 1 to 6, and then row 22 of the list: it has a side more or fewer than there are slips, or one that is none of the
+    /// three.
+    pub fn sided_fault(&self) -> Option<Refusal> {
+        let unfit = self.sides.len() != self.ends.len();
+        let outside = |side: &u8| !SIDES.contains(side);
+        self.fault().or(row(22, unfit || self.sides.iter().any(outside)))
+    }
+
+    /// The letters of the slips of a tray that rows 1 to 6 accept; slip 1 stands first.
     pub fn slips(&self) -> Vec<&[u8]> {
         let part = |(start, end): (usize, usize)| &self.letters[start..end];
         self.spans().into_iter().map(part).collect()
+    }
+
+    /// The slips of an accepted tray with their sides; slip 1 stands first.
+    pub fn sided_slips(&self) -> Vec<Slip<'_>> {
+        let all = self.sides.iter().zip(self.slips());
+        all.map(|(&side, letters)| Slip { side, letters }).collect()
     }
 
     /// Row 10: the first of these slip numbers that is 0 or above the count.
@@ -84,21 +148,21 @@ impl Tray {
         bad.map(|&i| refusal(10, i))
     }
 
-    /// The letters of one slip.
+    /// The letters of one slip. No sides are asked for.
     pub fn slip(&self, i: usize) -> Result<&[u8], Refusal> {
         unless(self.fault())?;
         unless(self.request_fault(&[i]))?;
         Ok(self.slips()[i - 1])
     }
 
-    /// The overlap of slips i and j, of which a shorter one than `least` counts as empty. Row 21 comes before those of the
-    /// tray.
+    /// The overlap of slips i and j, of which a shorter one than `least` counts as empty; none where their sides differ. Row 21
+    /// comes before those of the tray, and 22 after them. No side is named.
     pub fn pair(&self, i: usize, j: usize, least: usize) -> Result<usize, Refusal> {
         unless(least_fault(least))?;
-        unless(self.fault())?;
+        unless(self.sided_fault())?;
         unless(self.request_fault(&[i, j]))?;
         unless((i == j).then_some(refusal(11, i)))?;
-        let slips = self.slips();
-        Ok(overlap(slips[i - 1], slips[j - 1], least))
+        let slips = self.sided_slips();
+        Ok(slips[i - 1].overlap(&slips[j - 1], least))
     }
 }

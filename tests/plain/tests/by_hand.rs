@@ -13,14 +13,14 @@ use plain::made::{valid, Chance};
 use plain::refusal;
 use plain::sheet::{compose_sheet, find_sheet};
 use plain::tray::{overlap, Tray};
-use plain::{MAX_SLIP, ONE_LETTER};
+use plain::{BLANK, MAX_SLIP, ONE_LETTER, USUAL};
 use std::collections::BTreeSet;
 
 #[test]
 fn specimen_trays() {
     for case in SPECIMENS {
         let (name, tray) = (case.name, Tray::of(case.slips));
-        let made = compose(&tray.slips(), ONE_LETTER);
+        let made = compose(&tray, USUAL);
         assert_eq!(made.legend, case.legend.as_bytes(), "{name}");
         let joins: Vec<_> = made.joins.iter().map(|x| (x.left, x.right, x.overlap)).collect();
         assert_eq!(joins, case.joins, "{name}");
@@ -31,6 +31,9 @@ fn specimen_trays() {
             .map(|x| (x.place, mark(x.kept), x.compared))
             .collect();
         assert_eq!(places, case.places, "{name}");
+        let numbers: Vec<_> = made.places.iter().map(|x| (x.slip, x.side)).collect();
+        let all_blank: Vec<_> = (1..=case.slips.len()).map(|slip| (slip, BLANK)).collect();
+        assert_eq!(numbers, all_blank, "{name}");
         assert_eq!(made.kept_letters, made.saved() + case.legend.len(), "{name}");
     }
 }
@@ -67,7 +70,7 @@ fn folded_letters() {
     for (typed, expected) in FILED {
         assert_eq!(filed(typed), *expected, "{typed:?}");
         let file = tray_file(&[b"AVG", *typed]);
-        let tray = read_tray(&file, 16_384, 1_700);
+        let tray = read_tray(&file, 16_384, 1_700, 1_700);
         assert_eq!(tray, Ok(Tray::of(&[b"AVG", *expected])), "{typed:?}");
     }
 }
@@ -116,7 +119,7 @@ fn lent_letters_are_not_folded() {
     let (tray, text) = (Tray::of(&["AVG", "AUG"]), b"AVGavg");
     assert_eq!(find_slips(&tray, text, 32_000, 9), Err(refusal(13, 4)));
     assert_eq!(tray.pair(1, 2, ONE_LETTER), Ok(0));
-    assert_eq!(compose(&tray.slips(), ONE_LETTER).legend, b"AVGAUG");
+    assert_eq!(compose(&tray, USUAL).legend, b"AVGAUG");
 }
 
 /// The rows of the edge trays, and all bytes as signs.

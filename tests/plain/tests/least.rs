@@ -11,7 +11,7 @@ use plain::made::stops::many_stops;
 use plain::made::{valid, Chance};
 use plain::shortest::{order_legend, shortest_legend};
 use plain::tray::{longest_shared, overlap, Tray};
-use plain::{refusal, MAX_LEAST, MAX_SLIP, ONE_LETTER};
+use plain::{refusal, Settings, BLANK, MAX_LEAST, MAX_SLIP, ONE_LETTER, USUAL};
 
 const AMPLE: Rooms = Rooms {
     work: 32_000,
@@ -28,7 +28,7 @@ fn joins(made: &Composition) -> Vec<(usize, usize, usize)> {
 fn trays_by_hand() {
     for case in JOINED {
         let name = case.name;
-        let made = compose_tray(&Tray::of(case.slips), case.least, AMPLE).expect(name);
+        let made = compose_tray(&Tray::of(case.slips), Settings::blank(case.least), AMPLE).expect(name);
         assert_eq!(made.legend, case.legend.as_bytes(), "{name}");
         assert_eq!(joins(&made), case.joins, "{name}");
         assert_eq!(made.places.len(), case.places.len(), "{name}");
@@ -45,7 +45,7 @@ fn trays_by_hand() {
 fn die_groups_by_hand() {
     for (least, case) in DIE_GROUPS {
         let (name, tray, letters) = (case.name, Tray::of(case.slips), case.legend.len());
-        let made = shortest_legend(&tray, *least, 32_000, letters).expect(name);
+        let made = shortest_legend(&tray, Settings::blank(*least), 32_000, letters).expect(name);
         assert_eq!(made.order, case.order, "{name}");
         assert_eq!(made.legend, case.legend.as_bytes(), "{name}");
     }
@@ -67,14 +67,15 @@ fn pairs_by_hand() {
 fn long_slips() {
     let (case, ten) = (long(), longest());
     let (tray, n) = (Tray::of(&case.slips), case.letters);
-    let made = compose(&tray.slips(), n - 1);
+    let made = compose(&tray, Settings::blank(n - 1));
     assert_eq!((joins(&made), made.legend), (vec![(1, 2, n - 1)], case.text));
-    let made = compose(&tray.slips(), n);
+    let made = compose(&tray, Settings::blank(n));
     assert_eq!((joins(&made), made.legend), (vec![], case.slips.concat()));
     assert_eq!((tray.pair(1, 2, n - 1), tray.pair(1, 2, n)), (Ok(n - 1), Ok(0)));
     let equal = Tray::of(&[&case.slips[0], &case.slips[0]]);
     assert_eq!(equal.pair(1, 2, n), Ok(n));
-    let seek = |least| shortest_legend(&Tray::of(&ten.slips), least, 32_000, 2_000).expect("ten slips");
+    let ten_slips = Tray::of(&ten.slips);
+    let seek = |least| shortest_legend(&ten_slips, Settings::blank(least), 32_000, 2_000).expect("ten slips");
     let made = seek(n - 1);
     assert_eq!((made.order, made.legend), (ten.order, ten.legend));
     let made = seek(n);
@@ -94,12 +95,10 @@ fn refused_by_21() {
             places: 0,
         };
         for least in REFUSED.into_iter().chain(WIDE) {
-            assert_eq!(compose_tray(tray, least, rooms), Err(expected), "{name}");
-            assert_eq!(
-                shortest_legend(tray, least, case.work, case.room),
-                Err(expected),
-                "{name}"
-            );
+            let settings = Settings::blank(least);
+            assert_eq!(compose_tray(tray, settings, rooms), Err(expected), "{name}");
+            let told = shortest_legend(tray, settings, case.work, case.room);
+            assert_eq!(told, Err(expected), "{name}");
             for (left, right) in [(1, 2), (0, 0), (1, 1), (1, 300)] {
                 assert_eq!(tray.pair(left, right, least), Err(expected), "{name}");
             }
@@ -112,15 +111,16 @@ fn refused_by_21() {
 fn other_rows() {
     for case in all_turned().into_iter().filter(|case| case.number != 8) {
         for least in [2, 5, MAX_LEAST] {
-            let told = shortest_legend(&case.tray, least, case.work, case.room);
+            let told = shortest_legend(&case.tray, Settings::blank(least), case.work, case.room);
             assert_eq!(told, Err(refusal(case.number, case.detail)), "{}", case.name);
         }
     }
     let tray = Tray::of(COMPOSE.slips);
     for &(least, room, need) in SHORT_ROOMS {
         let rooms = Rooms { legend: room, ..AMPLE };
-        assert_eq!(compose_tray(&tray, least, rooms), Err(refusal(8, need)), "{least}");
-        let told = shortest_legend(&tray, least, 32_000, room);
+        let settings = Settings::blank(least);
+        assert_eq!(compose_tray(&tray, settings, rooms), Err(refusal(8, need)), "{least}");
+        let told = shortest_legend(&tray, settings, 32_000, room);
         assert_eq!(told, Err(refusal(8, need)), "{least}");
     }
 }
@@ -131,7 +131,7 @@ fn other_rows() {
 fn one_letter_is_needed() {
     let (tray, text) = (Tray::of(&["AB", "BC"]), b"ABC");
     let bound = |made: &Composition| text.len() + 2 * made.saved();
-    let (one, two) = (compose(&tray.slips(), 1), compose(&tray.slips(), 2));
+    let (one, two) = (compose(&tray, Settings::blank(1)), compose(&tray, Settings::blank(2)));
     assert!(tray
         .slips()
         .iter()
@@ -139,7 +139,7 @@ fn one_letter_is_needed() {
     assert_eq!((one.kept_letters, bound(&one)), (4, 5));
     assert_eq!((two.kept_letters, bound(&two)), (4, 3));
     let letters = |least| {
-        shortest_legend(&tray, least, 32_000, 2_000)
+        shortest_legend(&tray, Settings::blank(least), 32_000, 2_000)
             .expect("two slips")
             .legend
             .len()
@@ -182,10 +182,9 @@ fn joins_of_one_letter_that_are_long_enough() {
     let (mut chance, mut fewer, mut some) = (Chance::new(54), 0, 0);
     for n in 0..3_000 {
         let tray = tray(&mut chance, n);
-        let slips = tray.slips();
-        let at_one = compose(&slips, ONE_LETTER);
+        let at_one = compose(&tray, USUAL);
         let least = chance.one(&[2, 3, 5, 8, MAX_LEAST]);
-        let made = compose(&slips, least);
+        let made = compose(&tray, Settings::blank(least));
         let enough: Vec<_> = joins(&at_one).into_iter().filter(|x| x.2 >= least).collect();
         assert_eq!(joins(&made), enough);
         let kept = |made: &Composition| made.places.iter().map(|x| x.kept).collect::<Vec<bool>>();
@@ -209,17 +208,16 @@ fn shortest_legends() {
             k => die_group(&mut chance, [FEW, FEW_AND_STOP][k - 1], 6),
         };
         let tray = Tray::of(&all);
-        let slips = tray.slips();
-        let seek = |least| shortest_legend(&tray, least, 32_000, 2_000).expect("few kept slips");
+        let seek = |least| shortest_legend(&tray, Settings::blank(least), 32_000, 2_000).expect("few kept slips");
         let mut before = seek(ONE_LETTER);
         for least in [2, 3, 5] {
             let made = seek(least);
-            assert!(made.legend.len() <= compose(&slips, least).legend.len());
+            assert!(made.legend.len() <= compose(&tray, Settings::blank(least)).legend.len());
             assert!(made.legend.len() >= before.legend.len());
-            assert_eq!(made.legend, order_legend(&slips, least, &made.order));
+            assert_eq!(made.legend, order_legend(&tray, least, &made.order));
             let mut ascending = made.order.clone();
             ascending.sort_unstable();
-            assert_eq!(ascending, kept_slips(&slips));
+            assert_eq!(ascending, kept_slips(&tray, BLANK));
             longer += usize::from(made.legend.len() > before.legend.len());
             turned += usize::from(made.order != before.order);
             before = made;
@@ -235,19 +233,23 @@ fn many_cases() {
     let (mut refused, mut fewer, mut none, mut turned, mut pairs) = (0, 0, 0, 0, 0);
     for case in cases::all() {
         match case {
-            Case::Compose(_, least, _) | Case::Shortest(_, least, ..) | Case::Ask(_, least, ..)
+            Case::Compose(_, Settings { least, .. }, _)
+            | Case::Shortest(_, Settings { least, .. }, ..)
+            | Case::Ask(_, least, ..)
                 if least == 0 || least > MAX_LEAST =>
             {
                 refused += 1
             }
-            Case::Compose(tray, least, _) if least > 1 && tray.fault().is_none() => {
-                let (made, at_one) = (compose(&tray.slips(), least), compose(&tray.slips(), 1));
+            Case::Compose(tray, settings, _) if settings.least > 1 && tray.sided_fault().is_none() => {
+                let at_one = Settings { least: 1, ..settings };
+                let (made, at_one) = (compose(&tray, settings), compose(&tray, at_one));
                 fewer += usize::from(made.joins.len() < at_one.joins.len() && !made.joins.is_empty());
                 none += usize::from(made.joins.is_empty() && !at_one.joins.is_empty());
             }
-            Case::Shortest(tray, least, work, _) if least > 1 && work >= 32_000 => {
-                let order = |least| shortest_legend(&tray, least, 32_000, 2_000).map(|made| made.order);
-                turned += usize::from(order(least) != order(1));
+            Case::Shortest(tray, settings, work, _) if settings.least > 1 && work >= 32_000 => {
+                let at_one = Settings { least: 1, ..settings };
+                let order = |settings| shortest_legend(&tray, settings, 32_000, 2_000).map(|made| made.order);
+                turned += usize::from(order(settings) != order(at_one));
             }
             Case::Ask(tray, least, left, right) if least > 1 => {
                 pairs += usize::from(tray.pair(left, right, least) != tray.pair(left, right, 1));

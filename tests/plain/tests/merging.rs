@@ -6,17 +6,17 @@ use plain::made::campaigns::{any_two, Met};
 use plain::made::{Chance, Slips};
 use plain::merge::{long_tray, merge_trays};
 use plain::tray::Tray;
-use plain::{refusal, MAX_LETTERS, MAX_SLIPS, ONE_LETTER};
+use plain::{refusal, Settings, BLANK, MAX_LETTERS, MAX_SLIPS, USUAL};
 
 fn merged(first: &Tray, second: &Tray) -> Result<Tray, plain::Refusal> {
-    merge_trays(first, second, MAX_LETTERS, MAX_SLIPS)
+    merge_trays(first, second, MAX_LETTERS, MAX_SLIPS, MAX_SLIPS)
 }
 
 #[test]
 fn trays_by_hand() {
     for case in merging::all() {
         let [letters, ends] = case.lent;
-        let told = merge_trays(&case.first, &case.second, letters, ends);
+        let told = merge_trays(&case.first, &case.second, letters, ends, 200);
         let expected = case.told.map_err(|(number, detail)| refusal(number, detail));
         assert_eq!(told, expected, "{}", case.name);
     }
@@ -38,7 +38,7 @@ fn legends_by_hand() {
         let (first, second) = (Tray::of(first), Tray::of(second));
         let outcome = merged(&first, &second).expect("an accepted outcome");
         for tray in [outcome, long_tray(&first, &second)] {
-            let text = compose(&tray.slips(), ONE_LETTER).legend;
+            let text = compose(&tray, USUAL).legend;
             assert_eq!(text, legend.as_bytes());
         }
     }
@@ -94,12 +94,13 @@ fn legend_of_the_long_tray() {
         accepted += 1;
         let kept = |tray: &Tray| -> Slips {
             let slips = tray.slips();
-            kept_slips(&slips).iter().map(|&i| slips[i - 1].to_vec()).collect()
+            kept_slips(tray, BLANK).iter().map(|&i| slips[i - 1].to_vec()).collect()
         };
         assert_eq!(kept(&outcome), kept(&long));
         for (least, count) in [1, 2, 5].into_iter().zip(&mut joined) {
-            let made = compose(&outcome.slips(), least);
-            assert_eq!(made.legend, compose(&long.slips(), least).legend);
+            let settings = Settings::blank(least);
+            let made = compose(&outcome, settings);
+            assert_eq!(made.legend, compose(&long, settings).legend);
             *count += usize::from(!made.joins.is_empty());
         }
     }
@@ -116,18 +117,20 @@ fn legend_of_the_long_tray() {
 #[test]
 fn many_cases() {
     let (mut met, mut count) = (Met::default(), 0);
-    let (mut refused, mut outcomes, mut lent) = ([[0; 7]; 2], [0; 7], [0; 4]);
+    let (mut refused, mut outcomes, mut lent) = ([[0; 23]; 2], [0; 23], [0; 4]);
     for case in cases::all() {
-        let Case::Merge(first, second, letters, ends) = case else {
+        let Case::Merge(first, second, room) = case else {
             continue;
         };
         count += 1;
-        let short = [letters < MAX_LETTERS, ends < MAX_SLIPS];
+        let short = [room.letters < MAX_LETTERS, room.ends < MAX_SLIPS];
         if let [true, _] | [_, true] = short {
             lent[usize::from(short[0]) + 2 * usize::from(short[1])] += 1;
-        } else if let Some(fault) = first.fault() {
+        } else if room.sides < MAX_SLIPS {
+            lent[0] += 1;
+        } else if let Some(fault) = first.sided_fault() {
             refused[0][fault.number] += 1;
-        } else if let Some(fault) = second.fault() {
+        } else if let Some(fault) = second.sided_fault() {
             refused[1][fault.number] += 1;
         } else {
             met.count(&first, &second);
@@ -136,8 +139,8 @@ fn many_cases() {
     }
     assert!(count > 3_000, "{count}");
     met.assert_all_from(200);
-    assert!(lent[1..].iter().all(|&n| n > 30), "too little lent: {lent:?}");
-    let all = |counts: &[usize; 7]| counts[1..].iter().all(|&n| n > 10);
+    assert!(lent.iter().all(|&n| n > 30), "too little lent: {lent:?}");
+    let all = |counts: &[usize; 23]| [1, 2, 3, 4, 5, 6, 22].iter().all(|&row| counts[row] > 10);
     assert!(refused.iter().all(all), "first and second trays refused: {refused:?}");
     assert!(
         outcomes[0] > 2_000 && outcomes[1] > 30 && outcomes[4] > 30,

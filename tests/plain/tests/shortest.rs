@@ -8,7 +8,7 @@ use plain::made::stops::share_stops_alone;
 use plain::made::Chance;
 use plain::shortest::{order_legend, shortest_legend, Shortest};
 use plain::tray::Tray;
-use plain::{refusal, ONE_LETTER};
+use plain::{refusal, Settings, BLANK, USUAL};
 
 #[test]
 fn die_groups() {
@@ -19,11 +19,11 @@ fn die_groups() {
             legend: case.legend.into(),
         };
         for room in [letters, 2_000] {
-            let made = shortest_legend(&tray, ONE_LETTER, 32_000, room);
+            let made = shortest_legend(&tray, USUAL, 32_000, room);
             assert_eq!(made, Ok(expected.clone()), "{name}");
         }
         if letters > 0 {
-            let short = shortest_legend(&tray, ONE_LETTER, 32_000, letters - 1);
+            let short = shortest_legend(&tray, USUAL, 32_000, letters - 1);
             assert_eq!(short, Err(refusal(8, letters)), "{name}");
         }
     }
@@ -32,14 +32,14 @@ fn die_groups() {
 #[test]
 fn the_longest_slips() {
     let case = longest();
-    let made = shortest_legend(&Tray::of(&case.slips), ONE_LETTER, 32_000, 2_000).expect("ten slips");
+    let made = shortest_legend(&Tray::of(&case.slips), USUAL, 32_000, 2_000).expect("ten slips");
     assert_eq!((made.order, made.legend), (case.order, case.legend));
 }
 
 #[test]
 fn turned_back() {
     for case in all_turned() {
-        let told = shortest_legend(&case.tray, ONE_LETTER, case.work, case.room);
+        let told = shortest_legend(&case.tray, USUAL, case.work, case.room);
         assert_eq!(told, Err(refusal(case.number, case.detail)), "{}", case.name);
     }
 }
@@ -68,13 +68,12 @@ fn all_orders_laid() {
             all = with_aside(&mut chance, all, 10);
         }
         let tray = Tray::of(&all);
-        let slips = tray.slips();
-        let laid = orders(&kept_slips(&slips)).into_iter();
+        let laid = orders(&kept_slips(&tray, BLANK)).into_iter();
         let all: Vec<_> = laid
-            .map(|order| (order_legend(&slips, least, &order).len(), order))
+            .map(|order| (order_legend(&tray, least, &order).len(), order))
             .collect();
         let (letters, order) = all.iter().min().expect("there is an order");
-        let made = shortest_legend(&tray, least, 32_000, 2_000).expect("few kept slips");
+        let made = shortest_legend(&tray, Settings::blank(least), 32_000, 2_000).expect("few kept slips");
         assert_eq!((made.legend.len(), &made.order), (*letters, order));
         ties += usize::from(all.iter().filter(|x| x.0 == *letters).count() > 1);
         stops += usize::from(share_stops_alone(&tray));
@@ -93,8 +92,8 @@ fn no_text_is_shorter() {
         let (text, all) = stretches(&mut chance, signs, [3, 5, 7][n / 3 % 3]);
         let tray = Tray::of(&all);
         let slips = tray.slips();
-        let composed = compose(&slips, ONE_LETTER).legend.len();
-        let made = shortest_legend(&tray, ONE_LETTER, 32_000, 2_000).expect("few kept slips");
+        let composed = compose(&tray, USUAL).legend.len();
+        let made = shortest_legend(&tray, USUAL, 32_000, 2_000).expect("few kept slips");
         let found = occurrences(&slips, &made.legend);
         assert!((1..=slips.len()).all(|i| found.iter().any(|x| x.slip == i)));
         let letters = made.legend.len();
@@ -125,21 +124,20 @@ fn no_text_is_shorter() {
 fn many_cases() {
     let (mut few, mut many, mut aside, mut shorter, mut short_room) = (0, 0, 0, 0, 0);
     for case in cases::all() {
-        let Case::Shortest(tray, ONE_LETTER, work, room) = case else {
+        let Case::Shortest(tray, USUAL, work, room) = case else {
             continue;
         };
-        if tray.fault().is_some() || work < 32_000 {
+        if tray.sided_fault().is_some() || work < 32_000 {
             continue;
         }
-        let slips = tray.slips();
-        let kept = kept_slips(&slips);
-        aside += usize::from(kept.len() < slips.len());
+        let kept = kept_slips(&tray, BLANK);
+        aside += usize::from(kept.len() < tray.slips().len());
         many += usize::from(kept.len() > 10);
         if kept.len() <= 7 {
             few += 1;
-            let made = shortest_legend(&tray, ONE_LETTER, 32_000, 2_000).expect("few kept slips");
+            let made = shortest_legend(&tray, USUAL, 32_000, 2_000).expect("few kept slips");
             let need = made.legend.len();
-            shorter += usize::from(need < compose(&slips, ONE_LETTER).legend.len());
+            shorter += usize::from(need < compose(&tray, USUAL).legend.len());
             short_room += usize::from(room + 1 == need);
         }
     }

@@ -169,7 +169,7 @@ fn numbered(numbers: Range<u8>, letters: usize) -> Vec<String> {
 }
 
 /// The tray of these numbered slips.
-fn run(numbers: Range<u8>, letters: usize) -> Tray {
+pub(super) fn run(numbers: Range<u8>, letters: usize) -> Tray {
     Tray::of(&numbered(numbers, letters))
 }
 
@@ -283,10 +283,7 @@ fn too_little_lent() -> Vec<Merged> {
 
 /// Two trays each, and what is told.
 pub fn all() -> Vec<Merged> {
-    let outcome = |case: &Small| Tray {
-        letters: case.letters.into(),
-        ends: case.ends.to_vec(),
-    };
+    let outcome = |case: &Small| Tray::all_blank(case.letters.into(), case.ends.to_vec());
     let small = |case: &Small| {
         let (first, second) = (Tray::of(case.first), Tray::of(case.second));
         merged(case.name, &first, &second, Ok(outcome(case)))

@@ -1,12 +1,12 @@
 //! What `trials` must print of a case, by the plain program.
-use super::{Lending, MARK_BYTE, MARK_CELL, MARK_NUMBER, WHOLE_LIST};
-use crate::compose::{self, compose_tray, Composition, Rooms};
+use super::{Lending, TrayRoom, MARK_BYTE, MARK_CELL, MARK_NUMBER, WHOLE_LIST};
+use crate::compose::{self, compose_tray, Composition, Place, Rooms};
 use crate::file::read_tray;
 use crate::find::{self, find_slips, Finding};
 use crate::merge::merge_trays;
 use crate::shortest::shortest_legend;
 use crate::tray::Tray;
-use crate::{Refusal, FOUND_CELLS, JOIN_CELLS, MAX_SHORTEST, PLACE_CELLS};
+use crate::{Refusal, Settings, FOUND_CELLS, JOIN_CELLS, MAX_SHORTEST, PLACE_CELLS};
 
 /// Small trays have all their slips and pairs asked for.
 const SMALL: usize = 12;
@@ -46,12 +46,12 @@ fn work_sum(fault: Option<Refusal>, work: usize) -> String {
     }
 }
 
-fn composed(outcome: &Result<Composition, Refusal>, slips: usize) -> String {
+fn composed(outcome: &Result<Composition, Refusal>) -> String {
     match outcome {
         Err(refusal) => line(&[refusal.number, refusal.detail, 0, 0, 0, 0, 0, 0]),
         Ok(made) => {
             let counts = [made.kept_letters, made.saved(), made.legend.len(), made.joins.len()];
-            line(&[0, 0, slips, made.kept()]) + &line(&counts)
+            line(&[0, 0, made.places.len(), made.kept()]) + &line(&counts)
         }
     }
 }
@@ -60,26 +60,21 @@ fn bytes(letters: &[u8]) -> Vec<usize> {
     letters.iter().map(|&x| usize::from(x)).collect()
 }
 
-/// The numbers of a record of places: a list of numbers has them without the slip.
-const RECORD: usize = 1 + PLACE_CELLS;
+/// What the numbers of a lent record of places are before the call: no slip is kept.
+const RECORD_MARKS: [usize; PLACE_CELLS] = [MARK_CELL, MARK_CELL, 0, MARK_CELL, MARK_BYTE];
 
-/// The sums of legend, joins and places; of each place the last `width` numbers of its record are told.
-fn list_sums(made: &Composition, rooms: [usize; 3], width: usize) -> String {
+/// The sums of legend, joins and places, where each lent number of places has such a mark before the call.
+fn list_sums(made: &Composition, rooms: [usize; 3], marks: &[usize]) -> String {
     let joins: Vec<usize> = made.joins.iter().flat_map(|x| [x.left, x.right, x.overlap]).collect();
-    let record = |(i, x): (usize, &compose::Place)| [i + 1, x.place, usize::from(x.kept), x.compared];
-    let records = made.places.iter().enumerate().map(record);
-    let places: Vec<usize> = records.flat_map(|x| x[RECORD - width..].to_vec()).collect();
-    let marks: &[usize] = match width {
-        RECORD => &[MARK_CELL, MARK_CELL, 0, MARK_CELL],
-        _ => &[MARK_CELL],
-    };
+    let record = |x: &Place| [x.slip, x.place, usize::from(x.kept), x.compared, usize::from(x.side)];
+    let places: Vec<usize> = made.places.iter().flat_map(record).collect();
     let legend = Sum::over(&bytes(&made.legend), &[MARK_BYTE], rooms[0]);
     let joins = Sum::over(&joins, &[MARK_CELL], rooms[1]);
     format!(" {legend} {joins} {}", Sum::over(&places, marks, rooms[2]))
 }
 
 /// Composing with lists of numbers; with lists of records too, where [`Lending::has_records`].
-pub fn compose(tray: &Tray, least: usize, lent: &Lending) -> String {
+pub fn compose(tray: &Tray, settings: Settings, lent: &Lending) -> String {
     let [work, legend, joins, places] = lent.numbers;
     let rooms = Rooms {
         work,
@@ -87,27 +82,27 @@ pub fn compose(tray: &Tray, least: usize, lent: &Lending) -> String {
         joins: joins / JOIN_CELLS,
         places: places / PLACE_CELLS,
     };
-    let outcome = compose_tray(tray, least, rooms);
-    let fault = work_sum(compose::fault_before_c(tray, least, work), work);
-    let answer = composed(&outcome, tray.ends.len());
+    let outcome = compose_tray(tray, settings, rooms);
+    let fault = work_sum(compose::fault_before_c(tray, settings, work), work);
+    let answer = composed(&outcome);
     let made = outcome.unwrap_or_default();
     let text: String = made.legend.iter().copied().map(char::from).collect();
-    let flat = list_sums(&made, [legend, joins, places], PLACE_CELLS);
+    let flat = list_sums(&made, [legend, joins, places], &[MARK_CELL]);
     let mut told = format!("C{answer} [{text}]{flat}{fault}");
     if lent.has_records() {
-        let records = list_sums(&made, [legend, joins, RECORD * rooms.places], RECORD);
+        let records = list_sums(&made, [legend, joins, places], &RECORD_MARKS);
         told += &format!(" R{answer}{records}{fault}");
     }
     if tray.ends.len() <= SMALL {
-        told += &small(tray, least);
+        told += &small(tray, settings.least);
     }
     told
 }
 
 /// The shortest legend: its letters, how many slips are laid, and ten numbers, those past the count 0.
-pub fn shortest(tray: &Tray, least: usize, work: usize, room: usize) -> String {
-    let fault = work_sum(compose::fault_before_c(tray, least, work), work);
-    let outcome = shortest_legend(tray, least, work, room);
+pub fn shortest(tray: &Tray, settings: Settings, work: usize, room: usize) -> String {
+    let fault = work_sum(compose::fault_before_c(tray, settings, work), work);
+    let outcome = shortest_legend(tray, settings, work, room);
     let refused = match &outcome {
         Err(refusal) => [refusal.number, refusal.detail],
         Ok(_) => [0, 0],
@@ -151,7 +146,7 @@ fn slip(tray: &Tray, i: usize) -> ([usize; 2], &[u8]) {
     }
 }
 
-/// Tray check, one slip, one pair.
+/// The tray check, one slip, one pair. The first two take no sides.
 pub fn ask(tray: &Tray, least: usize, left: usize, right: usize) -> String {
     let fault = tray.fault().map_or([0, 0], |x| [x.number, x.detail]);
     let (answer, letters) = slip(tray, left);
@@ -182,38 +177,36 @@ pub fn find(tray: &Tray, text: &[u8], work: usize, list: usize) -> String {
     format!("F{flat} R{}", told(records, FOUND_CELLS * records, &marks))
 }
 
-/// A tray written into this many letters and ends: the answer, and the sums of both.
-fn written(outcome: Result<Tray, Refusal>, letters: usize, ends: usize) -> String {
+/// A tray written into what is lent: the answer, and the sums of letters, ends and sides.
+fn written(outcome: Result<Tray, Refusal>, room: TrayRoom) -> String {
     let answer = match &outcome {
         Ok(tray) => [0, 0, tray.letters.len(), tray.ends.len()],
         Err(refusal) => [refusal.number, refusal.detail, 0, 0],
     };
     let tray = outcome.unwrap_or_default();
     let tray_ends: Vec<usize> = tray.ends.iter().map(|&x| usize::from(x)).collect();
-    let letters = Sum::over(&bytes(&tray.letters), &[MARK_BYTE], letters);
-    let ends = Sum::over(&tray_ends, &[MARK_CELL], ends);
-    format!("{} {letters} {ends}", line(&answer))
+    let letters = Sum::over(&bytes(&tray.letters), &[MARK_BYTE], room.letters);
+    let ends = Sum::over(&tray_ends, &[MARK_CELL], room.ends);
+    let sides = Sum::over(&bytes(&tray.sides), &[MARK_BYTE], room.sides);
+    format!("{} {letters} {ends} {sides}", line(&answer))
 }
 
 /// Reading a tray file.
-pub fn read(file: &[u8], letters: usize, ends: usize) -> String {
-    let told = written(read_tray(file, letters, ends), letters, ends);
-    format!("T{told}")
+pub fn read(file: &[u8], room: TrayRoom) -> String {
+    let outcome = read_tray(file, room.letters, room.ends, room.sides);
+    format!("T{}", written(outcome, room))
 }
 
 /// Two trays merged.
-pub fn merge(first: &Tray, second: &Tray, letters: usize, ends: usize) -> String {
-    let told = written(merge_trays(first, second, letters, ends), letters, ends);
-    format!("M{told}")
+pub fn merge(first: &Tray, second: &Tray, room: TrayRoom) -> String {
+    let outcome = merge_trays(first, second, room.letters, room.ends, room.sides);
+    format!("M{}", written(outcome, room))
 }
 
 /// The bytes that are accepted as the one letter of a tray.
 pub fn signs() -> String {
     let one = |&byte: &u8| {
-        let tray = Tray {
-            letters: vec![byte],
-            ends: vec![1],
-        };
+        let tray = Tray::of(&[[byte]]);
         tray.fault().is_none()
     };
     let accepted: String = (0..=255).filter(one).map(char::from).collect();

@@ -1,12 +1,13 @@
-//! How bytes and trays stand in a line of cases: a sign as itself, any other byte as `%` and two hex digits, three or more
-//! equal ones with their count before, and a comma where a slip ends.
+//! How bytes and trays stand in a line of cases: a sign as itself, a blank as `_`, so that fields stay apart, any other byte as
+//! `%` and two hex digits, three or more equal ones with their count before, and a comma where a slip ends.
 use crate::tray::Tray;
 use crate::SIGNS;
 
 fn push_run(line: &mut String, byte: u8, times: usize) {
-    let one = match SIGNS.contains(&byte) {
-        true => char::from(byte).to_string(),
-        false => format!("%{byte:02X}"),
+    let one = match byte {
+        b' ' => "_".to_string(),
+        sign if SIGNS.contains(&sign) => char::from(sign).to_string(),
+        other => format!("%{other:02X}"),
     };
     match times {
         0..=2 => line.push_str(&one.repeat(times)),
@@ -14,7 +15,7 @@ fn push_run(line: &mut String, byte: u8, times: usize) {
     }
 }
 
-/// Bytes of any kind.
+/// Bytes of any kind: letters, texts, files, sides.
 pub fn bytes(all: &[u8]) -> String {
     let mut line = String::new();
     for run in all.chunk_by(|a, b| a == b) {
@@ -23,7 +24,7 @@ pub fn bytes(all: &[u8]) -> String {
     line
 }
 
-/// A tray of any kind: its letters with a comma at each end, or, where the ends fall or lie past the letters, its letters
+/// The letters and ends of a tray of any kind: its letters with a comma at each end, or, where the ends fall or lie past the letters, its letters
 /// and then its ends.
 pub fn tray(tray: &Tray) -> String {
     let ends: Vec<usize> = tray.ends.iter().map(|&end| usize::from(end)).collect();

@@ -57,14 +57,8 @@ fn ends(entry: &str) -> Vec<u16> {
 pub fn asked(row: &str) -> Option<Asked> {
     let (name, rest) = row.split_once(": ")?;
     let fields: Vec<&str> = rest.split(' ').collect();
-    let tray = Tray {
-        letters: letters(fields[2]),
-        ends: fields[3..]
-            .iter()
-            .filter(|x| !x.is_empty())
-            .flat_map(|x| ends(x))
-            .collect(),
-    };
+    let listed = fields[3..].iter().filter(|x| !x.is_empty());
+    let tray = Tray::all_blank(letters(fields[2]), listed.flat_map(|x| ends(x)).collect());
     Some(Asked {
         name: name.to_string(),
         left: number(fields[0]),

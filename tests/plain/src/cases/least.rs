@@ -9,9 +9,9 @@ use crate::by_hand::COMPOSE;
 use crate::made::damage::{damaged, DAMAGES};
 use crate::made::leasts::{about_least, any_least, many_lengths, LEASTS};
 use crate::made::stops::many_stops;
-use crate::made::{valid, Chance, Slips};
+use crate::made::{valid, Chance};
 use crate::tray::Tray;
-use crate::{MAX_SLIP, WORK_CELLS};
+use crate::{Settings, MAX_SLIP, PLACE_CELLS, WORK_CELLS};
 
 /// A heading.
 fn heading(text: &str) -> Case {
@@ -22,12 +22,12 @@ fn heading(text: &str) -> Case {
 pub fn specimens() -> Vec<Case> {
     let mut cases = vec![heading("A least overlap")];
     for case in JOINED {
-        let whole = Case::Compose(Tray::of(case.slips), case.least, WHOLE);
-        cases.extend(named(case.name, whole));
+        cases.extend(named(case.name, whole(case.least, Tray::of(case.slips))));
     }
     cases.push(heading("The shortest legend with a least overlap"));
     for (least, group) in DIE_GROUPS {
-        let exact = Case::Shortest(Tray::of(group.slips), *least, WORK_CELLS, group.legend.len());
+        let settings = Settings::blank(*least);
+        let exact = Case::Shortest(Tray::of(group.slips), settings, WORK_CELLS, group.legend.len());
         cases.extend(named(group.name, exact));
     }
     cases.push(heading("Pairs with a least overlap"));
@@ -46,7 +46,7 @@ fn long_slips() -> Vec<Case> {
     let (two, ten) = (long(), longest().slips);
     let equal = Tray::of(&[&two.slips[0], &two.slips[0]]);
     for least in [two.letters - 1, two.letters] {
-        cases.push(Case::Compose(Tray::of(&two.slips), least, WHOLE));
+        cases.push(whole(least, Tray::of(&two.slips)));
         cases.push(shortest::whole(&two.slips.to_vec(), least));
         cases.push(shortest::whole(&ten, least));
         cases.push(Case::Ask(Tray::of(&two.slips), least, 1, 2));
@@ -60,45 +60,49 @@ fn refused() -> Vec<Case> {
     let sample = Tray::of(COMPOSE.slips);
     let mut cases = vec![heading("Letters needed with a least overlap")];
     for &(least, room, _) in SHORT_ROOMS {
-        cases.push(Case::Compose(
-            sample.clone(),
-            least,
-            lending(WORK_CELLS, room, JOINS, PLACES),
-        ));
-        cases.push(Case::Shortest(sample.clone(), least, WORK_CELLS, room));
+        let settings = Settings::blank(least);
+        let rooms = lending(WORK_CELLS, room, JOINS, PLACES);
+        cases.push(Case::Compose(sample.clone(), settings, rooms));
+        cases.push(Case::Shortest(sample.clone(), settings, WORK_CELLS, room));
     }
     for least in REFUSED {
         cases.push(heading(&format!("The least overlap {least}")));
         for case in refused_first() {
             let (tray, work, room) = (case.tray, case.work, case.room);
+            let settings = Settings::blank(least);
             cases.extend(named(
                 case.name,
-                Case::Compose(tray.clone(), least, lending(work, room, 0, 0)),
+                Case::Compose(tray.clone(), settings, lending(work, room, 0, 0)),
             ));
-            cases.push(Case::Shortest(tray.clone(), least, work, room));
+            cases.push(Case::Shortest(tray.clone(), settings, work, room));
             cases.push(Case::Ask(tray, least, 1, 1));
         }
         // Lists of records too.
-        cases.push(Case::Compose(sample.clone(), least, WHOLE));
+        cases.push(whole(least, sample.clone()));
     }
     cases.push(heading("Least overlaps that would be 1 in 8 or 16 bits"));
     for least in WIDE {
-        cases.push(Case::Compose(sample.clone(), least, WHOLE));
-        cases.push(Case::Shortest(sample.clone(), least, WORK_CELLS, 2_000));
+        cases.push(whole(least, sample.clone()));
+        cases.push(Case::Shortest(
+            sample.clone(),
+            Settings::blank(least),
+            WORK_CELLS,
+            2_000,
+        ));
         cases.push(Case::Ask(sample.clone(), least, 1, 3));
     }
     cases
 }
 
 /// A tray with room for every outcome.
-pub fn whole(least: usize, all: &Slips) -> Case {
-    Case::Compose(Tray::of(all), least, WHOLE)
+pub fn whole(least: usize, tray: Tray) -> Case {
+    Case::Compose(tray, Settings::blank(least), WHOLE)
 }
 
 /// Small trays in which neighbours share few letters or many.
 pub fn neighbours(chance: &mut Chance, n: usize) -> Case {
     let (most, longest) = [(8, 12), (6, MAX_SLIP)][n % 2];
-    whole(any_least(chance), &many_lengths(chance, most, longest))
+    whole(any_least(chance), Tray::of(&many_lengths(chance, most, longest)))
 }
 
 /// Trays of any size.
@@ -108,15 +112,15 @@ pub fn any_size(chance: &mut Chance, n: usize) -> Case {
         0 => valid(chance, 200, MAX_SLIP),
         _ => many_lengths(chance, 200, MAX_SLIP),
     };
-    whole(least, &all)
+    whole(least, Tray::of(&all))
 }
 
 /// A damaged tray, in which rooms may be wrong too.
 pub fn damaged_tray(chance: &mut Chance, n: usize) -> Case {
     let tray = damaged(chance, DAMAGES[n % DAMAGES.len()], 8);
-    let short = lending(chance.one(&[WORK_CELLS, 31_999, 0]), 3, 5, 3);
-    let least = LEASTS[n / DAMAGES.len()];
-    Case::Compose(tray, least, chance.one(&[WHOLE, short]))
+    let short = lending(chance.one(&[WORK_CELLS, 31_999, 0]), 3, 5, PLACE_CELLS);
+    let settings = Settings::blank(LEASTS[n / DAMAGES.len()]);
+    Case::Compose(tray, settings, chance.one(&[WHOLE, short]))
 }
 
 /// A small die group with some least overlap, and room for every legend.

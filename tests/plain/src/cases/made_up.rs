@@ -1,14 +1,15 @@
 //! Made-up cases. Each kind has a seed of its own: later kinds are added at the end, and old ones stay as they are.
 use super::makers::{full_tray, many_aside, small_list, small_rooms, typed_file, whole, with_stops};
-use super::{least, lending, merging, shortest, Case, WHOLE_LIST};
+use super::{least, lending, merging, shortest, sided, sided_trays, tray_room, Case, FILE_ROOM, WHOLE_LIST};
 use crate::made::damage::{damaged, stored, DAMAGES};
 use crate::made::files::{damaged_file, tray_file, BLOTS};
 use crate::made::leasts::{any_least, LEASTS};
+use crate::made::sides::Echo;
 use crate::made::stops::many_stops;
 use crate::made::texts::{damaged_text, text};
 use crate::made::{valid, Chance};
 use crate::tray::Tray;
-use crate::{FILE_ENDS, MAX_FILE, MAX_SLIP, ONE_LETTER, WORK_CELLS};
+use crate::{FILE_ENDS, MAX_FILE, MAX_SLIP, ONE_LETTER, PLACE_CELLS, USUAL, WORK_CELLS};
 
 /// A kind of case: what it is, its seed, how many there are, and how the n-th is made.
 struct Kind {
@@ -18,302 +19,229 @@ struct Kind {
     make: fn(&mut Chance, usize) -> Case,
 }
 
+const fn kind(name: &'static str, seed: u64, count: usize, make: fn(&mut Chance, usize) -> Case) -> Kind {
+    Kind {
+        name,
+        seed,
+        count,
+        make,
+    }
+}
+
 const KINDS: &[Kind] = &[
-    Kind {
-        name: "Small trays",
-        seed: 101,
-        count: 1_500,
-        make: |chance, _| whole(Tray::of(&valid(chance, 10, 20))),
-    },
-    Kind {
-        name: "Trays of any size",
-        seed: 102,
-        count: 150,
-        make: |chance, _| whole(Tray::of(&valid(chance, 200, MAX_SLIP))),
-    },
-    Kind {
-        name: "Full trays",
-        seed: 103,
-        count: 40,
-        make: full_tray,
-    },
-    Kind {
-        name: "Damaged trays",
-        seed: 104,
-        count: 1_000,
-        make: |chance, n| whole(damaged(chance, DAMAGES[n % DAMAGES.len()], 12)),
-    },
-    Kind {
-        name: "Small rooms",
-        seed: 105,
-        count: 1_000,
-        make: |chance, _| small_rooms(chance, ONE_LETTER),
-    },
-    Kind {
-        name: "Damaged trays in small rooms",
-        seed: 106,
-        count: 200,
-        make: |chance, n| {
-            let tray = damaged(chance, DAMAGES[n % DAMAGES.len()], 10);
-            let work = chance.one(&[31_999, 0, WORK_CELLS]);
-            Case::Compose(tray, ONE_LETTER, lending(work, 3, 5, 3))
-        },
-    },
-    Kind {
-        name: "Short texts",
-        seed: 107,
-        count: 1_200,
-        make: |chance, _| {
-            let all = valid(chance, 8, 12);
-            let n = chance.below(80);
-            Case::Find(Tray::of(&all), text(chance, &all, n), WORK_CELLS, WHOLE_LIST)
-        },
-    },
-    Kind {
-        name: "Texts and trays of any size",
-        seed: 108,
-        count: 80,
-        make: |chance, _| {
-            let all = valid(chance, 200, MAX_SLIP);
-            let n = chance.below(2_001);
-            Case::Find(Tray::of(&all), text(chance, &all, n), WORK_CELLS, WHOLE_LIST)
-        },
-    },
-    Kind {
-        name: "Damaged texts",
-        seed: 109,
-        count: 300,
-        make: |chance, n| {
-            let all = valid(chance, 6, 12);
-            let made = damaged_text(chance, &all, n % 8 == 0, n % 4);
-            Case::Find(Tray::of(&all), made, WORK_CELLS, WHOLE_LIST)
-        },
-    },
-    Kind {
-        name: "Damaged trays and a text",
-        seed: 110,
-        count: 200,
-        make: |chance, n| {
-            let tray = damaged(chance, DAMAGES[n % DAMAGES.len()], 10);
-            let letters = chance.below(40);
-            Case::Find(
-                tray,
-                chance.word(b"ABC.a", letters),
-                chance.one(&[WORK_CELLS, 31_999]),
-                8,
-            )
-        },
-    },
-    Kind {
-        name: "Small lists",
-        seed: 111,
-        count: 600,
-        make: small_list,
-    },
-    Kind {
-        name: "Tray files",
-        seed: 112,
-        count: 150,
-        make: |chance, _| Case::Read(tray_file(&valid(chance, 15, 20)), MAX_FILE, FILE_ENDS),
-    },
-    Kind {
-        name: "Damaged tray files",
-        seed: 113,
-        count: 900,
-        make: |chance, n| {
-            let all = valid(chance, 8, 12);
-            let file = damaged_file(chance, &all, BLOTS[n % BLOTS.len()]);
-            let (letters, ends) =
-                chance.one(&[(MAX_FILE, FILE_ENDS), (MAX_FILE + 9, FILE_ENDS + 9), (MAX_FILE, 1_699)]);
-            Case::Read(file, letters, ends)
-        },
-    },
-    Kind {
-        name: "Trays with many stops",
-        seed: 114,
-        count: 300,
-        make: with_stops,
-    },
-    Kind {
-        name: "Tray files as readers type them",
-        seed: 115,
-        count: 200,
-        make: typed_file,
-    },
-    Kind {
-        name: "Trays stored where a slip could have 8 letters more",
-        seed: 116,
-        count: 200,
-        make: |chance, n| whole(Tray::of(&stored(chance, [4, 12, 60][n % 3]))),
-    },
-    Kind {
-        name: "Trays with many slips set aside",
-        seed: 117,
-        count: 300,
-        make: many_aside,
-    },
-    Kind {
-        name: "Small die groups",
-        seed: 118,
-        count: 1_400,
-        make: |chance, _| shortest::whole(&shortest::small(chance), ONE_LETTER),
-    },
-    Kind {
-        name: "Small die groups with stops",
-        seed: 119,
-        count: 500,
-        make: |chance, _| shortest::whole(&shortest::with_stops(chance), ONE_LETTER),
-    },
-    Kind {
-        name: "Small die groups with slips set aside",
-        seed: 120,
-        count: 300,
-        make: |chance, _| shortest::whole(&shortest::many_aside(chance), ONE_LETTER),
-    },
-    Kind {
-        name: "Small die groups with slips of any length",
-        seed: 121,
-        count: 200,
-        make: |chance, _| shortest::whole(&valid(chance, 7, MAX_SLIP), ONE_LETTER),
-    },
-    Kind {
-        name: "Small die groups in small rooms",
-        seed: 122,
-        count: 500,
-        make: |chance, n| shortest::small_room(chance, n, ONE_LETTER),
-    },
-    Kind {
-        name: "Die groups of 8 to 12 kept slips",
-        seed: 123,
-        count: 240,
-        make: |chance, n| shortest::more_kept(chance, n, ONE_LETTER),
-    },
-    Kind {
-        name: "Damaged trays and the shortest legend",
-        seed: 124,
-        count: 200,
-        make: |chance, n| shortest::damaged_tray(chance, n, ONE_LETTER),
-    },
-    Kind {
-        name: "Small trays with a least overlap",
-        seed: 125,
-        count: 350,
-        make: |chance, _| least::whole(any_least(chance), &valid(chance, 10, 20)),
-    },
-    Kind {
-        name: "Neighbours that share few letters or many",
-        seed: 126,
-        count: 550,
-        make: least::neighbours,
-    },
-    Kind {
-        name: "Trays with many stops and a least overlap",
-        seed: 127,
-        count: 250,
-        make: |chance, _| least::whole(any_least(chance), &many_stops(chance, 10, 12)),
-    },
-    Kind {
-        name: "Trays of any size with a least overlap",
-        seed: 128,
-        count: 30,
-        make: least::any_size,
-    },
-    Kind {
-        name: "Small rooms with a least overlap",
-        seed: 129,
-        count: 200,
-        make: |chance, _| {
-            let least = any_least(chance);
-            small_rooms(chance, least)
-        },
-    },
-    Kind {
-        name: "Damaged trays with a least overlap",
-        seed: 130,
-        count: 60,
-        make: least::damaged_tray,
-    },
-    Kind {
-        name: "Small die groups with a least overlap",
-        seed: 131,
-        count: 400,
-        make: least::die_group,
-    },
-    Kind {
-        name: "Small die groups in small rooms with a least overlap",
-        seed: 132,
-        count: 150,
-        make: |chance, n| {
+    kind("Small trays", 101, 1_500, |chance, _| {
+        whole(Tray::of(&valid(chance, 10, 20)))
+    }),
+    kind("Trays of any size", 102, 150, |chance, _| {
+        whole(Tray::of(&valid(chance, 200, MAX_SLIP)))
+    }),
+    kind("Full trays", 103, 40, full_tray),
+    kind("Damaged trays", 104, 1_000, |chance, n| {
+        whole(damaged(chance, DAMAGES[n % DAMAGES.len()], 12))
+    }),
+    kind("Small rooms", 105, 1_000, |chance, _| small_rooms(chance, ONE_LETTER)),
+    kind("Damaged trays in small rooms", 106, 200, |chance, n| {
+        let tray = damaged(chance, DAMAGES[n % DAMAGES.len()], 10);
+        let work = chance.one(&[31_999, 0, WORK_CELLS]);
+        let rooms = lending(work, 3, 5, PLACE_CELLS);
+        Case::Compose(tray, USUAL, rooms)
+    }),
+    kind("Short texts", 107, 1_200, |chance, _| {
+        let all = valid(chance, 8, 12);
+        let n = chance.below(80);
+        Case::Find(Tray::of(&all), text(chance, &all, n), WORK_CELLS, WHOLE_LIST)
+    }),
+    kind("Texts and trays of any size", 108, 80, |chance, _| {
+        let all = valid(chance, 200, MAX_SLIP);
+        let n = chance.below(2_001);
+        Case::Find(Tray::of(&all), text(chance, &all, n), WORK_CELLS, WHOLE_LIST)
+    }),
+    kind("Damaged texts", 109, 300, |chance, n| {
+        let all = valid(chance, 6, 12);
+        let made = damaged_text(chance, &all, n % 8 == 0, n % 4);
+        Case::Find(Tray::of(&all), made, WORK_CELLS, WHOLE_LIST)
+    }),
+    kind("Damaged trays and a text", 110, 200, |chance, n| {
+        let tray = damaged(chance, DAMAGES[n % DAMAGES.len()], 10);
+        let letters = chance.below(40);
+        Case::Find(
+            tray,
+            chance.word(b"ABC.a", letters),
+            chance.one(&[WORK_CELLS, 31_999]),
+            8,
+        )
+    }),
+    kind("Small lists", 111, 600, small_list),
+    kind("Tray files", 112, 150, |chance, _| {
+        Case::Read(tray_file(&valid(chance, 15, 20)), FILE_ROOM)
+    }),
+    kind("Damaged tray files", 113, 900, |chance, n| {
+        let all = valid(chance, 8, 12);
+        let file = damaged_file(chance, &all, BLOTS[n % BLOTS.len()]);
+        let room = chance.one(&[
+            FILE_ROOM,
+            tray_room(MAX_FILE + 9, FILE_ENDS + 9, FILE_ENDS + 9),
+            tray_room(MAX_FILE, 1_699, FILE_ENDS),
+        ]);
+        Case::Read(file, room)
+    }),
+    kind("Trays with many stops", 114, 300, with_stops),
+    kind("Tray files as readers type them", 115, 200, typed_file),
+    kind(
+        "Trays stored where a slip could have 8 letters more",
+        116,
+        200,
+        |chance, n| whole(Tray::of(&stored(chance, [4, 12, 60][n % 3]))),
+    ),
+    kind("Trays with many slips set aside", 117, 300, many_aside),
+    kind("Small die groups", 118, 1_400, |chance, _| {
+        shortest::whole(&shortest::small(chance), ONE_LETTER)
+    }),
+    kind("Small die groups with stops", 119, 500, |chance, _| {
+        shortest::whole(&shortest::with_stops(chance), ONE_LETTER)
+    }),
+    kind("Small die groups with slips set aside", 120, 300, |chance, _| {
+        shortest::whole(&shortest::many_aside(chance), ONE_LETTER)
+    }),
+    kind("Small die groups with slips of any length", 121, 200, |chance, _| {
+        shortest::whole(&valid(chance, 7, MAX_SLIP), ONE_LETTER)
+    }),
+    kind("Small die groups in small rooms", 122, 500, |chance, n| {
+        shortest::small_room(chance, n, ONE_LETTER)
+    }),
+    kind("Die groups of 8 to 12 kept slips", 123, 240, |chance, n| {
+        shortest::more_kept(chance, n, ONE_LETTER)
+    }),
+    kind("Damaged trays and the shortest legend", 124, 200, |chance, n| {
+        shortest::damaged_tray(chance, n, ONE_LETTER)
+    }),
+    kind("Small trays with a least overlap", 125, 350, |chance, _| {
+        least::whole(any_least(chance), Tray::of(&valid(chance, 10, 20)))
+    }),
+    kind("Neighbours that share few letters or many", 126, 550, least::neighbours),
+    kind("Trays with many stops and a least overlap", 127, 250, |chance, _| {
+        least::whole(any_least(chance), Tray::of(&many_stops(chance, 10, 12)))
+    }),
+    kind("Trays of any size with a least overlap", 128, 30, least::any_size),
+    kind("Small rooms with a least overlap", 129, 200, |chance, _| {
+        let least = any_least(chance);
+        small_rooms(chance, least)
+    }),
+    kind("Damaged trays with a least overlap", 130, 60, least::damaged_tray),
+    kind("Small die groups with a least overlap", 131, 400, least::die_group),
+    kind(
+        "Small die groups in small rooms with a least overlap",
+        132,
+        150,
+        |chance, n| {
             let least = any_least(chance);
             shortest::small_room(chance, n, least)
         },
-    },
-    Kind {
-        name: "Die groups of 8 to 12 kept slips with a least overlap",
-        seed: 133,
-        count: 60,
-        make: |chance, n| shortest::more_kept(chance, n, [2, 3, 5, 0][n / 3 % 4]),
-    },
-    Kind {
-        name: "Damaged trays and the shortest legend with a least overlap",
-        seed: 134,
-        count: 60,
-        make: |chance, n| shortest::damaged_tray(chance, n, LEASTS[n / DAMAGES.len()]),
-    },
-    Kind {
-        name: "Pairs with a least overlap",
-        seed: 135,
-        count: 600,
-        make: least::pair,
-    },
-    Kind {
-        name: "Two trays",
-        seed: 136,
-        count: 1_200,
-        make: merging::small,
-    },
-    Kind {
-        name: "Two trays with slips that nearly equal others",
-        seed: 137,
-        count: 600,
-        make: merging::nearly_equal,
-    },
-    Kind {
-        name: "Two trays with many stops",
-        seed: 138,
-        count: 300,
-        make: merging::with_stops,
-    },
-    Kind {
-        name: "Two trays of any size",
-        seed: 139,
-        count: 60,
-        make: merging::any_size,
-    },
-    Kind {
-        name: "Two trays of about 200 slips or 2,000 letters together",
-        seed: 140,
-        count: 200,
-        make: merging::about_full,
-    },
-    Kind {
-        name: "Two trays, one or both damaged",
-        seed: 141,
-        count: 450,
-        make: merging::damaged_trays,
-    },
-    Kind {
-        name: "Two trays and too little lent, or more than needed",
-        seed: 142,
-        count: 300,
-        make: merging::any_room,
-    },
-    Kind {
-        name: "One hoard in two campaigns",
-        seed: 143,
-        count: 300,
-        make: merging::one_hoard,
-    },
+    ),
+    kind(
+        "Die groups of 8 to 12 kept slips with a least overlap",
+        133,
+        60,
+        |chance, n| shortest::more_kept(chance, n, [2, 3, 5, 0][n / 3 % 4]),
+    ),
+    kind(
+        "Damaged trays and the shortest legend with a least overlap",
+        134,
+        60,
+        |chance, n| shortest::damaged_tray(chance, n, LEASTS[n / DAMAGES.len()]),
+    ),
+    kind("Pairs with a least overlap", 135, 600, least::pair),
+    kind("Two trays", 136, 1_200, merging::small),
+    kind(
+        "Two trays with slips that nearly equal others",
+        137,
+        600,
+        merging::nearly_equal,
+    ),
+    kind("Two trays with many stops", 138, 300, merging::with_stops),
+    kind("Two trays of any size", 139, 60, merging::any_size),
+    kind(
+        "Two trays of about 200 slips or 2,000 letters together",
+        140,
+        200,
+        merging::about_full,
+    ),
+    kind("Two trays, one or both damaged", 141, 450, merging::damaged_trays),
+    kind(
+        "Two trays and too little lent, or more than needed",
+        142,
+        300,
+        merging::any_room,
+    ),
+    kind("One hoard in two campaigns", 143, 300, merging::one_hoard),
+    kind("Small trays with sides by chance", 144, 1_000, sided::by_chance),
+    kind("Small trays of one side alone", 145, 120, sided::one_alone),
+    kind("Small trays with one slip of the reverse", 146, 150, sided::one_reverse),
+    kind("Equal slips on two sides", 147, 300, |chance, n| {
+        sided::on_two_sides(chance, n, Echo::Equal)
+    }),
+    kind("Slips inside slips of another side", 148, 400, |chance, n| {
+        sided::on_two_sides(chance, n, Echo::Part)
+    }),
+    kind("Trays of any size with sides", 149, 24, sided::any_size),
+    kind("Full trays with sides", 150, 12, sided::full_tray),
+    kind("Small rooms for a side", 151, 300, sided::small_rooms),
+    kind("Lists of sides with mistakes", 152, 320, |chance, n| {
+        sided::refused(chance, n, sided::bad_list)
+    }),
+    kind("A side named that is none", 153, 104, |chance, n| {
+        sided::refused(chance, n, sided::no_side)
+    }),
+    kind("Damaged trays with sides", 154, 120, |chance, n| {
+        sided::refused(chance, n, sided::damaged_tray)
+    }),
+    kind(
+        "Bytes that are no signs, and lists of sides with mistakes",
+        155,
+        80,
+        |chance, n| sided::refused(chance, n, sided::bad_letters),
+    ),
+    kind("Small die groups with sides", 156, 600, sided::group),
+    kind("Many kept slips, few of them of the side", 157, 120, sided::many_kept),
+    kind(
+        "Small die groups that are refused for their sides",
+        158,
+        200,
+        sided::refused_group,
+    ),
+    kind("Pairs of slips with sides", 159, 400, sided_trays::pair),
+    kind(
+        "Pairs of slips that are refused for their sides",
+        160,
+        150,
+        sided_trays::refused_pair,
+    ),
+    kind("Two trays with sides", 161, 800, sided_trays::merged),
+    kind(
+        "Two trays with sides of about 200 slips or 2,000 letters together",
+        162,
+        24,
+        sided_trays::about_full,
+    ),
+    kind(
+        "Two trays, one or both refused for their sides",
+        163,
+        240,
+        sided_trays::refused_merge,
+    ),
+    kind(
+        "Two trays and too few sides lent, or more than needed",
+        164,
+        150,
+        sided_trays::any_room,
+    ),
+    kind(
+        "Tray files with sides as readers type them",
+        165,
+        160,
+        sided_trays::file,
+    ),
+    kind("Damaged tray files with sides", 166, 200, sided_trays::damaged_file),
 ];
 
 pub fn all() -> Vec<Case> {

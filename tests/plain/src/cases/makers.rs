@@ -1,5 +1,5 @@
 //! How the n-th case of a made-up kind is made: composing, finding and reading.
-use super::{lending, Case, Lending, WHOLE, WHOLE_LIST};
+use super::{lending, Case, Lending, FILE_ROOM, WHOLE, WHOLE_LIST};
 use crate::compose::compose;
 use crate::find::occurrences;
 use crate::made::files::{damaged_file, tray_file, BLOTS};
@@ -8,11 +8,11 @@ use crate::made::texts::text;
 use crate::made::typed::{many_forms, spoil, typed_slips};
 use crate::made::{near, slips, valid, Chance, Shape, SHAPES};
 use crate::tray::Tray;
-use crate::{FILE_ENDS, FOUND_CELLS, JOIN_CELLS, MAX_FILE, MAX_SLIP, ONE_LETTER, PLACE_CELLS, WORK_CELLS};
+use crate::{Settings, FOUND_CELLS, JOIN_CELLS, MAX_SLIP, PLACE_CELLS, USUAL, WORK_CELLS};
 
 /// A tray with room for every outcome.
 pub fn whole(tray: Tray) -> Case {
-    Case::Compose(tray, ONE_LETTER, WHOLE)
+    Case::Compose(tray, USUAL, WHOLE)
 }
 
 /// 200 slips of 10 letters.
@@ -33,7 +33,8 @@ pub fn many_aside(chance: &mut Chance, n: usize) -> Case {
 pub fn small_rooms(chance: &mut Chance, least: usize) -> Case {
     let all = valid(chance, 12, 15);
     let tray = Tray::of(&all);
-    let made = compose(&tray.slips(), least);
+    let settings = Settings::blank(least);
+    let made = compose(&tray, settings);
     let work = chance.one(&[WORK_CELLS, WORK_CELLS, WORK_CELLS + 7, 31_999]);
     let mut room = |need: usize| near(chance, need);
     let rooms: Lending = lending(
@@ -42,7 +43,7 @@ pub fn small_rooms(chance: &mut Chance, least: usize) -> Case {
         room(JOIN_CELLS * made.joins.len()),
         room(PLACE_CELLS * all.len()),
     );
-    Case::Compose(tray, least, rooms)
+    Case::Compose(tray, settings, rooms)
 }
 
 /// A list of about as many numbers as the occurrences need.
@@ -88,5 +89,5 @@ pub fn typed_file(chance: &mut Chance, n: usize) -> Case {
         1 => damaged_file(chance, &all, BLOTS[n / 4 % BLOTS.len()]),
         _ => tray_file(&all),
     };
-    Case::Read(file, MAX_FILE, FILE_ENDS)
+    Case::Read(file, FILE_ROOM)
 }

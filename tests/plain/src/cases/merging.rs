@@ -1,6 +1,6 @@
 //! Cases of two trays merged: those worked out by hand, and made-up ones.
 use super::specimens::named;
-use super::Case;
+use super::{tray_room, Case, MERGE_ROOM};
 use crate::by_hand::merging;
 use crate::made::campaigns::{about_2000_letters, about_200_slips, second_tray, two_campaigns, two_trays, Kin, MIXES};
 use crate::made::damage::{damaged, DAMAGES};
@@ -15,14 +15,15 @@ pub fn specimens() -> Vec<Case> {
     let mut cases = vec![Case::Heading("Two trays merged".to_string())];
     for case in merging::all() {
         let [letters, ends] = case.lent;
-        cases.extend(named(&case.name, Case::Merge(case.first, case.second, letters, ends)));
+        let room = tray_room(letters, ends, MAX_SLIPS);
+        cases.extend(named(&case.name, Case::Merge(case.first, case.second, room)));
     }
     cases
 }
 
 /// Two trays where just enough is lent.
 fn lent(first: Tray, second: Tray) -> Case {
-    Case::Merge(first, second, MAX_LETTERS, MAX_SLIPS)
+    Case::Merge(first, second, MERGE_ROOM)
 }
 
 /// Two valid trays.
@@ -97,5 +98,5 @@ pub fn any_room(chance: &mut Chance, n: usize) -> Case {
     let (letters, ends) = (near(chance, MAX_LETTERS), near(chance, MAX_SLIPS));
     let few = (chance.below(MAX_LETTERS), chance.below(MAX_SLIPS));
     let (letters, ends) = chance.one(&[(letters, ends), (letters, ends), (letters, ends), few]);
-    Case::Merge(first, second, letters, ends)
+    Case::Merge(first, second, tray_room(letters, ends, MAX_SLIPS))
 }

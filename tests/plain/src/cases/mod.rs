@@ -7,14 +7,24 @@
 //! | `L LEAST WORK LEGEND TRAY` | the shortest legend, with this many cells and letters lent |
 //! | `F WORK LIST TEXT TRAY` | finding, with this many cells and numbers lent |
 //! | `A LEAST LEFT RIGHT TRAY` | the tray check, the letters of slip LEFT, the overlap of LEFT and RIGHT |
-//! | `T LETTERS ENDS FILE` | reading a tray file, with this many letters and ends lent |
-//! | `M LETTERS ENDS TRAY;TRAY` | two trays merged, with this many letters and ends lent |
+//! | `T LETTERS ENDS SIDES FILE` | reading a tray file, with this many letters, ends and sides lent |
+//! | `M LETTERS ENDS TRAY;TRAY` | two trays merged, with this many letters and ends lent, and 200 sides |
 //! | `S` | which bytes are signs |
+//!
+//! In these all slips are blank, and the blank side is named. With any other sides the tag is a small letter, and the sides come
+//! first:
+//!
+//! | line | what comes first |
+//! |---|---|
+//! | `c SIDE LIST LEAST ..` | the side named, and the list of sides |
+//! | `l SIDE LIST LEAST ..` | the same |
+//! | `a LIST LEAST ..` | the list of sides |
+//! | `m LIST LIST SIDES LETTERS ..` | the lists of both trays, and how many sides are lent |
 //!
 //! LEAST is the least overlap. Every lent buffer is filled with a mark before the call, and after it a sum over all its
 //! cells is told.
 use crate::tray::Tray;
-use crate::{FOUND_CELLS, JOIN_CELLS, ONE_LETTER, PLACE_CELLS};
+use crate::{Settings, BLANK, FOUND_CELLS, JOIN_CELLS, MAX_SLIPS, ONE_LETTER, PLACE_CELLS};
 
 mod answers;
 mod code;
@@ -24,6 +34,9 @@ mod made_up;
 mod makers;
 mod merging;
 mod shortest;
+mod sided;
+mod sided_trays;
+mod sides;
 mod specimens;
 
 /// What a lent byte holds before the call.
@@ -68,43 +81,96 @@ impl Lending {
     }
 }
 
+/// How many letters, ends and sides are lent for a tray that is written.
+#[derive(Clone, Copy, Debug, PartialEq, Eq)]
+pub struct TrayRoom {
+    /// The letters.
+    pub letters: usize,
+    /// The ends.
+    pub ends: usize,
+    /// The sides.
+    pub sides: usize,
+}
+
+/// Just enough is lent for two trays merged.
+const MERGE_ROOM: TrayRoom = tray_room(2_000, 200, 200);
+
+/// Just enough is lent for a tray file.
+const FILE_ROOM: TrayRoom = tray_room(16_384, 1_700, 1_700);
+
+const fn tray_room(letters: usize, ends: usize, sides: usize) -> TrayRoom {
+    TrayRoom { letters, ends, sides }
+}
+
 /// One case.
 #[derive(Clone, Debug)]
 pub enum Case {
     /// What follows, in words.
     Heading(String),
-    /// A tray, the least overlap, and how much is lent.
-    Compose(Tray, usize, Lending),
-    /// A tray, the least overlap, and how many cells and letters are lent for its shortest legend.
-    Shortest(Tray, usize, usize, usize),
+    /// A tray, the settings, and how much is lent.
+    Compose(Tray, Settings, Lending),
+    /// A tray, the settings, and how many cells and letters are lent for its shortest legend.
+    Shortest(Tray, Settings, usize, usize),
     /// A tray, a text, and how many cells and numbers are lent.
     Find(Tray, Vec<u8>, usize, usize),
     /// A tray, the least overlap, and two slip numbers.
     Ask(Tray, usize, usize, usize),
-    /// A tray file, and how many letters and ends are lent.
-    Read(Vec<u8>, usize, usize),
-    /// Two trays, and how many letters and ends are lent.
-    Merge(Tray, Tray, usize, usize),
+    /// A tray file, and how much is lent.
+    Read(Vec<u8>, TrayRoom),
+    /// Two trays, and how much is lent.
+    Merge(Tray, Tray, TrayRoom),
     /// All bytes.
     Signs,
+}
+
+/// Whether all slips are blank.
+fn is_blank(tray: &Tray) -> bool {
+    tray.sides == vec![BLANK; tray.ends.len()]
+}
+
+/// The tag of a case about one side of a tray: the capital where all slips are blank and the blank side is named, else the small
+/// letter with the side and the list of sides.
+fn side_tag(tag: char, tray: &Tray, side: u8) -> String {
+    match is_blank(tray) && side == BLANK {
+        true => tag.to_string(),
+        false => {
+            let (side, list) = (code::bytes(&[side]), code::bytes(&tray.sides));
+            format!("{} {side} {list}", tag.to_ascii_lowercase())
+        }
+    }
 }
 
 impl Case {
     fn line(&self) -> String {
         match self {
             Case::Heading(text) => format!("- {text}"),
-            Case::Compose(tray, least, lent) => {
-                let [work, legend, joins, places] = lent.numbers;
-                format!("C {least} {work} {legend} {joins} {places} {}", code::tray(tray))
+            Case::Compose(tray, settings, lent) => {
+                let ([work, legend, joins, places], least) = (lent.numbers, settings.least);
+                let tag = side_tag('C', tray, settings.side);
+                format!("{tag} {least} {work} {legend} {joins} {places} {}", code::tray(tray))
             }
-            Case::Shortest(tray, least, work, legend) => format!("L {least} {work} {legend} {}", code::tray(tray)),
+            Case::Shortest(tray, settings, work, legend) => {
+                let tag = side_tag('L', tray, settings.side);
+                format!("{tag} {} {work} {legend} {}", settings.least, code::tray(tray))
+            }
             Case::Find(tray, text, work, list) => {
                 format!("F {work} {list} {} {}", code::bytes(text), code::tray(tray))
             }
-            Case::Ask(tray, least, left, right) => format!("A {least} {left} {right} {}", code::tray(tray)),
-            Case::Read(file, letters, ends) => format!("T {letters} {ends} {}", code::bytes(file)),
-            Case::Merge(first, second, letters, ends) => {
-                format!("M {letters} {ends} {};{}", code::tray(first), code::tray(second))
+            Case::Ask(tray, least, left, right) => {
+                let tag = match is_blank(tray) {
+                    true => "A".to_string(),
+                    false => format!("a {}", code::bytes(&tray.sides)),
+                };
+                format!("{tag} {least} {left} {right} {}", code::tray(tray))
+            }
+            Case::Read(file, room) => {
+                let file = code::bytes(file);
+                format!("T {} {} {} {file}", room.letters, room.ends, room.sides)
+            }
+            Case::Merge(first, second, room) => {
+                let tag = merge_tag(first, second, room.sides);
+                let trays = [first, second].map(code::tray).join(";");
+                format!("{tag} {} {} {trays}", room.letters, room.ends)
             }
             Case::Signs => "S".to_string(),
         }
@@ -114,13 +180,25 @@ impl Case {
     pub fn answer(&self) -> String {
         match self {
             Case::Heading(_) => self.line(),
-            Case::Compose(tray, least, lent) => answers::compose(tray, *least, lent),
-            Case::Shortest(tray, least, work, legend) => answers::shortest(tray, *least, *work, *legend),
+            Case::Compose(tray, settings, lent) => answers::compose(tray, *settings, lent),
+            Case::Shortest(tray, settings, work, legend) => answers::shortest(tray, *settings, *work, *legend),
             Case::Find(tray, text, work, list) => answers::find(tray, text, *work, *list),
             Case::Ask(tray, least, left, right) => answers::ask(tray, *least, *left, *right),
-            Case::Read(file, letters, ends) => answers::read(file, *letters, *ends),
-            Case::Merge(first, second, letters, ends) => answers::merge(first, second, *letters, *ends),
+            Case::Read(file, room) => answers::read(file, *room),
+            Case::Merge(first, second, room) => answers::merge(first, second, *room),
             Case::Signs => answers::signs(),
+        }
+    }
+}
+
+/// The tag of a case of two trays merged: the capital where all slips are blank and just enough sides are lent, else the small
+/// letter with both lists of sides and how many are lent.
+fn merge_tag(first: &Tray, second: &Tray, sides: usize) -> String {
+    match is_blank(first) && is_blank(second) && sides == MAX_SLIPS {
+        true => "M".to_string(),
+        false => {
+            let lists = [first, second].map(|tray| code::bytes(&tray.sides));
+            format!("m {} {} {sides}", lists[0], lists[1])
         }
     }
 }
@@ -132,6 +210,7 @@ pub fn all() -> Vec<Case> {
         shortest::specimens(),
         least::specimens(),
         merging::specimens(),
+        sides::specimens(),
     ];
     [edge_trays(), specimens.concat(), made_up::all()].concat()
 }

@@ -9,25 +9,25 @@ use crate::made::stops::many_stops;
 use crate::made::{Chance, Slips};
 use crate::shortest::{order_legend, shortest_order};
 use crate::tray::Tray;
-use crate::{MAX_LETTERS, ONE_LETTER, WORK_CELLS};
+use crate::{Settings, BLANK, MAX_LETTERS, ONE_LETTER, USUAL, WORK_CELLS};
 
 /// The plain program tries all orders of this many kept slips in a moment.
 pub const FEW_KEPT: usize = 7;
 
 /// A tray with room for every legend.
 pub fn whole(all: &Slips, least: usize) -> Case {
-    Case::Shortest(Tray::of(all), least, WORK_CELLS, MAX_LETTERS)
+    Case::Shortest(Tray::of(all), Settings::blank(least), WORK_CELLS, MAX_LETTERS)
 }
 
 /// The small die groups, each with just enough room; what is refused; the longest slips; the empty tray.
 pub fn specimens() -> Vec<Case> {
     let mut cases = vec![Case::Heading("The shortest legend".to_string())];
     for group in DIE_GROUPS {
-        let exact = Case::Shortest(Tray::of(group.slips), ONE_LETTER, WORK_CELLS, group.legend.len());
+        let exact = Case::Shortest(Tray::of(group.slips), USUAL, WORK_CELLS, group.legend.len());
         cases.extend(named(group.name, exact));
     }
     for case in all_turned() {
-        let turned = Case::Shortest(case.tray, ONE_LETTER, case.work, case.room);
+        let turned = Case::Shortest(case.tray, USUAL, case.work, case.room);
         cases.extend(named(case.name, turned));
     }
     let wide = |all: Slips| whole(&all, ONE_LETTER);
@@ -60,12 +60,11 @@ pub fn many_aside(chance: &mut Chance) -> Slips {
 pub fn small_room(chance: &mut Chance, n: usize, least: usize) -> Case {
     let make = [small, with_stops, many_aside][n % 3];
     let tray = Tray::of(&make(chance));
-    let slips = tray.slips();
-    let order = shortest_order(&slips, least, &kept_slips(&slips));
-    let need = order_legend(&slips, least, &order).len();
+    let order = shortest_order(&tray, least, &kept_slips(&tray, BLANK));
+    let need = order_legend(&tray, least, &order).len();
     let room = chance.one(&[need - 1, need - 1, need, need, need + 1, 0]);
     let work = chance.one(&[WORK_CELLS, WORK_CELLS, WORK_CELLS, WORK_CELLS + 7, 31_999]);
-    Case::Shortest(tray, least, work, room)
+    Case::Shortest(tray, Settings::blank(least), work, room)
 }
 
 /// 8 to 12 kept slips; few of them 9 or 10, for which the plain program takes long. Some have slips set aside, or stops, or
@@ -82,12 +81,12 @@ pub fn more_kept(chance: &mut Chance, n: usize, least: usize) -> Case {
         all = with_aside(chance, all, 30);
     }
     let room = chance.one(&[MAX_LETTERS, MAX_LETTERS, 0]);
-    Case::Shortest(Tray::of(&all), least, WORK_CELLS, room)
+    Case::Shortest(Tray::of(&all), Settings::blank(least), WORK_CELLS, room)
 }
 
 /// A damaged tray, in which cells and room may be wrong too.
 pub fn damaged_tray(chance: &mut Chance, n: usize, least: usize) -> Case {
     let tray = damaged(chance, DAMAGES[n % DAMAGES.len()], FEW_KEPT);
     let work = chance.one(&[WORK_CELLS, 31_999, 0]);
-    Case::Shortest(tray, least, work, chance.one(&[MAX_LETTERS, 0]))
+    Case::Shortest(tray, Settings::blank(least), work, chance.one(&[MAX_LETTERS, 0]))
 }

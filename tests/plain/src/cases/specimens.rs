@@ -1,9 +1,9 @@
 //! The specimen trays of the rules, trays that tell a misreading from the rule, and each limit with its neighbour.
-use super::{lending, Case, Lending, JOINS, PLACES, WHOLE, WHOLE_LIST};
+use super::{lending, tray_room, Case, Lending, FILE_ROOM, JOINS, PLACES, WHOLE, WHOLE_LIST};
 use crate::by_hand::{COMPOSE, COMPOSE_FILE, SEARCHES, SPECIMENS, TYPED_FILE};
 use crate::made::files::tray_file;
 use crate::tray::Tray;
-use crate::{FILE_ENDS, MAX_FILE, ONE_LETTER, PLACE_CELLS, WORK_CELLS};
+use crate::{PLACE_CELLS, USUAL, WORK_CELLS};
 
 /// The numbers of five places, those of the compose tray.
 const FIVE: usize = 5 * PLACE_CELLS;
@@ -141,20 +141,20 @@ fn trays() -> Vec<Case> {
     let sample = Tray::of(COMPOSE.slips);
     let mut cases = Vec::new();
     for case in SPECIMENS {
-        cases.extend(named(case.name, Case::Compose(Tray::of(case.slips), ONE_LETTER, WHOLE)));
+        cases.extend(named(case.name, Case::Compose(Tray::of(case.slips), USUAL, WHOLE)));
     }
     for (name, lent) in LENDINGS {
-        cases.extend(named(name, Case::Compose(sample.clone(), ONE_LETTER, *lent)));
+        cases.extend(named(name, Case::Compose(sample.clone(), USUAL, *lent)));
     }
     cases.extend(named(
         "the empty tray and nothing but cells",
-        Case::Compose(Tray::default(), ONE_LETTER, lending(WORK_CELLS, 0, 0, 0)),
+        Case::Compose(Tray::default(), USUAL, lending(WORK_CELLS, 0, 0, 0)),
     ));
     for (name, tray) in limits() {
-        cases.extend(named(&name, Case::Compose(tray.clone(), ONE_LETTER, WHOLE)));
-        cases.push(Case::Compose(tray, ONE_LETTER, lending(WORK_CELLS, 0, JOINS, PLACES)));
+        cases.extend(named(&name, Case::Compose(tray.clone(), USUAL, WHOLE)));
+        cases.push(Case::Compose(tray, USUAL, lending(WORK_CELLS, 0, JOINS, PLACES)));
     }
-    cases.extend(named("many letters compared", Case::Compose(runs(), ONE_LETTER, WHOLE)));
+    cases.extend(named("many letters compared", Case::Compose(runs(), USUAL, WHOLE)));
     cases
 }
 
@@ -187,7 +187,7 @@ fn texts() -> Vec<Case> {
 fn readings() -> Vec<Case> {
     let mut cases = Vec::new();
     for (name, file) in [files(), folded_files()].concat() {
-        cases.extend(named(name, Case::Read(file, MAX_FILE, FILE_ENDS)));
+        cases.extend(named(name, Case::Read(file, FILE_ROOM)));
     }
     for (letters, ends) in [
         (16_384, 1_700),
@@ -197,10 +197,12 @@ fn readings() -> Vec<Case> {
         (0, 0),
     ] {
         let name = format!("{letters} letters and {ends} ends lent");
-        cases.extend(named(&name, Case::Read(COMPOSE_FILE.into(), letters, ends)));
+        let room = tray_room(letters, ends, 1_700);
+        cases.extend(named(&name, Case::Read(COMPOSE_FILE.into(), room)));
     }
     let long = vec![b'A'; 16_385];
-    cases.extend(named("15 before 16", Case::Read(long, 16_383, 1_700)));
+    let short = tray_room(16_383, 1_700, 1_700);
+    cases.extend(named("15 before 16", Case::Read(long, short)));
     cases
 }
 

@@ -4,7 +4,7 @@ use super::stops::many_stops;
 use super::{valid, within_limit, Chance, Slips};
 use crate::compose::stands_in;
 use crate::merge::merged_slips;
-use crate::tray::Tray;
+use crate::tray::{Slip, Tray};
 use crate::{MAX_LETTERS, MAX_SLIP, MAX_SLIPS, SIGNS};
 
 /// How a slip goes with one that is there already.
@@ -209,11 +209,16 @@ pub struct Met([usize; SHOWN.len()]);
 impl Met {
     /// Counts what two accepted trays show.
     pub fn count(&mut self, first: &Tray, second: &Tray) {
-        let (first, second) = (first.slips(), second.slips());
+        let (first, second) = (first.sided_slips(), second.sided_slips());
         let outcome = merged_slips(&first, &second);
         let written = &outcome[first.len()..];
-        let again = |slips: &[&[u8]], slip: &[u8]| slips.iter().filter(|x| **x == slip).count() > 1;
-        let stands = |slip: &&[u8]| outcome.iter().any(|x| x.len() > slip.len() && stands_in(slip, x));
+        let again = |slips: &[Slip], slip: &Slip| slips.iter().filter(|x| *x == slip).count() > 1;
+        let longer = |x: &Slip, slip: &Slip| x.side == slip.side && x.letters.len() > slip.letters.len();
+        let stands = |slip: &Slip| {
+            outcome
+                .iter()
+                .any(|x| longer(x, slip) && stands_in(slip.letters, x.letters))
+        };
         let shown = [
             written.is_empty() && !second.is_empty(),
             !written.is_empty() && written.len() < second.len(),

@@ -1,13 +1,20 @@
 //! Tray files, whole and damaged.
 use super::damage::BAD_BYTES;
 use super::Chance;
+use crate::BLANK;
 
-/// The tray file of these slips.
+/// The tray file of these slips, all of them blank.
 pub fn tray_file<S: AsRef<[u8]>>(slips: &[S]) -> Vec<u8> {
+    sided_file(&slips.iter().map(|slip| (BLANK, slip)).collect::<Vec<_>>())
+}
+
+/// The tray file of these slips, each with what stands in column 9 before it: its side, or any other byte.
+pub fn sided_file<S: AsRef<[u8]>>(slips: &[(u8, S)]) -> Vec<u8> {
     let mut file = Vec::new();
-    for (i, slip) in slips.iter().enumerate() {
+    for (i, (side, slip)) in slips.iter().enumerate() {
         let slip = slip.as_ref();
-        file.extend(format!("{:4}{:4} ", i + 1, slip.len()).bytes());
+        file.extend(format!("{:4}{:4}", i + 1, slip.len()).bytes());
+        file.push(*side);
         file.extend_from_slice(slip);
         file.push(b'\n');
     }
@@ -58,9 +65,13 @@ fn place(chance: &mut Chance, line: &[u8]) -> usize {
     }
 }
 
-/// The file of these slips with such damage in one of its lines.
+/// The file of these slips, all of them blank, with such damage in one of its lines.
 pub fn damaged_file(chance: &mut Chance, slips: &[Vec<u8>], blot: Blot) -> Vec<u8> {
-    let whole = tray_file(slips);
+    blotted(chance, &tray_file(slips), blot)
+}
+
+/// A file with such damage in one of its lines.
+pub fn blotted(chance: &mut Chance, whole: &[u8], blot: Blot) -> Vec<u8> {
     let mut lines: Vec<Vec<u8>> = whole.split_inclusive(|&b| b == b'\n').map(<[u8]>::to_vec).collect();
     let at = chance.below(lines.len());
     let line = &mut lines[at];

@@ -2,6 +2,7 @@
 use super::{slips, Chance, Shape, Slips};
 use crate::compose::kept_slips;
 use crate::tray::Tray;
+use crate::BLANK;
 
 /// Few letters.
 pub const FEW: &[&[u8]] = &[b"AB", b"ABC", b"ABCD", b"ABCDEFGH"];
@@ -41,7 +42,7 @@ pub fn just_kept(chance: &mut Chance, sets: &[&[u8]], kept: usize) -> Slips {
     let signs = chance.one(sets);
     let mut all = Slips::new();
     // One slip more keeps at most one more.
-    while kept_slips(&Tray::of(&all).slips()).len() < kept {
+    while kept_slips(&Tray::of(&all), BLANK).len() < kept {
         let letters = chance.between(3, 6);
         all.push(chance.word(signs, letters));
     }

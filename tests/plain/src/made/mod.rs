@@ -8,6 +8,7 @@ pub mod files;
 pub mod full;
 pub mod groups;
 pub mod leasts;
+pub mod sides;
 pub mod stops;
 pub mod texts;
 pub mod typed;

@@ -1,8 +1,8 @@
 //! Trays with many full stops, in which many slips share stops alone.
 use super::{slips, within_limit, Chance, Slips, SHAPES};
-use crate::compose::compose;
+use crate::compose::kept_slips;
 use crate::tray::{longest_shared, overlap, Tray};
-use crate::ONE_LETTER;
+use crate::{BLANK, ONE_LETTER};
 
 /// Few signs, every second or third of them a stop.
 const FEW_SIGNS: [&[u8]; 4] = [b".A", b".AB", b"..AB", b"..ABCD"];
@@ -24,14 +24,12 @@ pub fn many_stops(chance: &mut Chance, most: usize, longest: usize) -> Slips {
     within_limit(all)
 }
 
-/// Whether one kept slip of a valid tray ends with what another begins with, and it is stops alone: an overlap but for the
-/// rule of stops.
+/// Whether one kept slip of the blank side of a valid tray ends with what another begins with, and it is stops alone: an overlap
+/// but for the rule of stops.
 pub fn share_stops_alone(tray: &Tray) -> bool {
     let slips = tray.slips();
-    let made = compose(&slips, ONE_LETTER);
-    let all = slips.iter().zip(&made.places);
     // No two kept slips are equal.
-    let kept: Vec<&[u8]> = all.filter(|(_, place)| place.kept).map(|(slip, _)| *slip).collect();
+    let kept: Vec<&[u8]> = kept_slips(tray, BLANK).iter().map(|&i| slips[i - 1]).collect();
     let stops_alone = |a: &[u8], b: &[u8]| a != b && !longest_shared(a, b).is_empty() && overlap(a, b, ONE_LETTER) == 0;
     kept.iter().any(|a| kept.iter().any(|b| stops_alone(a, b)))
 }
