@@ -5,8 +5,9 @@ use crate::pairs;
 use crate::shortest;
 use answers::Composed;
 use answers::Join;
-use answers::PLACE_CELLS;
 use answers::Place;
+use answers::RECORD_CELLS;
+use trays::BLANK_SIDE;
 use trays::Settings;
 use trials_lines::sums;
 use trials_lines::table;
@@ -14,15 +15,15 @@ use trials_lines::writing;
 use trials_lines::writing::put;
 
 // The most numbers of places that are lent, and those of 200 and of two slips.
-const PLACES_ROOM: usize = 210 * PLACE_CELLS;
+const PLACES_ROOM: usize = 210 * RECORD_CELLS;
 
-const ALL_PLACES: u32 = 200 * PLACE_CELLS as u32;
+const ALL_PLACES: u32 = 200 * RECORD_CELLS as u32;
 
-const TWO_PLACES: u32 = 2 * PLACE_CELLS as u32;
+const TWO_PLACES: u32 = 2 * RECORD_CELLS as u32;
 
-// The least overlap, how many cells, bytes and numbers are lent, and where the letters start in the line.
+// The settings, how many cells, bytes and numbers are lent, and where the letters start in the line.
 struct Rooms {
-    least: u32,
+    settings: Settings,
     work: u32,
     legend: u32,
     joins: u32,
@@ -30,16 +31,19 @@ struct Rooms {
     at: usize,
 }
 
-fn read_rooms(line: &[u8]) -> Rooms
+// The fields from `from` on, where this side is named.
+fn read_rooms(line: &[u8], from: usize, side: u8) -> Rooms
+    requires { ⌜ from ≤ length (now line) ⌝ }
     ensures { λ r. ⌜ r .at ≤ length (now (line .entry)) ⌝ }
 {
-    let first = shortest::read_rooms(line);
+    let first = shortest::read_rooms(line, from, side);
     let joins_at = first.at;
     let joins = table::field(line, joins_at);
     let places_at = joins.at;
     let places = table::field(line, places_at);
+    let settings = first.settings;
     Rooms {
-        least: first.least,
+        settings,
         work: first.work,
         legend: first.legend,
         joins: joins.value,
@@ -69,13 +73,14 @@ fn lent(number: u8, legend: &[u8], joins: u32, places: u32, work: &[u16]) {
 fn flat(
     letters: &[u8],
     ends: &[u16],
+    sides: &[u8],
     settings: Settings,
     work: &mut [u16],
     legend: &mut [u8],
     joins: &mut [u16],
     places: &mut [u16],
 ) {
-    let a = flat_calls::compose_flat(letters, ends, settings, work, legend, joins, places);
+    let a = flat_calls::compose_flat(letters, ends, sides, settings, work, legend, joins, places);
     io::write_all(1, b"C");
     answer(a);
     let n = table::least(a.legend, legend.len());
@@ -89,7 +94,7 @@ fn flat(
     );
 }
 
-fn try_flat(letters: &[u8], ends: &[u16], rooms: Rooms) {
+fn try_flat(letters: &[u8], ends: &[u16], sides: &[u8], rooms: Rooms) {
     let mut work = [7777u16; 32100];
     let mut legend = [7u8; 2100];
     let mut joins = [7777u16; 620];
@@ -98,11 +103,11 @@ fn try_flat(letters: &[u8], ends: &[u16], rooms: Rooms) {
     let legend_room = table::least(rooms.legend, 2100);
     let joins_room = table::least(rooms.joins, 620);
     let places_room = table::least(rooms.places, PLACES_ROOM);
-    let settings = Settings { least: rooms.least };
     flat(
         letters,
         ends,
-        settings,
+        sides,
+        rooms.settings,
         &mut work[0..work_room],
         &mut legend[0..legend_room],
         &mut joins[0..joins_room],
@@ -124,6 +129,7 @@ fn place_mark() -> Place {
         place: 7777,
         kept: false,
         compared: 7777,
+        side: 7,
     }
 }
 
@@ -135,12 +141,20 @@ fn over_records(a: Composed, legend: &[u8], joins: u32, places: u32, work: &[u16
 }
 
 // Over lists of 200 records.
-fn records(letters: &[u8], ends: &[u16], settings: Settings, work: &mut [u16], legend: &mut [u8]) {
+fn records(
+    letters: &[u8],
+    ends: &[u16],
+    sides: &[u8],
+    settings: Settings,
+    work: &mut [u16],
+    legend: &mut [u8],
+) {
     let join_list = [join_mark(); 200];
     let place_list = [place_mark(); 200];
     let made = trials_records::compose(
         letters,
         ends,
+        sides,
         settings,
         work,
         legend,
@@ -162,6 +176,7 @@ fn records(letters: &[u8], ends: &[u16], settings: Settings, work: &mut [u16], l
 fn two_records(
     letters: &[u8],
     ends: &[u16],
+    sides: &[u8],
     settings: Settings,
     work: &mut [u16],
     legend: &mut [u8],
@@ -171,6 +186,7 @@ fn two_records(
     let made = trials_records::compose_two(
         letters,
         ends,
+        sides,
         settings,
         work,
         legend,
@@ -188,18 +204,18 @@ fn two_records(
     );
 }
 
-fn try_records(letters: &[u8], ends: &[u16], rooms: Rooms, count: u32) {
+fn try_records(letters: &[u8], ends: &[u16], sides: &[u8], rooms: Rooms, count: u32) {
     let mut work = [7777u16; 32100];
     let mut legend = [7u8; 2100];
     let work_room = table::least(rooms.work, 32100);
     let legend_room = table::least(rooms.legend, 2100);
-    let settings = Settings { least: rooms.least };
+    let settings = rooms.settings;
     let work_part = &mut work[0..work_room];
     let legend_part = &mut legend[0..legend_room];
     if count == 2 {
-        two_records(letters, ends, settings, work_part, legend_part);
+        two_records(letters, ends, sides, settings, work_part, legend_part);
     } else {
-        records(letters, ends, settings, work_part, legend_part);
+        records(letters, ends, sides, settings, work_part, legend_part);
     }
 }
 
@@ -218,24 +234,44 @@ fn record_count(rooms: Rooms) -> u32 {
     0
 }
 
-fn try_tray(letters: &[u8], ends: &[u16], rooms: Rooms) {
-    try_flat(letters, ends, rooms);
+fn try_tray(letters: &[u8], ends: &[u16], sides: &[u8], rooms: Rooms) {
+    try_flat(letters, ends, sides, rooms);
     let count = record_count(rooms);
     if count != 0 {
-        try_records(letters, ends, rooms, count);
+        try_records(letters, ends, sides, rooms, count);
     }
     if ends.len() < 13 {
-        pairs::show(letters, ends, rooms.least);
+        pairs::show(letters, ends, sides, rooms.settings.least);
     }
 }
 
-pub fn row(line: &[u8]) {
+// The fields from `from` on, where this side is named. The list has the sides of the slips, or, where these are blank, more blanks than slips.
+fn try_line(line: &[u8], from: usize, side: u8, list: &[u8], blank: bool)
+    requires { ⌜ from ≤ length (now line) ⌝ }
+{
     let mut letters = [0u8; 2300];
     let mut ends = [0u16; 300];
-    let rooms = read_rooms(line);
+    let rooms = read_rooms(line, from, side);
     let at = rooms.at;
     let tray = table::tray_at(line, at, &mut letters, &mut ends);
     let size = tray.letters;
     let slips = tray.ends;
-    try_tray(&letters[0..size], &ends[0..slips], rooms);
+    let sides = table::listed(blank, slips, list.len());
+    try_tray(&letters[0..size], &ends[0..slips], &list[0..sides], rooms);
+}
+
+// All slips are blank, and the blank side is named.
+pub fn row(line: &[u8]) {
+    let list = [BLANK_SIDE; 300];
+    try_line(line, table::start(line), BLANK_SIDE, &list, true);
+}
+
+// The side named and the list of sides come first.
+pub fn side_row(line: &[u8]) {
+    let mut list = [0u8; 300];
+    let side = table::side_at(line, table::start(line));
+    let list_at = side.at;
+    let sides = table::text_at(line, list_at, &mut list);
+    let from = table::next(line, list_at);
+    try_line(line, from, side.value, &list[0..sides], false);
 }

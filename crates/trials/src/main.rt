@@ -4,10 +4,16 @@
 //     L LEAST WORK LEGEND LETTERS END END ..               the shortest legend, with a least overlap and so much lent
 //     F WORK LIST TEXT LETTERS END END ..                  finding, with so much lent
 //     A LEAST LEFT RIGHT LETTERS END END ..                the check of a tray, one slip, one pair with a least overlap
-//     T LETTERS ENDS FILE                                  reading a tray file, with so much lent
-//     M LETTERS ENDS LETTERS END ..;LETTERS END ..         two trays merged, with so much lent
+//     T LETTERS ENDS SIDES FILE                            reading a tray file, with so much lent
+//     M LETTERS ENDS LETTERS END ..;LETTERS END ..         two trays merged, with so much lent, and 200 sides
 //     S                                                    the bytes that are letters
-// Letters, texts and files are coded: 12A is twelve times A, %0A the byte 10, and a comma an end. 12x3 among the ends is the twelve ends 3, 6, .. 36.
+// In these all slips are blank, and the blank side is named. With other sides the tag is a small letter, and the sides come first:
+//     c SIDE LIST LEAST WORK ..                            composing: the side named, and the list of sides
+//     l SIDE LIST LEAST WORK ..                            the shortest legend: the same
+//     a LIST LEAST LEFT ..                                 one pair: the list of sides
+//     m LIST LIST SIDES LETTERS ENDS ..                    two trays: both lists, and how many sides are lent
+// Letters, texts, files and sides are coded: 12A is twelve times A, _ a blank, %0A the byte 10, and a comma an end. 12x3 among the ends is the twelve
+// ends 3, 6, .. 36.
 // What was lent is filled with marks before a call, and its sum after it is written.
 ghost use mathlib.Core.Path.{_≡_};
 ghost use lib.ListN.{length};
@@ -22,11 +28,15 @@ mod shortest;
 fn row(line: &[u8]) {
     match table::byte_at(line, 0) {
         b'C' => compose::row(line),
+        b'c' => compose::side_row(line),
         b'L' => shortest::row(line),
+        b'l' => shortest::side_row(line),
         b'F' => find::row(line),
         b'A' => ask::row(line),
+        b'a' => ask::side_row(line),
         b'T' => trials_trays::read::row(line),
         b'M' => trials_trays::merge::row(line),
+        b'm' => trials_trays::merge::side_row(line),
         b'S' => ask::signs(),
         b'-' => {
             io::write_all(1, line);
@@ -48,10 +58,10 @@ fn rows(s: &[u8]) {
 }
 
 // Room for the input.
-fn space() -> [u8; 3145728]
-    ensures { λ r. ⌜ 3145728 ≡ length r ⌝ }
+fn space() -> [u8; 3407872]
+    ensures { λ r. ⌜ 3407872 ≡ length r ⌝ }
 {
-    [0; 3145728]
+    [0; 3407872]
 }
 
 fn main() {

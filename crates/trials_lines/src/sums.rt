@@ -61,7 +61,8 @@ fn place(sum: u32, x: Place) -> u32 {
     let slip = mix(sum, x.slip as u32);
     let at = mix(slip, x.place as u32);
     let mark = mix(at, flag(x.kept));
-    mix(mark, x.compared as u32)
+    let compared = mix(mark, x.compared as u32);
+    mix(compared, byte(x.side))
 }
 
 fn found(sum: u32, x: Found) -> u32 {

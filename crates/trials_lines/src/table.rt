@@ -8,6 +8,12 @@ pub struct Read {
     pub at: usize,
 }
 
+// A side that the line names, and the place after it.
+pub struct Side {
+    pub value: u8,
+    pub at: usize,
+}
+
 // How many letters a tray has, and how many ends.
 pub struct Tray {
     pub letters: usize,
@@ -53,6 +59,17 @@ pub fn least(room: u32, size: usize) -> usize
 {
     let n = room as usize;
     if n < size { n } else { size }
+}
+
+// How much of a list of `size` sides is lent with a tray of this many slips: a side for each slip where all slips are blank, else the whole list.
+pub fn listed(blank: bool, slips: usize, size: usize) -> usize
+    ensures { λ r. ⌜ r ≤ size ⌝ }
+{
+    if blank {
+        least(count(slips), size)
+    } else {
+        size
+    }
 }
 
 // The byte at a place, a blank after the end.
@@ -160,7 +177,12 @@ fn hex_byte(s: &[u8], at: usize) -> u8
     16 * hex(byte_at(s, at)) + hex(byte_at(s, behind(s, at)))
 }
 
-// The code that starts at `from`: a count or none, and a comma, a byte in hexadecimal digits, or a byte as it is.
+// The byte that a sign of the line stands for: a blank for `_`, else itself.
+fn sign_byte(sign: u8) -> u8 {
+    if sign == b'_' { b' ' } else { sign }
+}
+
+// The code that starts at `from`: a count or none, and a comma, a byte in hexadecimal digits, or a sign.
 fn next_code(s: &[u8], from: usize) -> Code
     requires { ⌜ from ≤ length (now s) ⌝ }
     ensures { λ r. ⌜ from < r .at ⌝ }
@@ -186,7 +208,7 @@ fn next_code(s: &[u8], from: usize) -> Code
         };
     }
     Code {
-        letter: sign,
+        letter: sign_byte(sign),
         letters: n,
         ends: 0,
         at: here + 1,
@@ -267,6 +289,19 @@ pub fn next(line: &[u8], from: usize) -> usize
     ensures { λ r. ⌜ r ≤ length (now (line .entry)) ⌝ }
 {
     behind(line, find(line, from, b' '))
+}
+
+// The side that the field at `from` codes, 0 if there is none, and where the next field starts.
+pub fn side_at(line: &[u8], from: usize) -> Side
+    requires { ⌜ from ≤ length (now line) ⌝ }
+    ensures { λ r. ⌜ r .at ≤ length (now (line .entry)) ⌝ }
+{
+    let mut one = [0u8; 1];
+    text_at(line, from, &mut one);
+    Side {
+        value: one[0],
+        at: next(line, from),
+    }
 }
 
 // An entry among the ends: 3, which is 1x3, or 12x3.

@@ -1,6 +1,6 @@
 -- A function with the code of `compose`, over arrays of n records and with any struct of the answer and the arrays as its result, meets each contract
 -- that follows from what `compose_tray` says: a straight-line walk of its MIR, by hand:
---     let answer = compose_tray::compose_tray(letters, ends, settings, work, legend, &mut joins, &mut places);
+--     let answer = compose_tray::compose_tray(letters, ends, sides, settings, work, legend, &mut joins, &mut places);
 --     Composition { answer, joins, places }
 -- The settings, the work area and the legend are given to the callee for good; each array is lent to it for a lifetime of the call, and comes back.
 -- All that the proof knows of the callee is that it meets its contract.
@@ -82,25 +82,27 @@ module _ (n : ℕ) (name : Sym) (D : Type 0) (values : D → Values (Fs n)) (mak
 
   abbrev pub signature : Signature
   signature = record {
-    lifetimes = 4;
+    lifetimes = 5;
     outlives = [];
     params = SliceRefOf (0 ∷ []) tt (plain (λ κs. u8)) (λ κs. tt) ∷ SliceRefOf (1 ∷ []) tt (plain (λ κs. u16)) (λ κs. tt)
-        ∷ plain (λ κs. G.the-row) ∷ SliceRefMutOf (2 ∷ []) tt (plain (λ κs. u16)) (λ κs. tt) ∷ SliceRefMutOf (3 ∷ []) tt (plain (λ κs. u8)) (λ κs. tt)
+        ∷ SliceRefOf (2 ∷ []) tt (plain (λ κs. u8)) (λ κs. tt)
+        ∷ plain (λ κs. G.the-row) ∷ SliceRefMutOf (3 ∷ []) tt (plain (λ κs. u16)) (λ κs. tt) ∷ SliceRefMutOf (4 ∷ []) tt (plain (λ κs. u8)) (λ κs. tt)
         ∷ ArrayOf (plain (λ κs. J.the-row)) (λ κs. tt) n ∷ ArrayOf (plain (λ κs. P.the-row)) (λ κs. tt) n ∷ [];
     result = plain (λ κs. row S);
   }
 
   abbrev pub ended : Ended
-  ended = record { signature = signature; kept = (yes, (yes, (yes, (yes, (yes, (yes, (yes, tt))))))) }
+  ended = record { signature = signature; kept = (yes, (yes, (yes, (yes, (yes, (yes, (yes, (yes, tt)))))))) }
 
   -- a type that a reference points to is written by its name
   abbrev pub function : Fn
   function = record {
-    lifetimes = 4;
+    lifetimes = 5;
     outlives = [];
-    params = 7;
+    params = 8;
     locals = value (lone (row S .mir)) ∷ value (sliceTy (tyRef (named 0) imm (tyInt w8))) ∷ value (sliceTy (tyRef (named 1) imm (tyInt w16)))
-        ∷ value G′.mir ∷ value (sliceTy (tyRef (named 2) mut (tyInt w16))) ∷ value (sliceTy (tyRef (named 3) mut (tyInt w8)))
+        ∷ value (sliceTy (tyRef (named 2) imm (tyInt w8)))
+        ∷ value G′.mir ∷ value (sliceTy (tyRef (named 3) mut (tyInt w16))) ∷ value (sliceTy (tyRef (named 4) mut (tyInt w8)))
         ∷ value (tyArray J′.mir n) ∷ value (tyArray P′.mir n) ∷ local (tyArray J′.mir n) memorySlot ∷ local (tyArray P′.mir n) memorySlot ∷ value R′.mir
         ∷ value (tyRef erased mut (tyInt w16)) ∷ value (sliceTy (tyRef erased mut (tyInt w16))) ∷ value (tyRef erased mut (tyInt w8))
         ∷ value (sliceTy (tyRef erased mut (tyInt w8)))
@@ -108,12 +110,12 @@ module _ (n : ℕ) (name : Sym) (D : Type 0) (values : D → Values (Fs n)) (mak
         ∷ value (tyRef erased mut (tyArray (P.the-row .written .ty) n)) ∷ value (sliceTy (tyRef erased mut (P.the-row .written .ty)))
         ∷ value (tyArray J′.mir n) ∷ value (tyArray P′.mir n) ∷ [];
     body = run-all
-        (set 8 (rvOpd (of 6)) ∷ set 9 (rvOpd (of 7)) ∷ set 11 (pointer 4 (tyInt w16)) ∷ set 12 (aggregate (of 11 ∷ count 4 ∷ []))
-        ∷ set 13 (pointer 5 (tyInt w8)) ∷ set 14 (aggregate (of 13 ∷ count 5 ∷ []))
-        ∷ set 15 (addrOf (place 8 [])) ∷ set 16 (aggregate (of 15 ∷ int w64 n ∷ [])) ∷ set 17 (addrOf (place 9 []))
-        ∷ set 18 (aggregate (of 17 ∷ int w64 n ∷ []))
-        ∷ call tray-def.name (of 1 ∷ of 2 ∷ of 3 ∷ of 12 ∷ of 14 ∷ of 16 ∷ of 18 ∷ []) (place 10 []) ∷ set 19 (rvOpd (of 8)) ∷ set 20 (rvOpd (of 9))
-        ∷ set 0 (aggregate (of 10 ∷ of 19 ∷ of 20 ∷ [])) ∷ []);
+        (set 9 (rvOpd (of 7)) ∷ set 10 (rvOpd (of 8)) ∷ set 12 (pointer 5 (tyInt w16)) ∷ set 13 (aggregate (of 12 ∷ count 5 ∷ []))
+        ∷ set 14 (pointer 6 (tyInt w8)) ∷ set 15 (aggregate (of 14 ∷ count 6 ∷ []))
+        ∷ set 16 (addrOf (place 9 [])) ∷ set 17 (aggregate (of 16 ∷ int w64 n ∷ [])) ∷ set 18 (addrOf (place 10 []))
+        ∷ set 19 (aggregate (of 18 ∷ int w64 n ∷ []))
+        ∷ call tray-def.name (of 1 ∷ of 2 ∷ of 3 ∷ of 4 ∷ of 13 ∷ of 15 ∷ of 17 ∷ of 19 ∷ []) (place 11 []) ∷ set 20 (rvOpd (of 9))
+        ∷ set 21 (rvOpd (of 10)) ∷ set 0 (aggregate (of 11 ∷ of 20 ∷ of 21 ∷ [])) ∷ []);
   }
 
   abbrev joins-laws : LL.FLaws (array-field J.the-field n)
@@ -140,7 +142,7 @@ module _ (n : ℕ) (name : Sym) (D : Type 0) (values : D → Values (Fs n)) (mak
     (is-of J.the-type n joins-laws js u is-js, (is-of P.the-type n places-laws ps v is-ps, tt)),
   )
 
-  -- at exit the letters and the ends are owned as they were passed; of the work area and the legend the last values are known, of the
+  -- at exit the letters, the ends and the sides are owned as they were passed; of the work area and the legend the last values are known, of the
   -- settings and the arrays nothing
   abbrev stayed : Stays (ended .signature .params) (ended .kept)
   stayed = (
@@ -148,12 +150,15 @@ module _ (n : ℕ) (name : Sym) (D : Type 0) (values : D → Values (Fs n)) (mak
     (
       stay-none-slice (1 ∷ []) tt (plain (λ _. u16)) yes,
       (
-        stay-dropped (plain (λ _. G.the-row)) yes,
+        stay-none-slice (2 ∷ []) tt (plain (λ _. u8)) yes,
         (
-          gave-slice (2 ∷ []) tt (plain (λ _. u16)),
+          stay-dropped (plain (λ _. G.the-row)) yes,
           (
-            gave-slice (3 ∷ []) tt (plain (λ _. u8)),
-            (stay-dropped (ArrayOf (plain (λ _. J.the-row)) (λ _. tt) n) yes, (stay-dropped (ArrayOf (plain (λ _. P.the-row)) (λ _. tt) n) yes, tt)),
+            gave-slice (3 ∷ []) tt (plain (λ _. u16)),
+            (
+              gave-slice (4 ∷ []) tt (plain (λ _. u8)),
+              (stay-dropped (ArrayOf (plain (λ _. J.the-row)) (λ _. tt) n) yes, (stay-dropped (ArrayOf (plain (λ _. P.the-row)) (λ _. tt) n) yes, tt)),
+            ),
           ),
         ),
       ),
@@ -172,9 +177,9 @@ module _ (n : ℕ) (name : Sym) (D : Type 0) (values : D → Values (Fs n)) (mak
 
   module _ (small : T (ltb n (2 ^ 64))) (joins-room : Room J.the-row n) (places-room : Room P.the-row n) {M : Type 1} (𝓤 : URA M) (H : Heap 𝓤) (𝓜 : Model 𝓤 H)
       (𝓖 : GhostRules 𝓤 H) (𝓡 : Running 𝓤 H 𝓜) (c : Clauses 𝓤 ended)
-      (holds : (κs : Lfts 4) (a : Args signature κs) (g : c κs a .ghost) (v : Values (Fs n)) (ws : Lasts ended κs a)
-      → ComposeSays (a .1 .1 .0) (a .0 .now) (a .1 .0 .now) (a .1 .1 .1 .0 .now) (ws .1 .1 .1 .0) (a .1 .1 .1 .1 .0 .now) (ws .1 .1 .1 .1 .0)
-      (a .1 .1 .1 .1 .1 .0) (v .1 .0) (a .1 .1 .1 .1 .1 .1 .0) (v .1 .1 .0) (v .0) → ent 𝓤 (emp 𝓤) (c κs a .ensures g (make v tt) (atExit ended κs a ws))) where
+      (holds : (κs : Lfts 5) (a : Args signature κs) (g : c κs a .ghost) (v : Values (Fs n)) (ws : Lasts ended κs a)
+      → ComposeSays (a .1 .1 .1 .0) (a .0 .now) (a .1 .0 .now) (a .1 .1 .0 .now) (a .1 .1 .1 .1 .0 .now) (ws .1 .1 .1 .1 .0) (a .1 .1 .1 .1 .1 .0 .now)
+      (ws .1 .1 .1 .1 .1 .0) (a .1 .1 .1 .1 .1 .1 .0) (v .1 .0) (a .1 .1 .1 .1 .1 .1 .1 .0) (v .1 .1 .0) (v .0) → ent 𝓤 (emp 𝓤) (c κs a .ensures g (make v tt) (atExit ended κs a ws))) where
     abbrev A : Atoms 𝓤
     A = 𝓖 .A
 
@@ -191,125 +196,131 @@ module _ (n : ℕ) (name : Sym) (D : Type 0) (values : D → Values (Fs n)) (mak
     abbrev places-law : Lawful 𝓤 H A P.the-row
     places-law = LL.lawful P.the-type P′.the-laws 𝓤 H A W
 
-    module _ (κ₀ κ₁ κ₂ κ₃ : Lft) (q₀ q₁ q₂ q₃ : Share) (ls es : RefT (List ℕ)) (st : Settings) (wk lg : RefT (List ℕ)) (js : List Join)
+    module _ (κ₀ κ₁ κ₂ κ₃ κ₄ : Lft) (q₀ q₁ q₂ q₃ q₄ : Share) (ls es cs : RefT (List ℕ)) (st : Settings) (wk lg : RefT (List ℕ)) (js : List Join)
         (ps : List Place) (is-st : Is G.the-row st (set-vals st))
-        (room-s : Room u8 (length (ls .now))) (room-e : Room u16 (length (es .now))) (room-w : Room u16 (length (wk .now)))
+        (room-s : Room u8 (length (ls .now))) (room-e : Room u16 (length (es .now))) (room-c : Room u8 (length (cs .now))) (room-w : Room u16 (length (wk .now)))
         (room-l : Room u8 (length (lg .now))) (is-js : Is (Array J.the-row n) js (joins-value js))
         (is-ps : Is (Array P.the-row n) ps (places-value ps)) where
       abbrev bound : Bound 𝓤 H A signature
       bound = (
-        (κ₀, (κ₁, (κ₂, (κ₃, tt)))),
-        (q₀, (q₁, (q₂, (q₃, tt)))),
+        (κ₀, (κ₁, (κ₂, (κ₃, (κ₄, tt))))),
+        (q₀, (q₁, (q₂, (q₃, (q₄, tt))))),
         tt,
-        (ls, (es, (st, (wk, (lg, (js, (ps, tt))))))),
-        (slice-vals ls, (slice-vals es, (set-vals st, (slice-vals wk, (slice-vals lg, (joins-value js, (places-value ps, tt))))))),
+        (ls, (es, (cs, (st, (wk, (lg, (js, (ps, tt)))))))),
+        (slice-vals ls, (slice-vals es, (slice-vals cs, (set-vals st, (slice-vals wk, (slice-vals lg, (joins-value js, (places-value ps, tt)))))))),
       )
 
       -- what the callee's triple binds outside: it has the arrays at l and m lent for the lifetimes ν and μ under the names δ and ε
       abbrev to-tray : ℕ → ℕ → GName → ℕ → ℕ → GName → Bound 𝓤 H A tray.signature
       to-tray l ν δ m μ ε = (
-        (κ₀, (κ₁, (κ₂, (κ₃, (ν ∷ [], (μ ∷ [], tt)))))),
-        (q₀, (q₁, (q₂, (q₃, (fullShare, (fullShare, tt)))))),
+        (κ₀, (κ₁, (κ₂, (κ₃, (κ₄, (ν ∷ [], (μ ∷ [], tt))))))),
+        (q₀, (q₁, (q₂, (q₃, (q₄, (fullShare, (fullShare, tt))))))),
         tt,
-        (ls, (es, (st, (wk, (lg, (record { ptr = (l, 0); name = δ; now = js }, (record { ptr = (m, 0); name = ε; now = ps }, tt))))))),
-        (slice-vals ls, (slice-vals es, (set-vals st, (slice-vals wk, (slice-vals lg, (sliceVal (l, 0) n ∷ [], (sliceVal (m, 0) n ∷ [], tt))))))),
+        (ls, (es, (cs, (st, (wk, (lg, (record { ptr = (l, 0); name = δ; now = js }, (record { ptr = (m, 0); name = ε; now = ps }, tt)))))))),
+        (
+          slice-vals ls,
+          (slice-vals es, (slice-vals cs, (set-vals st, (slice-vals wk, (slice-vals lg, (sliceVal (l, 0) n ∷ [], (sliceVal (m, 0) n ∷ [], tt))))))),
+        ),
       )
 
       module _ (C : Calls 𝓤 H) (Λ : Loops 𝓤 H) (fm : FmC 𝓤 H (W .laws) C) (tray-known : Triple 𝓤 (C tray-def.name) Tray)
           (g : c (bound .0) (bound .3) .ghost) where
         walk : ent 𝓤 (onEntry 𝓤 H A signature (bound .0) (bound .1) (bound .3) (bound .4))
-            (WpFn 𝓤 H C Λ function (slice-vals ls ++ slice-vals es ++ set-vals st ++ slice-vals wk ++ slice-vals lg ++ joins-value js ++ places-value ps)
+            (WpFn 𝓤 H C Λ function (slice-vals ls ++ slice-vals es ++ slice-vals cs ++ set-vals st ++ slice-vals wk ++ slice-vals lg ++ joins-value js ++ places-value ps)
             (walkOf 𝓤 H A ended stayed c .post (bound, g)))
         walk =
             begun 𝓤 H A ended bound W ∵
-            enter ! C Λ function (slice-vals ls ++ slice-vals es ++ set-vals st ++ slice-vals wk ++ slice-vals lg ++ joins-value js ++ places-value ps) _ $
+            enter ! C Λ function (slice-vals ls ++ slice-vals es ++ slice-vals cs ++ set-vals st ++ slice-vals wk ++ slice-vals lg ++ joins-value js ++ places-value ps) _ $
             alloc1 ! (λ l₀. alloc1 ! (λ l₁. alloc1 ! (λ l₂. alloc1 ! (λ l₃. alloc1 ! (λ l₄. alloc1 ! (λ l₅. alloc1 ! (λ l₆. alloc1 ! (λ l₇. alloc1 ! (λ l₈.
             alloc1 ! (λ l₉. alloc1 ! (λ l₁₀. alloc1 ! (λ l₁₁. alloc1 ! (λ l₁₂. alloc1 ! (λ l₁₃. alloc1 ! (λ l₁₄. alloc1 ! (λ l₁₅. alloc1 ! (λ l₁₆.
-            alloc1 ! (λ l₁₇. alloc1 ! (λ l₁₈. alloc1 ! (λ l₁₉. alloc1 ! (λ l₂₀. alloc0 ! $ params1 ! $
-            pass1 ! (init ! 38 refl (tt, (tt, (record { fits = room-s .0 }, tt)))) $ pass1 ! (init ! 36 refl (tt, (tt, (record { fits = room-e .0 }, tt)))) $
+            alloc1 ! (λ l₁₇. alloc1 ! (λ l₁₈. alloc1 ! (λ l₁₉. alloc1 ! (λ l₂₀. alloc1 ! (λ l₂₁. alloc0 ! $ params1 ! $
+            pass1 ! (init ! 40 refl (tt, (tt, (record { fits = room-s .0 }, tt)))) $ pass1 ! (init ! 38 refl (tt, (tt, (record { fits = room-e .0 }, tt)))) $
+            pass1 ! (init ! 36 refl (tt, (tt, (record { fits = room-c .0 }, tt)))) $
             pass1 ! (init ! 34 refl (LL.lawful G.the-type G′.the-laws 𝓤 H A W .typed st _ is-st .0)) $
             pass1 ! (init ! 32 refl (tt, (tt, (record { fits = room-w .0 }, tt)))) $ pass1 ! (init ! 30 refl (tt, (tt, (record { fits = room-l .0 }, tt)))) $
             pass1 ! (init ! 28 refl (typed 𝓤 H A W J.the-type joins-law n js _ is-js .0)) $
             pass1 ! (init ! 26 refl (typed 𝓤 H A W P.the-type places-law n ps _ is-ps .0)) $ pass0 ! $
-            move ! (42 ∷ 43 ∷ 44 ∷ 45 ∷ 46 ∷ 47 ∷ 48 ∷ 49 ∷ 50 ∷ 51 ∷ 52 ∷ []) $
-            -- [κ₀; κ₁; κ₂; κ₃; letters; ends; settings; work; legend; joins; places; _20; …; _0; …]: local i stands at 51 - 2 i
+            move ! (44 ∷ 45 ∷ 46 ∷ 47 ∷ 48 ∷ 49 ∷ 50 ∷ 51 ∷ 52 ∷ 53 ∷ 54 ∷ 55 ∷ 56 ∷ []) $
+            -- [κ₀; κ₁; κ₂; κ₃; κ₄; letters; ends; sides; settings; work; legend; joins; places; _21; …; _0; …]: local i stands at 55 - 2 i
+            assigns ! (of-opd ! (load ! (from ! (stop !)) (look ! 41 refl))) (from ! (stop !))
+            (init ! 37 refl (typed 𝓤 H A W J.the-type joins-law n js _ is-js .0)) $
             assigns ! (of-opd ! (load ! (from ! (stop !)) (look ! 39 refl))) (from ! (stop !))
-            (init ! 35 refl (typed 𝓤 H A W J.the-type joins-law n js _ is-js .0)) $
-            assigns ! (of-opd ! (load ! (from ! (stop !)) (look ! 37 refl))) (from ! (stop !))
-            (init ! 33 refl (typed 𝓤 H A W P.the-type places-law n ps _ is-ps .0)) $
-            relends ! 43 29 27 (room-w .0) refl refl refl refl refl refl refl refl $ relends ! 41 25 23 (room-l .0) refl refl refl refl refl refl refl refl $
-            assigns ! (addr ! (from ! (stop !))) (from ! (stop !)) (init ! 21 refl (tt, tt)) $
-            assigns ! (agg ! (and-then ! (load ! (from ! (stop !)) (look ! 21 refl)) (and-then ! (lit ! small) (no-more !)))) (from ! (stop !))
-            (init ! 19 refl (tt, (tt, (record { fits = joins-room .0 }, tt)))) $
-            assigns ! (addr ! (from ! (stop !))) (from ! (stop !)) (init ! 17 refl (tt, tt)) $
-            assigns ! (agg ! (and-then ! (load ! (from ! (stop !)) (look ! 17 refl)) (and-then ! (lit ! small) (no-more !)))) (from ! (stop !))
-            (init ! 15 refl (tt, (tt, (record { fits = places-room .0 }, tt)))) $
+            (init ! 35 refl (typed 𝓤 H A W P.the-type places-law n ps _ is-ps .0)) $
+            relends ! 45 31 29 (room-w .0) refl refl refl refl refl refl refl refl $ relends ! 43 27 25 (room-l .0) refl refl refl refl refl refl refl refl $
+            assigns ! (addr ! (from ! (stop !))) (from ! (stop !)) (init ! 23 refl (tt, tt)) $
+            assigns ! (agg ! (and-then ! (load ! (from ! (stop !)) (look ! 23 refl)) (and-then ! (lit ! small) (no-more !)))) (from ! (stop !))
+            (init ! 21 refl (tt, (tt, (record { fits = joins-room .0 }, tt)))) $
+            assigns ! (addr ! (from ! (stop !))) (from ! (stop !)) (init ! 19 refl (tt, tt)) $
+            assigns ! (agg ! (and-then ! (load ! (from ! (stop !)) (look ! 19 refl)) (and-then ! (lit ! small) (no-more !)))) (from ! (stop !))
+            (init ! 17 refl (tt, (tt, (record { fits = places-room .0 }, tt)))) $
             -- the arrays are lent for the call, for the lifetimes ν and μ, under the names δ and ε
-            move ! (9 ∷ 35 ∷ []) $ lends-array ! tt J.the-row tt n joins-room js _ l₈ (λ len-js ν δ.
-            -- [joins, lent; what is kept of them; ν; κ₀; κ₁; κ₂; κ₃; letters; ends; settings; work; legend; places; locals, without the joins' cell]
-            move ! (12 ∷ 35 ∷ []) $ lends-array ! tt P.the-row tt n places-room ps _ l₉ (λ len-ps μ ε.
-            -- [places, lent; what is kept of them; μ; joins, lent; what is kept of them; ν; κ₀; κ₁; κ₂; κ₃; letters; ends; settings; work;
+            move ! (11 ∷ 37 ∷ []) $ lends-array ! tt J.the-row tt n joins-room js _ l₉ (λ len-js ν δ.
+            -- [joins, lent; what is kept of them; ν; κ₀; κ₁; κ₂; κ₃; κ₄; letters; ends; sides; settings; work; legend; places; locals, without the joins' cell]
+            move ! (14 ∷ 37 ∷ []) $ lends-array ! tt P.the-row tt n places-room ps _ l₁₀ (λ len-ps μ ε.
+            -- [places, lent; what is kept of them; μ; joins, lent; what is kept of them; ν; κ₀; κ₁; κ₂; κ₃; κ₄; letters; ends; sides; settings; work;
             -- legend; locals, without the arrays' cells]
-            move ! (10 ∷ []) $ twice ! u8 ls (slice-vals ls) $ move ! (12 ∷ []) $ twice ! u16 es (slice-vals es) $
-            -- [ends; ends; letters; letters; places, lent; what is kept of them; μ; joins, lent; what is kept of them; ν; κ₀; κ₁; κ₂; κ₃; settings; work;
-            -- legend; locals]
-            move ! (10 ∷ 11 ∷ 12 ∷ 13 ∷ 9 ∷ 6 ∷ 2 ∷ 0 ∷ 14 ∷ 15 ∷ 16 ∷ 7 ∷ 4 ∷ []) $
-            calls-to W tray.ended (tray.clauses 𝓤 H A (𝓜 .mem) (𝓡 .run)) (to-tray l₈ ν δ l₉ μ ε) tt
-            (λ r zs. ComposeSays st (ls .now) (es .now) (wk .now) (zs .1 .1 .1 .0) (lg .now) (zs .1 .1 .1 .1 .0) js (zs .1 .1 .1 .1 .1 .0) ps
-            (zs .1 .1 .1 .1 .1 .1 .0) r)
+            move ! (11 ∷ []) $ twice ! u8 ls (slice-vals ls) $ move ! (13 ∷ []) $ twice ! u16 es (slice-vals es) $
+            move ! (15 ∷ []) $ twice ! u8 cs (slice-vals cs) $
+            -- [sides; sides; ends; ends; letters; letters; places, lent; what is kept of them; μ; joins, lent; what is kept of them; ν; κ₀; κ₁; κ₂; κ₃; κ₄;
+            -- settings; work; legend; locals]
+            move ! (12 ∷ 13 ∷ 14 ∷ 15 ∷ 16 ∷ 11 ∷ 8 ∷ 4 ∷ 2 ∷ 0 ∷ 17 ∷ 18 ∷ 19 ∷ 9 ∷ 6 ∷ []) $
+            calls-to W tray.ended (tray.clauses 𝓤 H A (𝓜 .mem) (𝓡 .run)) (to-tray l₉ ν δ l₁₀ μ ε) tt
+            (λ r zs. ComposeSays st (ls .now) (es .now) (cs .now) (wk .now) (zs .1 .1 .1 .1 .0) (lg .now) (zs .1 .1 .1 .1 .1 .0) js (zs .1 .1 .1 .1 .1 .1 .0) ps
+            (zs .1 .1 .1 .1 .1 .1 .1 .0) r)
             ! fm tray-known (id⊢ 𝓤 (emp 𝓤)) (λ r zs. refl)
-            (and-then ! (load ! (from ! (stop !)) (look ! 41 refl))
-            (and-then ! (load ! (from ! (stop !)) (look ! 39 refl))
-            (and-then ! (load ! (from ! (stop !)) (look ! 37 refl))
-            (and-then ! (load ! (from ! (stop !)) (look ! 21 refl))
-            (and-then ! (load ! (from ! (stop !)) (look ! 17 refl))
-            (and-then ! (load ! (from ! (stop !)) (look ! 13 refl)) (and-then ! (load ! (from ! (stop !)) (look ! 9 refl)) (no-more !)))))))) (λ w r zs says.
-            -- [what the answer owns; true; true; true; work's last value; legend's; joins'; places'; κ₀; κ₁; κ₂; κ₃; ν; μ; ends; letters; what is
-            -- kept of places; of joins; locals]
+            (and-then ! (load ! (from ! (stop !)) (look ! 44 refl))
+            (and-then ! (load ! (from ! (stop !)) (look ! 42 refl))
+            (and-then ! (load ! (from ! (stop !)) (look ! 40 refl))
+            (and-then ! (load ! (from ! (stop !)) (look ! 38 refl))
+            (and-then ! (load ! (from ! (stop !)) (look ! 22 refl))
+            (and-then ! (load ! (from ! (stop !)) (look ! 18 refl))
+            (and-then ! (load ! (from ! (stop !)) (look ! 14 refl)) (and-then ! (load ! (from ! (stop !)) (look ! 10 refl)) (no-more !))))))))) (λ w r zs says.
+            -- [what the answer owns; true; true; true; true; work's last value; legend's; joins'; places'; κ₀; κ₁; κ₂; κ₃; κ₄; ν; μ; sides; ends; letters;
+            -- what is kept of places; of joins; locals]
             facts ! R.the-row (Is R.the-row) (shows 𝓤 H A R.the-row) r (w ∷ [])
-            (λ is. land ! (from ! (stop !)) (init ! 37 refl (LL.lawful R.the-type R′.the-laws 𝓤 H A W .typed r _ is .0)) $
-            rewrite ! 37 (λ (u : Val). ‵ (fat fullShare R′.mir l₁₀ 0 u)) (ap only (R′.the-field-laws .tells (R.the-type .to r) (w ∷ []) is)) refl $
-            drop ! $ drop ! $ drop ! $
-            -- [work's last value; legend's; joins'; places'; κ₀; κ₁; κ₂; κ₃; ν; μ; ends; letters; what is kept of places; of joins; locals].
+            (λ is. land ! (from ! (stop !)) (init ! 40 refl (LL.lawful R.the-type R′.the-laws 𝓤 H A W .typed r _ is .0)) $
+            rewrite ! 40 (λ (u : Val). ‵ (fat fullShare R′.mir l₁₁ 0 u)) (ap only (R′.the-field-laws .tells (R.the-type .to r) (w ∷ []) is)) refl $
+            drop ! $ drop ! $ drop ! $ drop ! $
+            -- [work's last value; legend's; joins'; places'; κ₀; κ₁; κ₂; κ₃; κ₄; ν; μ; sides; ends; letters; what is kept of places; of joins; locals].
             -- Both lifetimes are ended, and the arrays come back
-            move ! (2 ∷ 13 ∷ 8 ∷ []) $
+            move ! (2 ∷ 15 ∷ 9 ∷ []) $
             takes-array ! tt J.the-row n
-            (zs .1 .1 .1 .1 .1 .0) l₈
-            (λ len-j u. facts ! (Array J.the-row n) (Is (Array J.the-row n)) (shows 𝓤 H A (Array J.the-row n)) (zs .1 .1 .1 .1 .1 .0) (u ∷ []) (λ is-j.
-            rewrite ! 0 (λ (x : Val). ‵ (fat fullShare (tyArray J′.mir n) l₈ 0 x)) (value-of J.the-type n joins-laws (zs .1 .1 .1 .1 .1 .0) u is-j) refl $
-            -- [the joins' cell; work's last value; legend's; places'; κ₀; κ₁; κ₂; κ₃; μ; ends; letters; what is kept of places; locals]
-            move ! (3 ∷ 11 ∷ 8 ∷ []) $
+            (zs .1 .1 .1 .1 .1 .1 .0) l₉
+            (λ len-j u. facts ! (Array J.the-row n) (Is (Array J.the-row n)) (shows 𝓤 H A (Array J.the-row n)) (zs .1 .1 .1 .1 .1 .1 .0) (u ∷ []) (λ is-j.
+            rewrite ! 0 (λ (x : Val). ‵ (fat fullShare (tyArray J′.mir n) l₉ 0 x)) (value-of J.the-type n joins-laws (zs .1 .1 .1 .1 .1 .1 .0) u is-j) refl $
+            -- [the joins' cell; work's last value; legend's; places'; κ₀; κ₁; κ₂; κ₃; κ₄; μ; sides; ends; letters; what is kept of places; locals]
+            move ! (3 ∷ 13 ∷ 9 ∷ []) $
             takes-array ! tt P.the-row n
-            (zs .1 .1 .1 .1 .1 .1 .0)
-            l₉ (λ len-p v. facts ! (Array P.the-row n) (Is (Array P.the-row n)) (shows 𝓤 H A (Array P.the-row n)) (zs .1 .1 .1 .1 .1 .1 .0) (v ∷ []) (λ is-p.
-            rewrite ! 0 (λ (x : Val). ‵ (fat fullShare (tyArray P′.mir n) l₉ 0 x)) (value-of P.the-type n places-laws (zs .1 .1 .1 .1 .1 .1 .0) v is-p) refl $
-            -- [the places' cell; the joins' cell; work's last value; legend's; κ₀; κ₁; κ₂; κ₃; ends; letters; locals]
+            (zs .1 .1 .1 .1 .1 .1 .1 .0)
+            l₁₀ (λ len-p v. facts ! (Array P.the-row n) (Is (Array P.the-row n)) (shows 𝓤 H A (Array P.the-row n)) (zs .1 .1 .1 .1 .1 .1 .1 .0) (v ∷ []) (λ is-p.
+            rewrite ! 0 (λ (x : Val). ‵ (fat fullShare (tyArray P′.mir n) l₁₀ 0 x)) (value-of P.the-type n places-laws (zs .1 .1 .1 .1 .1 .1 .1 .0) v is-p) refl $
+            -- [the places' cell; the joins' cell; work's last value; legend's; κ₀; κ₁; κ₂; κ₃; κ₄; sides; ends; letters; locals]
             assigns ! (of-opd ! (load ! (from ! (stop !)) (look ! 1 refl))) (from ! (stop !))
-            (init ! 12 refl (typed-of 𝓤 H A W J.the-type joins-law n (zs .1 .1 .1 .1 .1 .0) joins-laws u is-j .0)) $
+            (init ! 14 refl (typed-of 𝓤 H A W J.the-type joins-law n (zs .1 .1 .1 .1 .1 .1 .0) joins-laws u is-j .0)) $
             assigns ! (of-opd ! (load ! (from ! (stop !)) (look ! 0 refl))) (from ! (stop !))
-            (init ! 10 refl (typed-of 𝓤 H A W P.the-type places-law n (zs .1 .1 .1 .1 .1 .1 .0) places-laws v is-p .0)) $
-            assigns ! (agg ! (and-then ! (load ! (from ! (stop !)) (look ! 30 refl))
-            (and-then ! (load ! (from ! (stop !)) (look ! 12 refl)) (and-then ! (load ! (from ! (stop !)) (look ! 10 refl)) (no-more !)))))
-            (from ! (stop !)) (init ! 48 refl
-            (LL.lawful S laws 𝓤 H A W .typed (made r (zs .1 .1 .1 .1 .1 .0) (zs .1 .1 .1 .1 .1 .1 .0)) _
-            (the-result r w is (zs .1 .1 .1 .1 .1 .0) u is-j (zs .1 .1 .1 .1 .1 .1 .0) v is-p) .0)) $
-            returns ! (look ! 48 refl) $
+            (init ! 12 refl (typed-of 𝓤 H A W P.the-type places-law n (zs .1 .1 .1 .1 .1 .1 .1 .0) places-laws v is-p .0)) $
+            assigns ! (agg ! (and-then ! (load ! (from ! (stop !)) (look ! 32 refl))
+            (and-then ! (load ! (from ! (stop !)) (look ! 14 refl)) (and-then ! (load ! (from ! (stop !)) (look ! 12 refl)) (no-more !)))))
+            (from ! (stop !)) (init ! 52 refl
+            (LL.lawful S laws 𝓤 H A W .typed (made r (zs .1 .1 .1 .1 .1 .1 .0) (zs .1 .1 .1 .1 .1 .1 .1 .0)) _
+            (the-result r w is (zs .1 .1 .1 .1 .1 .1 .0) u is-j (zs .1 .1 .1 .1 .1 .1 .1 .0) v is-p) .0)) $
+            returns ! (look ! 52 refl) $
             -- the arrays' cells are put back among the locals
             move ! (2 ∷ 3 ∷ 4 ∷ 5 ∷ 6 ∷ 7 ∷ 8 ∷ 9 ∷ 10 ∷ 11 ∷ 12 ∷ 13 ∷ 14 ∷ 15 ∷ 16 ∷ 17 ∷ 18 ∷ 19 ∷ 20 ∷ 21 ∷ 22 ∷ 23 ∷ 24 ∷ 25 ∷ 26 ∷ 27 ∷ 28 ∷ 29 ∷ 30 ∷ 31
-            ∷ 0 ∷ 32 ∷ 1 ∷ []) $
-            frees-behind W 8 (full _ _ _ ∷ full _ _ _ ∷ full _ _ _ ∷ full _ _ _ ∷ full _ _ _ ∷ full _ _ _ ∷ full _ _ _ ∷ full _ _ _ ∷ full _ _ _ ∷ full _ _ _
+            ∷ 32 ∷ 33 ∷ 0 ∷ 34 ∷ 1 ∷ []) $
+            frees-behind W 10 (full _ _ _ ∷ full _ _ _ ∷ full _ _ _ ∷ full _ _ _ ∷ full _ _ _ ∷ full _ _ _ ∷ full _ _ _ ∷ full _ _ _ ∷ full _ _ _ ∷ full _ _ _ ∷ full _ _ _
             ∷ full _ _ _ ∷ full _ _ _ ∷ full _ _ _ ∷ full _ _ _ ∷ full _ _ _ ∷ full _ _ _ ∷ full _ _ _ ∷ full _ _ _ ∷ full _ _ _ ∷ full _ _ _
             ∷ full _ _ _ ∷ []) ! refl $
-            -- [work's last value; legend's; κ₀; κ₁; κ₂; κ₃; ends; letters]
+            -- [work's last value; legend's; κ₀; κ₁; κ₂; κ₃; κ₄; sides; ends; letters]
             fsplit ! $ move ! (1 ∷ []) $ feqL ! (λ len-w. move ! (1 ∷ []) $ fsplit ! $ move ! (1 ∷ []) $ feqL ! (λ len-l.
             -- the tokens, what is had of the parameters, and the result
-            owned ! (row S) (Is (row S)) (LL.makes S plains 𝓤 H A) (made r (zs .1 .1 .1 .1 .1 .0) (zs .1 .1 .1 .1 .1 .1 .0)) _
-            (the-result r w is (zs .1 .1 .1 .1 .1 .0) u is-j (zs .1 .1 .1 .1 .1 .1 .0) v is-p) $ nothing ! $ nothing ! $ nothing ! $
-            -- [true; true; true; what the result owns; how legend ends; how work ends; κ₀; κ₁; κ₂; κ₃; ends; letters]
-            move ! (6 ∷ 7 ∷ 8 ∷ 9 ∷ 11 ∷ 10 ∷ 0 ∷ 5 ∷ 4 ∷ 1 ∷ 2 ∷ 3 ∷ []) $
-            by ! (ends-with 𝓤 H A ended bound c g W stayed _ (made r (zs .1 .1 .1 .1 .1 .0) (zs .1 .1 .1 .1 .1 .1 .0))
-            (tt, (tt, (tt, (zs .1 .1 .1 .0, (zs .1 .1 .1 .1 .0, (tt, (tt, tt))))))) (tt, (tt, (tt, (len-w, (len-l, (tt, (tt, tt)))))))
-            (holds _ _ g _ _ says)))))))))))))))))))))))))))))))))
+            owned ! (row S) (Is (row S)) (LL.makes S plains 𝓤 H A) (made r (zs .1 .1 .1 .1 .1 .1 .0) (zs .1 .1 .1 .1 .1 .1 .1 .0)) _
+            (the-result r w is (zs .1 .1 .1 .1 .1 .1 .0) u is-j (zs .1 .1 .1 .1 .1 .1 .1 .0) v is-p) $ nothing ! $ nothing ! $ nothing ! $
+            -- [true; true; true; what the result owns; how legend ends; how work ends; κ₀; κ₁; κ₂; κ₃; κ₄; sides; ends; letters]
+            move ! (6 ∷ 7 ∷ 8 ∷ 9 ∷ 10 ∷ 13 ∷ 12 ∷ 11 ∷ 0 ∷ 5 ∷ 4 ∷ 1 ∷ 2 ∷ 3 ∷ []) $
+            by ! (ends-with 𝓤 H A ended bound c g W stayed _ (made r (zs .1 .1 .1 .1 .1 .1 .0) (zs .1 .1 .1 .1 .1 .1 .1 .0))
+            (tt, (tt, (tt, (tt, (zs .1 .1 .1 .1 .0, (zs .1 .1 .1 .1 .1 .0, (tt, (tt, tt)))))))) (tt, (tt, (tt, (tt, (len-w, (len-l, (tt, (tt, tt))))))))
+            (holds _ _ g _ _ says))))))))))))))))))))))))))))))))))
 
     pub meets : (env : Env) → env tray-def.name ≡ tray-def.routine → Meets 𝓤 H A signature (WpFn 𝓤 H (tables 𝓤 H 𝓜 𝓡 env .C) (tables 𝓤 H 𝓜 𝓡 env .Λ) function)
         (closing 𝓤 H A ended c)
@@ -317,38 +328,44 @@ module _ (n : ℕ) (name : Sym) (D : Type 0) (values : D → Values (Fs n)) (mak
     meets env calls =
         let 𝓣 = tablesOf 𝓤 H 𝓜 (tables 𝓤 H 𝓜 𝓡 env) in
         meets-by 𝓤 H A W ended stayed (
-          goes-none-slice 𝓤 H A W 4 (0 ∷ []) tt (plain (λ _. u8)) yes,
+          goes-none-slice 𝓤 H A W 5 (0 ∷ []) tt (plain (λ _. u8)) yes,
           (
-            goes-none-slice 𝓤 H A W 4 (1 ∷ []) tt (plain (λ _. u16)) yes,
+            goes-none-slice 𝓤 H A W 5 (1 ∷ []) tt (plain (λ _. u16)) yes,
             (
-              goes-dropped 𝓤 H A W 4 (plain (λ _. G.the-row)) yes (λ κs x f. refl),
+              goes-none-slice 𝓤 H A W 5 (2 ∷ []) tt (plain (λ _. u8)) yes,
               (
-                goes-gave-slice 𝓤 H A W 4 2 tt (plain (λ _. u16)),
+                goes-dropped 𝓤 H A W 5 (plain (λ _. G.the-row)) yes (λ κs x f. refl),
                 (
-                  goes-gave-slice 𝓤 H A W 4 3 tt (plain (λ _. u8)),
+                  goes-gave-slice 𝓤 H A W 5 3 tt (plain (λ _. u16)),
                   (
-                    goes-dropped 𝓤 H A W 4 (ArrayOf (plain (λ _. J.the-row)) (λ _. tt) n) yes (λ κs x f. refl),
-                    (goes-dropped 𝓤 H A W 4 (ArrayOf (plain (λ _. P.the-row)) (λ _. tt) n) yes (λ κs x f. refl), tt),
+                    goes-gave-slice 𝓤 H A W 5 4 tt (plain (λ _. u8)),
+                    (
+                      goes-dropped 𝓤 H A W 5 (ArrayOf (plain (λ _. J.the-row)) (λ _. tt) n) yes (λ κs x f. refl),
+                      (goes-dropped 𝓤 H A W 5 (ArrayOf (plain (λ _. P.the-row)) (λ _. tt) n) yes (λ κs x f. refl), tt),
+                    ),
                   ),
                 ),
               ),
             ),
           ),
         )
-        c 𝓣 function (λ κs. (slice-vals, (slice-vals, (set-vals, (slice-vals, (slice-vals, (joins-value, (places-value, tt))))))))
+        c 𝓣 function (λ κs. (slice-vals, (slice-vals, (slice-vals, (set-vals, (slice-vals, (slice-vals, (joins-value, (places-value, tt)))))))))
         (λ κs. (
           shr-slice-tells (named 0) (κs .0) u8,
           (
             shr-slice-tells (named 1) (κs .1 .0) u16,
             (
-              LL.tells G.the-type G′.the-laws,
+              shr-slice-tells (named 2) (κs .1 .1 .0) u8,
               (
-                mut-slice-tells (named 2) (κs .1 .1 .0) u16,
+                LL.tells G.the-type G′.the-laws,
                 (
-                  mut-slice-tells (named 3) (κs .1 .1 .1 .0) u8,
+                  mut-slice-tells (named 3) (κs .1 .1 .1 .0) u16,
                   (
-                    array-tells J.the-row (LL.vals J.the-type J′.the-laws) (LL.tells J.the-type J′.the-laws) n,
-                    (array-tells P.the-row (LL.vals P.the-type P′.the-laws) (LL.tells P.the-type P′.the-laws) n, tt),
+                    mut-slice-tells (named 4) (κs .1 .1 .1 .1 .0) u8,
+                    (
+                      array-tells J.the-row (LL.vals J.the-type J′.the-laws) (LL.tells J.the-type J′.the-laws) n,
+                      (array-tells P.the-row (LL.vals P.the-type P′.the-laws) (LL.tells P.the-type P′.the-laws) n, tt),
+                    ),
                   ),
                 ),
               ),
@@ -356,8 +373,8 @@ module _ (n : ℕ) (name : Sym) (D : Type 0) (values : D → Values (Fs n)) (mak
           ),
         ))
         (λ κs qs bounds a g are. via 𝓤 _ (fst∗ 𝓤 _ (c κs a .requires g))
-        (walk (κs .0) (κs .1 .0) (κs .1 .1 .0) (κs .1 .1 .1 .0) (qs .0) (qs .1 .0) (qs .1 .1 .0) (qs .1 .1 .1 .0)
-        (a .0) (a .1 .0) (a .1 .1 .0) (a .1 .1 .1 .0) (a .1 .1 .1 .1 .0) (a .1 .1 .1 .1 .1 .0) (a .1 .1 .1 .1 .1 .1 .0) (are .1 .1 .0) (are .0 .0 .1)
-        (are .1 .0 .0 .1) (are .1 .1 .1 .0 .0 .1) (are .1 .1 .1 .1 .0 .0 .1) (are .1 .1 .1 .1 .1 .0) (are .1 .1 .1 .1 .1 .1 .0) (𝓣 .C) (𝓣 .Λ)
-        (fmOf 𝓤 H (W .laws) 𝓣)
+        (walk (κs .0) (κs .1 .0) (κs .1 .1 .0) (κs .1 .1 .1 .0) (κs .1 .1 .1 .1 .0) (qs .0) (qs .1 .0) (qs .1 .1 .0) (qs .1 .1 .1 .0) (qs .1 .1 .1 .1 .0)
+        (a .0) (a .1 .0) (a .1 .1 .0) (a .1 .1 .1 .0) (a .1 .1 .1 .1 .0) (a .1 .1 .1 .1 .1 .0) (a .1 .1 .1 .1 .1 .1 .0) (a .1 .1 .1 .1 .1 .1 .1 .0)
+        (are .1 .1 .1 .0) (are .0 .0 .1) (are .1 .0 .0 .1) (are .1 .1 .0 .0 .1) (are .1 .1 .1 .1 .0 .0 .1) (are .1 .1 .1 .1 .1 .0 .0 .1)
+        (are .1 .1 .1 .1 .1 .1 .0) (are .1 .1 .1 .1 .1 .1 .1 .0) (𝓣 .C) (𝓣 .Λ) (fmOf 𝓤 H (W .laws) 𝓣)
         (cited 𝓤 H Tray 𝓜 𝓡 env tray-def.name tray-def.routine calls (tray-thm.met 𝓤 H 𝓜 𝓖 𝓡)) g))

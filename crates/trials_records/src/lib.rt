@@ -36,18 +36,20 @@ pub struct FindingTwo {
 pub fn compose(
     letters: &[u8],
     ends: &[u16],
+    sides: &[u8],
     settings: Settings,
     work: &mut [u16],
     legend: &mut [u8],
     mut joins: [Join; 200],
     mut places: [Place; 200],
 ) -> Composition
-    ensures { λ r. ⌜ ComposeSays settings (now (letters .entry)) (now (ends .entry)) (now (work .entry)) (now (work .exit))
+    ensures { λ r. ⌜ ComposeSays settings (now (letters .entry)) (now (ends .entry)) (now (sides .entry)) (now (work .entry)) (now (work .exit))
         (now (legend .entry)) (now (legend .exit)) joins (r .joins) places (r .places) (r .answer) ⌝ }
 {
     let answer = compose_tray::compose_tray(
         letters,
         ends,
+        sides,
         settings,
         work,
         legend,
@@ -78,18 +80,20 @@ pub fn find(
 pub fn compose_two(
     letters: &[u8],
     ends: &[u16],
+    sides: &[u8],
     settings: Settings,
     work: &mut [u16],
     legend: &mut [u8],
     mut joins: [Join; 2],
     mut places: [Place; 2],
 ) -> CompositionTwo
-    ensures { λ two. ⌜ ComposeSays settings (now (letters .entry)) (now (ends .entry)) (now (work .entry)) (now (work .exit))
+    ensures { λ two. ⌜ ComposeSays settings (now (letters .entry)) (now (ends .entry)) (now (sides .entry)) (now (work .entry)) (now (work .exit))
         (now (legend .entry)) (now (legend .exit)) joins (two .joins) places (two .places) (two .answer) ⌝ }
 {
     let answer = compose_tray::compose_tray(
         letters,
         ends,
+        sides,
         settings,
         work,
         legend,

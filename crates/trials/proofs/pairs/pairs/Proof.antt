@@ -5,10 +5,10 @@ use Rattle.trials.proofs.pairs.pairs.Statement.{statement}
 use Rattle.trials.proofs.pairs.pairs.Tie as tie
 
 abbrev Inv-loop : tie.InvT-loop
-Inv-loop letters ends above least sum₀ i₀ sum i = Unit {0}
+Inv-loop letters ends sides above least sum₀ i₀ sum i = Unit {0}
 
 abbrev μ-loop : tie.MeasureT-loop
-μ-loop letters ends above least sum₀ i₀ sum i = above - i
+μ-loop letters ends sides above least sum₀ i₀ sum i = above - i
 
 pub pairs-spec : {M : Type 1} → statement M
 pairs-spec =

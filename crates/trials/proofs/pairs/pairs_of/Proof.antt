@@ -5,10 +5,10 @@ use Rattle.trials.proofs.pairs.pairs_of.Statement.{statement}
 use Rattle.trials.proofs.pairs.pairs_of.Tie as tie
 
 abbrev Inv-loop : tie.InvT-loop
-Inv-loop first letters ends i above least sum₀ j₀ sum j = Unit {0}
+Inv-loop first letters ends sides i above least sum₀ j₀ sum j = Unit {0}
 
 abbrev μ-loop : tie.MeasureT-loop
-μ-loop first letters ends i above least sum₀ j₀ sum j = above - j
+μ-loop first letters ends sides i above least sum₀ j₀ sum j = above - j
 
 pub pairs-of-spec : {M : Type 1} → statement M
 pairs-of-spec =
