@@ -1,5 +1,5 @@
-/* Reads a tray file on standard input, composes it with a least overlap of 1, and prints the legend, the joins and the
- * slips that are set aside. A refusal is printed in words with its detail, and then the program returns 1. */
+/* Reads a tray file on standard input, composes each side with a least overlap of 1, and prints the legend, the joins
+ * and the slips that are set aside. A refusal is printed in words with its detail, and then the program returns 1. */
 #include <stdio.h>
 #include "kotsghane_structs.h"
 
@@ -20,20 +20,29 @@ static int refused(uint32_t number, uint32_t detail, kotsghane_tray tray) {
     return 1;
 }
 
+/* Prints the side that was composed with these buffers. */
+static void print_side(kotsghane_tray tray, kotsghane_composed c, uint8_t side) {
+    if (side != KOTSGHANE_BLANK) printf("Side %c\n", side);
+    printf("Legend: %.*s\n", (int)c.legend, (const char *)buffers.legend);
+    for (const kotsghane_join *j = buffers.joins; j < buffers.joins + c.joins; j++)
+        printf("Join: slip %d, slip %d, overlap %d\n", j->left, j->right, j->overlap);
+    for (const kotsghane_place *p = buffers.places; p < buffers.places + c.slips; p++) {
+        kotsghane_letters s = kotsghane_slip_letters(tray, p->slip);
+        if (!p->kept) printf("Set aside: slip %d, %.*s, at place %d\n", p->slip, (int)s.letters_len, (const char *)s.letters, p->place);
+    }
+}
+
 int main(void) {
+    static const uint8_t sides[] = {KOTSGHANE_BLANK, KOTSGHANE_OBVERSE, KOTSGHANE_REVERSE};
     size_t bytes = fread(file, 1, sizeof file, stdin);
     if (ferror(stdin)) return puts("Standard input cannot be read"), 1;
     kotsghane_written w = kotsghane_read_tray_file(file, bytes, kotsghane_lend_tray(&tray_buffers));
     if (w.number != KOTSGHANE_ACCEPTED) return refused(w.number, w.detail, w.tray);
-    kotsghane_composed c = kotsghane_compose_tray(w.tray, 1, kotsghane_lend(&buffers));
-    if (c.number != KOTSGHANE_ACCEPTED) return refused(c.number, c.detail, w.tray);
-    printf("Legend: %.*s\n", (int)c.legend, (const char *)buffers.legend);
-    for (const kotsghane_join *j = buffers.joins; j < buffers.joins + c.joins; j++)
-        printf("Join: slip %d, slip %d, overlap %d\n", j->left, j->right, j->overlap);
-    for (uint32_t i = 1; i <= c.slips; i++) {
-        kotsghane_letters s = kotsghane_slip_letters(w.tray, i);
-        if (!buffers.places[i - 1].kept) printf("Set aside: slip %d, %.*s, at place %d\n", (int)i, (int)s.letters_len,
-                                                (const char *)s.letters, buffers.places[i - 1].place);
+    for (size_t i = 0; i < sizeof sides; i++) {
+        kotsghane_settings settings = {1, sides[i]};
+        kotsghane_composed c = kotsghane_compose_tray(w.tray, settings, kotsghane_lend(&buffers));
+        if (c.number != KOTSGHANE_ACCEPTED) return refused(c.number, c.detail, w.tray);
+        if (c.slips > 0) print_side(w.tray, c, sides[i]);
     }
     return 0;
 }
