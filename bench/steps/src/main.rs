@@ -1,6 +1,6 @@
 //! `steps CALL FAMILY SLIPS TIMES`: makes the exported call `compose`, `find`, `merge`, `read` or `shortest` TIMES times on one
-//! tray of a family, of SLIPS slips of ten letters. `run` beside it counts the instructions of one more call.
-use kotsghane::{compose, find, merge_trays, read_tray, shortest, Found, Join, Place, Settings};
+//! tray of a family, of SLIPS slips of ten letters, all blank. `run` beside it counts the instructions of one more call.
+use kotsghane::{compose, find, merge_trays, read_tray, shortest, Found, Join, Place, Settings, TrayRef};
 use kotsghane::{FILE_ENDS, MAX_FILE, WORK_CELLS};
 use plain::made::files::tray_file;
 use plain::made::{slips, Chance, Shape, Slips};
@@ -55,22 +55,23 @@ fn main() {
     let (mut work, mut legend) = (vec![0; WORK_CELLS], vec![0; 2_000]);
     let (mut joins, mut places) = (vec![Join::default(); 200], vec![Place::default(); 200]);
     let mut found = vec![Found::default(); 8_000];
-    let (mut letters_lent, mut ends_lent) = (vec![0; MAX_FILE], vec![0; FILE_ENDS]);
+    let (mut letters_lent, mut ends_lent, mut sides_lent) = (vec![0; MAX_FILE], vec![0; FILE_ENDS], vec![0; FILE_ENDS]);
     let settings = Settings::default();
     for _ in 0..number(4) {
-        let (letters, ends) = (black_box(&tray.letters), black_box(&tray.ends));
+        let (letters, ends, sides) = (black_box(&tray.letters), black_box(&tray.ends), black_box(&tray.sides));
+        let lent = TrayRef::new(letters, ends, sides);
         let refused = match words[1].as_str() {
-            "compose" => compose(letters, ends, settings, &mut work, &mut legend, &mut joins, &mut places).err(),
+            "compose" => compose(lent, settings, &mut work, &mut legend, &mut joins, &mut places).err(),
             "find" => find(letters, ends, black_box(&text), &mut work, &mut found).err(),
-            "shortest" => shortest(letters, ends, settings, &mut work, &mut legend).err(),
-            "read" => read_tray(black_box(&file), &mut letters_lent, &mut ends_lent).err(),
+            "shortest" => shortest(lent, settings, &mut work, &mut legend).err(),
+            "read" => read_tray(black_box(&file), &mut letters_lent, &mut ends_lent, &mut sides_lent).err(),
             "merge" => {
-                let [first, second] = black_box(&two);
-                merge_trays(first, second, &mut letters_lent, &mut ends_lent).err()
+                let [first, second] = black_box(&two).each_ref().map(kotsghane::Tray::lend);
+                merge_trays(first, second, &mut letters_lent, &mut ends_lent, &mut sides_lent).err()
             }
             call => panic!("no call {call}"),
         };
         assert_eq!(refused, None);
     }
-    black_box((legend, joins, places, found, letters_lent, ends_lent));
+    black_box((legend, joins, places, found, letters_lent, ends_lent, sides_lent));
 }

@@ -3,13 +3,13 @@
 //! and the merge of two trays.
 mod merging;
 
-use kotsghane::{compose, shortest, Composed, Join, Place, Refusal, Settings, Shortest, WORK_CELLS};
+use kotsghane::{compose, shortest, Composed, Join, Place, Refusal, Settings, Shortest, Side, TrayRef, WORK_CELLS};
 use plain::compose::{compose_tray, kept_slips, try_places, Rooms};
 use plain::made::full::{different, many_inside, mixed_lengths};
 use plain::made::{slips, Chance, Shape, Slips};
 use plain::shortest::shortest_legend;
 use plain::tray::Tray;
-use plain::{ONE_LETTER, SIGNS};
+use plain::{BLANK, SIGNS, USUAL};
 use std::hint::black_box;
 use std::time::Instant;
 
@@ -57,6 +57,11 @@ const FAMILIES: [Family; 8] = [
     },
 ];
 
+/// The tray, all blank, as it is lent.
+fn lend(tray: &Tray) -> TrayRef<'_> {
+    TrayRef::new(&tray.letters, &tray.ends, &tray.sides)
+}
+
 /// What is lent besides the tray, in the same state before every call.
 struct Buffers {
     work: Vec<u16>,
@@ -83,14 +88,13 @@ impl Buffers {
     }
 
     fn ours(&mut self, tray: &Tray, places: usize) -> Result<Composed, Refusal> {
-        let (letters, ends, settings) = (&tray.letters, &tray.ends, Settings::default());
+        let (tray, settings) = (lend(tray), Settings::default());
         let (legend, joins, places) = (&mut self.legend, &mut self.joins, &mut self.places[..places]);
-        compose(letters, ends, settings, &mut self.work, legend, joins, places)
+        compose(tray, settings, &mut self.work, legend, joins, places)
     }
 
     fn shortest(&mut self, tray: &Tray) -> Result<Shortest, Refusal> {
-        let (letters, ends, settings) = (&tray.letters, &tray.ends, Settings::default());
-        shortest(letters, ends, settings, &mut self.work, &mut self.legend)
+        shortest(lend(tray), Settings::default(), &mut self.work, &mut self.legend)
     }
 }
 
@@ -120,12 +124,13 @@ fn compare(slips: &[Vec<u8>]) -> Timed {
     let (tray, mut outcome) = (Tray::of(slips), Buffers::new());
     let counts = outcome.ours(&tray, 200).expect("a tray within the limits");
     assert_eq!((counts.slips, tray.letters.len()), (200, 2_000));
-    let made = compose_tray(&tray, ONE_LETTER, AMPLE).expect("a tray within the limits");
+    let made = compose_tray(&tray, USUAL, AMPLE).expect("a tray within the limits");
     assert_eq!(outcome.legend[..counts.legend], made.legend);
     let joins = outcome.joins[..counts.joins].iter().copied();
     assert!(joins.eq(made.joins.iter().map(|x| Join::new(x.left, x.right, x.overlap))));
     let places = outcome.places.iter().copied();
-    assert!(places.eq(made.places.iter().map(|x| Place::new(x.place, x.kept, x.compared))));
+    let wanted = |x: &plain::compose::Place| Place::new(x.slip, x.place, x.kept, x.compared, Side::Blank);
+    assert!(places.eq(made.places.iter().map(wanted)));
     let refusal = Buffers::new().ours(&tray, 199).unwrap_err();
     assert_eq!((refusal.number(), refusal.detail()), (9, counts.joins));
     Timed {
@@ -164,9 +169,7 @@ fn round(trays: &mut [Timed], buffers: &mut Buffers) {
         clock(&mut timed.ours, || buffers.ours(black_box(&timed.tray), 200));
     }
     for timed in trays.iter_mut() {
-        clock(&mut timed.plain, || {
-            compose_tray(black_box(&timed.tray), ONE_LETTER, AMPLE)
-        });
+        clock(&mut timed.plain, || compose_tray(black_box(&timed.tray), USUAL, AMPLE));
     }
     for timed in trays.iter_mut() {
         buffers.reset();
@@ -239,12 +242,12 @@ struct Sought {
 fn seek(chance: &mut Chance, group: &Group, count: usize) -> Sought {
     let mut made = || Tray::of(&(group.make)(chance, count));
     let mut tray = made();
-    while kept_slips(&tray.slips()).len() < count {
+    while kept_slips(&tray, BLANK).len() < count {
         tray = made();
     }
     let mut outcome = Buffers::new();
     let told = outcome.shortest(&tray).expect("few kept slips");
-    let made = shortest_legend(&tray, ONE_LETTER, WORK_CELLS, 2_000).expect("few kept slips");
+    let made = shortest_legend(&tray, USUAL, WORK_CELLS, 2_000).expect("few kept slips");
     assert_eq!(told.order[..told.count], made.order);
     assert_eq!(outcome.legend[..told.legend], made.legend);
     Sought {

@@ -14,13 +14,15 @@ pub struct Search {
 /// Finds every occurrence of every slip of a tray in a text, in lent buffers. [`find_slips`] does the same and makes the
 /// buffers itself.
 ///
-/// The tray is given as for [`compose`](crate::compose). Occurrences are written to the first part of `found`, by end place,
-/// then longer slips first, then lower numbers; the rest is unchanged. Lend [`WORK_CELLS`] cells.
+/// Slip 1 runs in `letters` from the start to `ends[0]`, slip i from `ends[i - 2]` to `ends[i - 1]`. Finding takes no sides.
+/// Occurrences are written to the first part of `found`, by end place, then longer slips first, then lower numbers; the rest
+/// is unchanged. Lend [`WORK_CELLS`] cells.
 ///
 /// # Errors
 ///
-/// In this order: what [`Tray::check`] refuses (`TooManySlips`, `EmptySlip`, `SlipTooLong`, `TooManyLetters`,
-/// `LastEndMismatch`, `BadSlipByte`); [`TextTooLong`](RefusalKind::TextTooLong); [`BadTextByte`](RefusalKind::BadTextByte);
+/// In this order: what [`Tray::check`] refuses, but for the sides (`TooManySlips`, `EmptySlip`, `SlipTooLong`,
+/// `TooManyLetters`, `LastEndMismatch`, `BadSlipByte`); [`TextTooLong`](RefusalKind::TextTooLong);
+/// [`BadTextByte`](RefusalKind::BadTextByte);
 /// [`WorkAreaTooSmall`](RefusalKind::WorkAreaTooSmall); [`FoundListTooSmall`](RefusalKind::FoundListTooSmall), with the
 /// occurrences needed. The list then holds what it held. The work area does too, except after the last one.
 ///
@@ -54,12 +56,13 @@ pub struct Finding {
     pub moves: usize,
 }
 
-/// Finds every occurrence of every slip of a tray in a text.
+/// Finds every occurrence of every slip of a tray in a text, whatever its side.
 ///
 /// # Errors
 ///
-/// In this order: what [`Tray::check`] refuses (`TooManySlips`, `EmptySlip`, `SlipTooLong`, `TooManyLetters`,
-/// `LastEndMismatch`, `BadSlipByte`); [`TextTooLong`](RefusalKind::TextTooLong); [`BadTextByte`](RefusalKind::BadTextByte).
+/// In this order: what [`Tray::check`] refuses, but for the sides (`TooManySlips`, `EmptySlip`, `SlipTooLong`,
+/// `TooManyLetters`, `LastEndMismatch`, `BadSlipByte`); [`TextTooLong`](RefusalKind::TextTooLong);
+/// [`BadTextByte`](RefusalKind::BadTextByte).
 ///
 /// ```
 /// use kotsghane::{find_slips, Found, RefusalKind, Tray};

@@ -2,34 +2,39 @@
 //!
 //! Readings of one die, each a *slip* of letters and together a [`Tray`], are joined by their overlaps into one legend. A slip
 //! whose letters stand in a longer slip, or equal those of a slip with a lower number, is *set aside*; the others are *kept*.
+//! Slips of the obverse and of the reverse may lie in one tray: a slip has a [`Side`], and each side is composed by itself.
 //! [`rules`] has all rules in words, with an example each. The crate links an archive for x86-64 that is built from the proved
 //! sources; README.md says how.
 //!
 //! # Composing a tray file
 //!
 //! ```
-//! use kotsghane::{compose_tray, Refusal, RefusalKind, Settings, Tray};
+//! use kotsghane::{compose_tray, Refusal, RefusalKind, Settings, Side, Tray};
 //!
-//! /// The legend of a tray file, its joins, and the slips that are set aside.
-//! fn sheet(file: &[u8]) -> Result<String, Refusal> {
+//! /// The legend of one side of a tray file, its joins, and the slips that are set aside.
+//! fn sheet(file: &[u8], side: Side) -> Result<String, Refusal> {
 //!     let tray = Tray::read(file)?;
-//!     let legend = compose_tray(&tray, Settings::default())?;
+//!     let legend = compose_tray(&tray, Settings::default().with_side(side))?;
 //!     let mut sheet = format!("{legend}\n");
 //!     for join in &legend.joins {
 //!         sheet += &format!("{} and {} share {}\n", join.left(), join.right(), join.overlap());
 //!     }
-//!     for (slip, place) in (1..).zip(&legend.places) {
-//!         if !place.is_kept() {
-//!             sheet += &format!("{slip} is set aside, and stands at place {}\n", place.place());
-//!         }
+//!     for place in legend.places.iter().filter(|place| !place.is_kept()) {
+//!         sheet += &format!("{} is set aside, and stands at place {}\n", place.slip(), place.place());
 //!     }
 //!     Ok(sheet)
 //! }
 //!
 //! let file = b"   1   7 IMPCAES\n   2   3 AES\n   3   7 CAESAVG\n";
-//! assert_eq!(sheet(file).unwrap(), "IMPCAESAVG\n1 and 3 share 4\n2 is set aside, and stands at place 5\n");
+//! let expected = "IMPCAESAVG\n1 and 3 share 4\n2 is set aside, and stands at place 5\n";
+//! assert_eq!(sheet(file, Side::Blank).unwrap(), expected);
 //!
-//! let refusal = sheet(b"   1   7 IMPCAES\n   2   4 AES\n").unwrap_err();
+//! // Column 9 has the side.
+//! let file = b"   1   7OIMPCAES\n   2   3RPAX\n   3   7OCAESAVG\n";
+//! assert_eq!(sheet(file, Side::Obverse).unwrap(), "IMPCAESAVG\n1 and 3 share 4\n");
+//! assert_eq!(sheet(file, Side::Reverse).unwrap(), "PAX\n");
+//!
+//! let refusal = sheet(b"   1   7 IMPCAES\n   2   4 AES\n", Side::Blank).unwrap_err();
 //! assert_eq!((refusal.kind(), refusal.detail()), (RefusalKind::WrongLength, 2));
 //! assert_eq!(refusal.to_string(), "line 2 of the tray file states another length than it has");
 //! ```
@@ -38,14 +43,15 @@
 //!
 //! | call | in lent buffers | what it does |
 //! |---|---|---|
-//! | [`compose_tray`] | [`compose`] | composes a tray into a legend |
-//! | [`shortest_legend`] | [`shortest`](fn@shortest) | seeks the shortest legend, if few slips are kept |
-//! | [`find_slips`] | [`find`] | finds every occurrence of every slip in a text |
+//! | [`compose_tray`] | [`compose`] | composes one side of a tray into a legend |
+//! | [`shortest_legend`] | [`shortest`](fn@shortest) | seeks the shortest legend of one side, if few slips are kept |
+//! | [`find_slips`] | [`find`] | finds every occurrence of every slip, of any side, in a text |
 //! | [`Tray::read`] | [`read_tray`] | reads a tray file |
 //! | [`Tray::merge`] | [`merge_trays`] | merges two trays |
 //! | [`Tray::to_file`] | | writes a tray file |
 //! | [`Tray::check`] | | judges a tray |
 //! | [`Tray::slip`] | | gives the letters of a slip |
+//! | [`Tray::side`] | | gives the side of a slip |
 //! | [`Tray::overlap`] | | counts the letters that a pair shares |
 //!
 //! # Slips and letters
@@ -57,18 +63,26 @@
 //! are no overlap. A tray file may also have small letters, and U and J, which are not on the die: [`Tray::read`] files them as
 //! the die has them. No other call does.
 //!
+//! # Sides
+//!
+//! Slips of different sides neither overlap nor set each other aside. Each side of a tray composes as if the tray had no other
+//! slips, except that the slips keep their numbers. [`Tray::of`] and [`Tray::push`] make blank slips; [`Tray::of_sides`] and
+//! [`Tray::push_side`] take the side with the letters. [`Settings`] name the side that is composed, by default the blank one, so
+//! that callers whose slips have no sides can ignore them. [`find_slips`] and [`Tray::slip`] look at all slips.
+//!
 //! # Refusals
 //!
-//! Every call takes anything: any bytes, any ends, any lengths. What cannot be done is refused by a [`Refusal`], which has a
-//! [kind](RefusalKind) to match on, a detail (such as the slip at fault), and a sentence that says both. It is an
+//! Every call takes anything: any bytes, any ends, any sides, any lengths. What cannot be done is refused by a [`Refusal`],
+//! which has a [kind](RefusalKind) to match on, a detail (such as the slip at fault), and a sentence that says both. It is an
 //! [`Error`](std::error::Error), so `?` hands it on. [`refusals`] has the table of all refusals, with what to do about each. No
 //! call panics, unless the crate is linked with an archive of another version than its own.
 //!
 //! # Lent buffers
 //!
-//! The forms in lent buffers allocate nothing. What a buffer holds before the call does not matter. On success the outcome is
-//! its first part, and the rest is unchanged. A refusal leaves every buffer as it was, except that the work area may differ
-//! after `LegendBufferTooSmall`, `JoinOrPlaceListTooSmall`, `FoundListTooSmall` and `TooManyKeptSlips`.
+//! The forms in lent buffers allocate nothing. They take a tray as a [`TrayRef`], which may have any bytes as sides; [`find`]
+//! takes its letters and ends alone. What a buffer holds before the call does not matter. On success the outcome is its first
+//! part, and the rest is unchanged. A refusal leaves every buffer as it was, except that the work area may differ after
+//! `LegendBufferTooSmall`, `JoinOrPlaceListTooSmall`, `FoundListTooSmall` and `TooManyKeptSlips`.
 #![deny(missing_docs, unsafe_code)]
 
 mod composing;
@@ -80,10 +94,12 @@ mod records;
 mod refusal;
 mod settings;
 mod shortest;
+mod side;
 mod slips;
 #[allow(unsafe_code)]
 mod sys;
 mod tray;
+mod tray_ref;
 mod written;
 
 /// [`RefusalKind`] has a name for each number.
@@ -112,6 +128,8 @@ pub use records::{Found, Join, Place};
 pub use refusal::{Refusal, RefusalKind};
 pub use settings::Settings;
 pub use shortest::{shortest, shortest_legend, Shortest, ShortestLegend};
+pub use side::Side;
 pub use slips::Slips;
 pub use tray::Tray;
+pub use tray_ref::TrayRef;
 pub use written::Written;

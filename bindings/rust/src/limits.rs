@@ -3,8 +3,8 @@
 /// How many cells of the work area are asked for ([`WorkAreaTooSmall`](crate::RefusalKind::WorkAreaTooSmall)).
 pub const WORK_CELLS: usize = 32_000;
 
-/// The most slips that a tray has ([`TooManySlips`](crate::RefusalKind::TooManySlips)), and how many ends are lent for two
-/// trays merged ([`TrayBuffersTooSmall`](crate::RefusalKind::TrayBuffersTooSmall)).
+/// The most slips that a tray has ([`TooManySlips`](crate::RefusalKind::TooManySlips)), and how many ends, and how many sides,
+/// are lent for two trays merged ([`TrayBuffersTooSmall`](crate::RefusalKind::TrayBuffersTooSmall)).
 pub const MAX_SLIPS: usize = 200;
 
 /// The most letters that a slip has ([`SlipTooLong`](crate::RefusalKind::SlipTooLong)).
@@ -21,10 +21,11 @@ pub const MAX_TEXT: usize = 2_000;
 /// one ([`TrayBuffersTooSmall`](crate::RefusalKind::TrayBuffersTooSmall)).
 pub const MAX_FILE: usize = 16_384;
 
-/// How many ends are lent for a tray file ([`TrayBuffersTooSmall`](crate::RefusalKind::TrayBuffersTooSmall)).
+/// How many ends, and how many sides, are lent for a tray file
+/// ([`TrayBuffersTooSmall`](crate::RefusalKind::TrayBuffersTooSmall)).
 pub const FILE_ENDS: usize = 1_700;
 
-/// The most kept slips for which the shortest legend is sought
+/// The most kept slips of one side for which the shortest legend is sought
 /// ([`TooManyKeptSlips`](crate::RefusalKind::TooManyKeptSlips)).
 pub const MAX_SHORTEST: usize = 10;
 
@@ -36,7 +37,7 @@ pub const MAX_LEAST: usize = 32;
 pub const JOIN_CELLS: usize = 3;
 
 /// How many numbers of 16 bits a [`Place`](crate::Place) has.
-pub const PLACE_CELLS: usize = 3;
+pub const PLACE_CELLS: usize = 5;
 
 /// How many numbers of 32 bits a [`Found`](crate::Found) has.
 pub const FOUND_CELLS: usize = 2;

@@ -1,5 +1,5 @@
 //! The records that the archive writes into lent lists.
-use crate::{FOUND_CELLS, JOIN_CELLS, PLACE_CELLS};
+use crate::{Side, FOUND_CELLS, JOIN_CELLS, PLACE_CELLS};
 
 /// Two slips joined: the right one is laid after the left one, over the letters that they share.
 ///
@@ -50,35 +50,46 @@ impl Join {
     }
 }
 
-/// Where a slip stands in the legend, and whether it is kept. A slip that is not kept is set aside: its letters stand in a
-/// longer slip, or equal those of a slip with a lower number.
+/// Where a slip stands in the legend of its side, and whether it is kept. A slip that is not kept is set aside: its letters
+/// stand in a longer slip of its side, or equal those of a slip of its side with a lower number.
 ///
 /// ```
-/// use kotsghane::Place;
+/// use kotsghane::{Place, Side};
 ///
-/// let place = Place::new(6, false, 8);
-/// assert_eq!((place.place(), place.is_kept(), place.compared()), (6, false, 8));
+/// let place = Place::new(2, 6, false, 8, Side::Obverse);
+/// assert_eq!((place.slip(), place.place(), place.side()), (2, 6, Side::Obverse));
+/// assert_eq!((place.is_kept(), place.compared()), (false, 8));
 /// ```
 #[repr(C)]
-#[derive(Clone, Copy, Debug, Default, PartialEq, Eq, Hash)]
+#[derive(Clone, Copy, Debug, PartialEq, Eq, Hash)]
 pub struct Place {
+    slip: u16,
     place: u16,
     kept: u16,
     compared: u16,
+    side: u16,
 }
 
 const _: () = assert!(size_of::<Place>() == PLACE_CELLS * size_of::<u16>());
 
 impl Place {
-    /// The place of a slip that is kept or set aside, and the letters compared to find it. A number above `u16::MAX` becomes
-    /// `u16::MAX`; no legend has one so large.
+    /// The place of a slip that is kept or set aside, the letters compared to find it, and the side of the slip. A number above
+    /// `u16::MAX` becomes `u16::MAX`; no legend has one so large.
     #[must_use]
-    pub const fn new(place: usize, kept: bool, compared: usize) -> Place {
+    pub const fn new(slip: usize, place: usize, kept: bool, compared: usize, side: Side) -> Place {
         Place {
+            slip: cell(slip),
             place: cell(place),
             kept: kept as u16,
             compared: cell(compared),
+            side: side.byte() as u16,
         }
+    }
+
+    /// The slip, from 1, by its number in the tray.
+    #[must_use]
+    pub const fn slip(&self) -> usize {
+        self.slip as usize
     }
 
     /// The place of its first letter in the legend, from 1: where a kept slip was laid, or the first place at which the letters
@@ -99,6 +110,23 @@ impl Place {
     #[must_use]
     pub const fn compared(&self) -> usize {
         self.compared as usize
+    }
+
+    /// The side of the slip: the one that was composed.
+    #[must_use]
+    pub const fn side(&self) -> Side {
+        // The archive writes the byte of a side, and so does `new`.
+        match Side::from_byte(self.side as u8) {
+            Some(side) => side,
+            None => Side::Blank,
+        }
+    }
+}
+
+impl Default for Place {
+    /// For a list to be filled with: no slip, and the blank side.
+    fn default() -> Place {
+        Place::new(0, 0, false, 0, Side::Blank)
     }
 }
 

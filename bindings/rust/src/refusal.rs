@@ -32,8 +32,8 @@ pub enum RefusalKind {
     WorkAreaTooSmall = 7,
     /// 8: the legend is longer than its buffer. The detail is how many letters it has.
     LegendBufferTooSmall = 8,
-    /// 9: there are more joins than their list takes, or fewer records of places than slips. The detail is how many joins
-    /// there are.
+    /// 9: there are more joins than their list takes, or fewer records of places than slips of the side. The detail is how many
+    /// joins there are.
     JoinOrPlaceListTooSmall = 9,
     /// 10: a slip number is 0 or above the count of slips. The detail is that number.
     NoSuchSlip = 10,
@@ -45,8 +45,8 @@ pub enum RefusalKind {
     BadTextByte = 13,
     /// 14: there are more occurrences than their list takes. The detail is how many there are.
     FoundListTooSmall = 14,
-    /// 15: too few letters or ends are lent for a tray: under [`MAX_FILE`] or [`FILE_ENDS`] to read a file, under
-    /// [`MAX_LETTERS`] or [`MAX_SLIPS`] to merge two trays.
+    /// 15: too few letters, ends or sides are lent for a tray: under [`MAX_FILE`] letters or [`FILE_ENDS`] ends or sides to read
+    /// a file, under [`MAX_LETTERS`] letters or [`MAX_SLIPS`] ends or sides to merge two trays.
     TrayBuffersTooSmall = 15,
     /// 16: the tray file has over [`MAX_FILE`] bytes.
     FileTooLong = 16,
@@ -56,10 +56,14 @@ pub enum RefusalKind {
     WrongSlipNumber = 18,
     /// 19: the length stated in a line of the tray file is not the count of its letters. The detail is the line.
     WrongLength = 19,
-    /// 20: the shortest legend is sought and the tray has over [`MAX_SHORTEST`] kept slips.
+    /// 20: the shortest legend is sought and the side has over [`MAX_SHORTEST`] kept slips.
     TooManyKeptSlips = 20,
     /// 21: the least overlap is 0 or over [`MAX_LEAST`].
     LeastOverlapOutOfRange = 21,
+    /// 22: there are more sides or fewer than slips, or a byte is no [`Side`](crate::Side). The number also stands for a side
+    /// named that is none, which [`Settings`](crate::Settings) cannot hold. Only
+    /// [`Tray::from_sided_parts`](crate::Tray::from_sided_parts) and the forms in lent buffers can meet it.
+    BadSide = 22,
 }
 
 impl RefusalKind {
@@ -86,6 +90,7 @@ impl RefusalKind {
         RefusalKind::WrongLength,
         RefusalKind::TooManyKeptSlips,
         RefusalKind::LeastOverlapOutOfRange,
+        RefusalKind::BadSide,
     ];
 
     /// The number in the table of refusals, which the programs print.
@@ -150,6 +155,10 @@ impl Refusal {
     }
 }
 
+/// What may be wrong with sides, and what to do.
+const BAD_SIDE: &str =
+    "a side is missing, one too many or none of the three: give each slip a blank, O or R, and name one of these";
+
 impl fmt::Display for Refusal {
     fn fmt(&self, f: &mut fmt::Formatter<'_>) -> fmt::Result {
         use RefusalKind as Kind;
@@ -166,7 +175,10 @@ impl fmt::Display for Refusal {
             ),
             Kind::WorkAreaTooSmall => write!(f, "the work area has under {WORK_CELLS} cells"),
             Kind::LegendBufferTooSmall => write!(f, "the legend has {d} letters, more than its buffer takes"),
-            Kind::JoinOrPlaceListTooSmall => write!(f, "the lists are too short for {d} joins and one place a slip"),
+            Kind::JoinOrPlaceListTooSmall => write!(
+                f,
+                "the lists are too short for {d} joins and one place for each slip of the side"
+            ),
             Kind::NoSuchSlip => write!(f, "the tray has no slip {d}"),
             Kind::SameSlipTwice => write!(f, "the pair names slip {d} twice"),
             Kind::TextTooLong => write!(f, "the text has over {MAX_TEXT} bytes"),
@@ -174,15 +186,16 @@ impl fmt::Display for Refusal {
             Kind::FoundListTooSmall => write!(f, "there are {d} occurrences, more than their list takes"),
             Kind::TrayBuffersTooSmall => write!(
                 f,
-                "fewer letters or ends are lent than {MAX_FILE} and {FILE_ENDS} for a tray file, \
-                 or {MAX_LETTERS} and {MAX_SLIPS} for two trays merged"
+                "fewer letters, ends or sides are lent than {MAX_FILE}, {FILE_ENDS} and {FILE_ENDS} for a tray file, \
+                 or {MAX_LETTERS}, {MAX_SLIPS} and {MAX_SLIPS} for two trays merged"
             ),
             Kind::FileTooLong => write!(f, "the tray file has over {MAX_FILE} bytes"),
             Kind::BadLine => write!(f, "line {d} of the tray file is not of the layout"),
             Kind::WrongSlipNumber => write!(f, "line {d} of the tray file has a slip number other than {d}"),
             Kind::WrongLength => write!(f, "line {d} of the tray file states another length than it has"),
-            Kind::TooManyKeptSlips => write!(f, "the tray has over {MAX_SHORTEST} kept slips"),
+            Kind::TooManyKeptSlips => write!(f, "the side has over {MAX_SHORTEST} kept slips"),
             Kind::LeastOverlapOutOfRange => write!(f, "the least overlap is zero or over {MAX_LEAST}"),
+            Kind::BadSide => f.write_str(BAD_SIDE),
         }
     }
 }

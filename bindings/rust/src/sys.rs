@@ -17,7 +17,7 @@
 //! - **The callee** is proved for every content and every length. It reads and writes within the lengths, keeps no pointer and
 //!   does not unwind. It has no state of its own, so calls may be made from several threads at once.
 use crate::records::number;
-use crate::{Found, Join, Place, Refusal, RefusalKind, Settings, FOUND_CELLS, JOIN_CELLS, MAX_SHORTEST, PLACE_CELLS};
+use crate::{Found, Join, Place, Refusal, RefusalKind, TrayRef, FOUND_CELLS, JOIN_CELLS, MAX_SHORTEST, PLACE_CELLS};
 
 /// An answer: number and detail of the refusal, 0 and 0 if there is none, and the counts, all 0 if the call is refused. It
 /// is laid out as the header's array of 2 + N numbers.
@@ -63,7 +63,10 @@ extern "C" {
         letters_len: usize,
         ends: *const u16,
         ends_len: usize,
+        sides: *const u8,
+        sides_len: usize,
         least: u32,
+        side: u8,
         work: *mut u16,
         work_len: usize,
         legend: *mut u8,
@@ -79,7 +82,10 @@ extern "C" {
         letters_len: usize,
         ends: *const u16,
         ends_len: usize,
+        sides: *const u8,
+        sides_len: usize,
         least: u32,
+        side: u8,
         work: *mut u16,
         work_len: usize,
         legend: *mut u8,
@@ -112,6 +118,8 @@ extern "C" {
         letters_len: usize,
         ends: *const u16,
         ends_len: usize,
+        sides: *const u8,
+        sides_len: usize,
         left: u32,
         right: u32,
         least: u32,
@@ -124,6 +132,8 @@ extern "C" {
         letters_len: usize,
         ends: *mut u16,
         ends_len: usize,
+        sides: *mut u8,
+        sides_len: usize,
         answer: *mut Answer<2>,
     );
     fn kotsghane_merge(
@@ -131,23 +141,28 @@ extern "C" {
         letters1_len: usize,
         ends1: *const u16,
         ends1_len: usize,
+        sides1: *const u8,
+        sides1_len: usize,
         letters2: *const u8,
         letters2_len: usize,
         ends2: *const u16,
         ends2_len: usize,
+        sides2: *const u8,
+        sides2_len: usize,
         letters: *mut u8,
         letters_len: usize,
         ends: *mut u16,
         ends_len: usize,
+        sides: *mut u8,
+        sides_len: usize,
         answer: *mut Answer<2>,
     );
 }
 
-/// Composes: slips, kept slips, their letters, letters saved, letters of the legend, joins.
+/// Composes with a least overlap and a side: its slips, kept slips, their letters, letters saved, letters of the legend, joins.
 pub(crate) fn compose(
-    letters: &[u8],
-    ends: &[u16],
-    settings: Settings,
+    tray: TrayRef<'_>,
+    (least, side): (usize, u8),
     work: &mut [u16],
     legend: &mut [u8],
     joins: &mut [Join],
@@ -157,11 +172,14 @@ pub(crate) fn compose(
     // SAFETY: see the head of this module; joins and places are lists of records.
     unsafe {
         kotsghane_compose(
-            letters.as_ptr(),
-            letters.len(),
-            ends.as_ptr(),
-            ends.len(),
-            number(settings.least),
+            tray.letters.as_ptr(),
+            tray.letters.len(),
+            tray.ends.as_ptr(),
+            tray.ends.len(),
+            tray.sides.as_ptr(),
+            tray.sides.len(),
+            number(least),
+            side,
             work.as_mut_ptr(),
             work.len(),
             legend.as_mut_ptr(),
@@ -176,11 +194,10 @@ pub(crate) fn compose(
     answer.told()
 }
 
-/// Seeks the shortest legend: its letters, kept slips, and their order, 0 past the count.
+/// Seeks the shortest legend with a least overlap and a side: its letters, kept slips, and their order, 0 past the count.
 pub(crate) fn shortest(
-    letters: &[u8],
-    ends: &[u16],
-    settings: Settings,
+    tray: TrayRef<'_>,
+    (least, side): (usize, u8),
     work: &mut [u16],
     legend: &mut [u8],
 ) -> Result<[usize; 2 + MAX_SHORTEST], Refusal> {
@@ -188,11 +205,14 @@ pub(crate) fn shortest(
     // SAFETY: see the head of this module.
     unsafe {
         kotsghane_shortest(
-            letters.as_ptr(),
-            letters.len(),
-            ends.as_ptr(),
-            ends.len(),
-            number(settings.least),
+            tray.letters.as_ptr(),
+            tray.letters.len(),
+            tray.ends.as_ptr(),
+            tray.ends.len(),
+            tray.sides.as_ptr(),
+            tray.sides.len(),
+            number(least),
+            side,
             work.as_mut_ptr(),
             work.len(),
             legend.as_mut_ptr(),
@@ -249,24 +269,20 @@ pub(crate) fn slip(letters: &[u8], ends: &[u16], slip: usize) -> Result<[usize; 
 }
 
 /// The overlap of the left slip with the right one.
-pub(crate) fn pair(
-    letters: &[u8],
-    ends: &[u16],
-    left: usize,
-    right: usize,
-    settings: Settings,
-) -> Result<[usize; 1], Refusal> {
+pub(crate) fn pair(tray: TrayRef<'_>, left: usize, right: usize, least: usize) -> Result<[usize; 1], Refusal> {
     let mut answer = Answer::new();
     // SAFETY: see the head of this module.
     unsafe {
         kotsghane_pair(
-            letters.as_ptr(),
-            letters.len(),
-            ends.as_ptr(),
-            ends.len(),
+            tray.letters.as_ptr(),
+            tray.letters.len(),
+            tray.ends.as_ptr(),
+            tray.ends.len(),
+            tray.sides.as_ptr(),
+            tray.sides.len(),
             number(left),
             number(right),
-            number(settings.least),
+            number(least),
             &mut answer,
         );
     }
@@ -274,7 +290,12 @@ pub(crate) fn pair(
 }
 
 /// Reads a tray file: letters and slips written.
-pub(crate) fn read_tray(file: &[u8], letters: &mut [u8], ends: &mut [u16]) -> Result<[usize; 2], Refusal> {
+pub(crate) fn read_tray(
+    file: &[u8],
+    letters: &mut [u8],
+    ends: &mut [u16],
+    sides: &mut [u8],
+) -> Result<[usize; 2], Refusal> {
     let mut answer = Answer::new();
     // SAFETY: see the head of this module.
     unsafe {
@@ -285,35 +306,44 @@ pub(crate) fn read_tray(file: &[u8], letters: &mut [u8], ends: &mut [u16]) -> Re
             letters.len(),
             ends.as_mut_ptr(),
             ends.len(),
+            sides.as_mut_ptr(),
+            sides.len(),
             &mut answer,
         );
     }
     answer.told()
 }
 
-/// Merges two trays, each given by its letters and ends: letters and slips written.
+/// Merges two trays: letters and slips written.
 pub(crate) fn merge(
-    (letters1, ends1): (&[u8], &[u16]),
-    (letters2, ends2): (&[u8], &[u16]),
+    first: TrayRef<'_>,
+    second: TrayRef<'_>,
     letters: &mut [u8],
     ends: &mut [u16],
+    sides: &mut [u8],
 ) -> Result<[usize; 2], Refusal> {
     let mut answer = Answer::new();
     // SAFETY: see the head of this module.
     unsafe {
         kotsghane_merge(
-            letters1.as_ptr(),
-            letters1.len(),
-            ends1.as_ptr(),
-            ends1.len(),
-            letters2.as_ptr(),
-            letters2.len(),
-            ends2.as_ptr(),
-            ends2.len(),
+            first.letters.as_ptr(),
+            first.letters.len(),
+            first.ends.as_ptr(),
+            first.ends.len(),
+            first.sides.as_ptr(),
+            first.sides.len(),
+            second.letters.as_ptr(),
+            second.letters.len(),
+            second.ends.as_ptr(),
+            second.ends.len(),
+            second.sides.as_ptr(),
+            second.sides.len(),
             letters.as_mut_ptr(),
             letters.len(),
             ends.as_mut_ptr(),
             ends.len(),
+            sides.as_mut_ptr(),
+            sides.len(),
             &mut answer,
         );
     }
@@ -321,30 +351,4 @@ pub(crate) fn merge(
 }
 
 #[cfg(test)]
-mod tests {
-    use super::Answer;
-
-    fn answer(number: u32, counts: [u32; 2]) -> Answer<2> {
-        let detail = 7 * u32::from(number > 0);
-        Answer { number, detail, counts }
-    }
-
-    #[test]
-    fn counts_or_a_refusal() {
-        assert_eq!(answer(0, [3, 4]).told(), Ok([3, 4]));
-        let refusal = answer(21, [0, 0]).told().unwrap_err();
-        assert_eq!((refusal.number(), refusal.detail()), (21, 7));
-    }
-
-    #[test]
-    #[should_panic(expected = "are of different versions: refusal 22")]
-    fn a_number_that_the_table_does_not_have() {
-        let _ = answer(22, [0, 0]).told();
-    }
-
-    #[test]
-    #[should_panic(expected = "are of different versions: refusal 1")]
-    fn a_refusal_with_counts() {
-        let _ = answer(1, [1, 0]).told();
-    }
-}
+mod tests;

@@ -2,13 +2,13 @@
 use crate::Tray;
 
 /// The counts of a tray that [`read_tray`](crate::read_tray) or [`merge_trays`](crate::merge_trays) has written into lent
-/// letters and ends.
+/// letters, ends and sides.
 #[derive(Clone, Copy, Debug, Default, PartialEq, Eq, Hash)]
 #[non_exhaustive]
 pub struct Written {
     /// The letters written.
     pub letters: usize,
-    /// The slips; this many ends are written.
+    /// The slips; this many ends are written, and this many sides.
     pub slips: usize,
 }
 
@@ -17,10 +17,11 @@ impl Written {
         Written { letters, slips }
     }
 
-    /// The tray that was written into these letters and ends.
-    pub(crate) fn tray(self, mut letters: Vec<u8>, mut ends: Vec<u16>) -> Tray {
+    /// The tray that was written into these letters, ends and sides.
+    pub(crate) fn tray(self, mut letters: Vec<u8>, mut ends: Vec<u16>, mut sides: Vec<u8>) -> Tray {
         letters.truncate(self.letters);
         ends.truncate(self.slips);
-        Tray::from_parts(letters, ends)
+        sides.truncate(self.slips);
+        Tray::written(letters, ends, sides)
     }
 }

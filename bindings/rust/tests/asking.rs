@@ -1,13 +1,16 @@
 //! One slip, pairs and tray files through the exported calls, against the plain program.
 mod lent;
+mod owned;
 mod tally;
 mod told;
 
 use kotsghane::{compose_tray, read_tray, Settings, Tray, FILE_ENDS, MAX_FILE, MAX_SLIP};
 use lent::Lent;
-use plain::by_hand::{COMPOSE, FILED, TYPED_FILE};
+use owned::ours;
+use plain::by_hand::{sides_written, COMPOSE, FILED, TYPED_FILE};
 use plain::made::damage::{damaged, DAMAGES};
-use plain::made::files::{damaged_file, tray_file, BLOTS};
+use plain::made::files::{blotted, damaged_file, sided_file, tray_file, BLOTS};
+use plain::made::sides::{any_sides, NO_SIDES};
 use plain::made::stops::{many_stops, share_stops_alone};
 use plain::made::typed::{has_other_forms, many_forms, spoil, typed_slips};
 use plain::made::{valid, Chance};
@@ -20,7 +23,7 @@ const DEFAULT: Settings = Settings::least(1);
 
 /// All slips and all pairs of a tray, with 0 and a number above the count; answers how many pairs there were.
 fn try_tray(plain: &tray::Tray, tally: &mut Tally) -> usize {
-    let ours = Tray::from_parts(plain.letters.clone(), plain.ends.clone());
+    let ours = ours(plain);
     let numbers = 0..=plain.ends.len() + 1;
     for i in numbers.clone() {
         let told = ours.slip(i);
@@ -95,13 +98,16 @@ fn numbers_over_32_bits() {
     }
 }
 
+/// Just enough letters, ends and sides.
+const EXACT: [usize; 3] = [MAX_FILE, FILE_ENDS, FILE_ENDS];
+
 /// A file in buffers that hold anything and have these lengths.
-fn try_file(chance: &mut Chance, made: &[u8], letters: usize, ends: usize, tally: &mut Tally) {
-    let before = Lent::of(chance, letters, ends);
+fn try_file(chance: &mut Chance, made: &[u8], [letters, ends, sides]: [usize; 3], tally: &mut Tally) {
+    let before = Lent::of(chance, letters, ends, sides);
     let mut after = before.clone();
-    let told = read_tray(made, &mut after.letters, &mut after.ends);
+    let told = read_tray(made, &mut after.letters, &mut after.ends, &mut after.sides);
     tally.count(&told);
-    before.assert_after(told, &after, &file::read_tray(made, letters, ends));
+    before.assert_after(told, &after, &file::read_tray(made, letters, ends, sides));
 }
 
 #[test]
@@ -114,8 +120,9 @@ fn tray_files_agree() {
             _ => damaged_file(&mut chance, &all, BLOTS[n / 4 % BLOTS.len()]),
         };
         let letters = [MAX_FILE, MAX_FILE, MAX_FILE + 7, MAX_FILE - 1][chance.below(4)];
-        let ends = [FILE_ENDS, FILE_ENDS + 3, FILE_ENDS, FILE_ENDS - 1][chance.below(4)];
-        try_file(&mut chance, &made, letters, ends, &mut tally);
+        let mut ends = || [FILE_ENDS, FILE_ENDS + 3, FILE_ENDS, FILE_ENDS - 1][chance.below(4)];
+        let rooms = [letters, ends(), ends()];
+        try_file(&mut chance, &made, rooms, &mut tally);
     }
     tally.assert_all_from(&[0, 15, 17, 18], 150);
     tally.assert_all_from(&[19], 40);
@@ -137,7 +144,7 @@ fn typed_files_agree() {
             }
             _ => tray_file(&all),
         };
-        try_file(&mut chance, &made, MAX_FILE, FILE_ENDS, &mut tally);
+        try_file(&mut chance, &made, EXACT, &mut tally);
     }
     tally.assert_all_from(&[0, 17, 18, 19], 100);
     assert!(met > 2_500, "files with letters that are not on the die: {met}");
@@ -149,7 +156,7 @@ fn each_byte_is_filed() {
     let (mut chance, mut tally) = (Chance::new(47), Tally::default());
     let bytes = (0..=255).filter(|&byte| byte != b'\n');
     let all: Vec<[u8; 3]> = bytes.map(|byte| [b'u', byte, b'j']).collect();
-    try_file(&mut chance, &tray_file(&all), MAX_FILE, FILE_ENDS, &mut tally);
+    try_file(&mut chance, &tray_file(&all), EXACT, &mut tally);
     tally.assert_all_from(&[0], 1);
 }
 
@@ -173,7 +180,7 @@ fn long_files_agree() {
     let (mut chance, mut tally) = (Chance::new(43), Tally::default());
     let many: String = (1..=1_700).map(|n| format!("{n:4}   0 \n")).collect();
     for size in [16_380, 16_383, 16_384, 16_385, 17_000] {
-        try_file(&mut chance, &many.as_bytes()[..size], MAX_FILE, FILE_ENDS, &mut tally);
+        try_file(&mut chance, &many.as_bytes()[..size], EXACT, &mut tally);
     }
     tally.assert_all_from(&[16], 2);
 }
@@ -188,8 +195,66 @@ fn owned_trays_agree() {
             0 => tray_file(&all),
             _ => damaged_file(&mut chance, &all, BLOTS[n / 2 % BLOTS.len()]),
         };
-        let told = Tray::read(&made).map(|tray| (tray.letters().to_vec(), tray.ends().to_vec()));
-        let plain = file::read_tray(&made, MAX_FILE, FILE_ENDS);
-        assert_eq!(told.map_err(plainly), plain.map(|tray| (tray.letters, tray.ends)));
+        let plain = file::read_tray(&made, MAX_FILE, FILE_ENDS, FILE_ENDS);
+        let told = Tray::read(&made).map_err(plainly);
+        assert_eq!(told, plain.map(|tray| Tray::from_parts(tray.letters, tray.ends)));
     }
+}
+
+/// Column 9 is a side or 17, whatever stands after it.
+#[test]
+fn files_with_sides_by_hand() {
+    let (mut chance, mut tally) = (Chance::new(48), Tally::default());
+    for case in sides_written::FILES {
+        let (name, file) = (case.name, case.file.as_bytes());
+        let expected = case.told.map(|slips| ours(&tray::Tray::sided(slips)));
+        let told = Tray::read(file).map_err(|refusal| (refusal.number() as usize, refusal.detail()));
+        assert_eq!(told, expected, "{name}");
+        try_file(&mut chance, file, EXACT, &mut tally);
+        for lent in [[MAX_FILE, FILE_ENDS, FILE_ENDS - 1], [MAX_FILE, FILE_ENDS, 0]] {
+            let mut fifteen = Tally::default();
+            try_file(&mut chance, file, lent, &mut fifteen);
+            fifteen.assert_all_from(&[15], 1);
+        }
+    }
+    for byte in 0..=u8::MAX {
+        let told = Tray::read(sided_file(&[(b'O', "AVG"), (byte, "AVG")]));
+        let expected = if b" OR".contains(&byte) { (0, 0) } else { (17, 2) };
+        assert_eq!(refused(&told), expected, "{byte} in column 9");
+    }
+}
+
+/// Files with sides: whole, with another byte in column 9, and damaged. The letters may be as readers type them.
+#[test]
+fn files_with_sides_agree() {
+    let (mut chance, mut tally, mut met) = (Chance::new(49), Tally::default(), [0; 3]);
+    for n in 0..4_000 {
+        let signs = many_forms(&mut chance, [6, 40, 200][n % 3], MAX_SLIP);
+        let sides = any_sides(&mut chance, &signs).sides;
+        let letters = [typed_slips(&mut chance, &signs), signs.clone()];
+        let mut all: Vec<(u8, &Vec<u8>)> = sides.into_iter().zip(&letters[n % 2]).collect();
+        met.iter_mut()
+            .zip(b" OR")
+            .for_each(|(count, side)| *count += usize::from(all.iter().any(|x| x.0 == *side)));
+        if n % 4 == 1 {
+            let at = chance.below(all.len());
+            all[at].0 = chance.one(NO_SIDES);
+        }
+        let made = match n % 4 {
+            2 => blotted(&mut chance, &sided_file(&all), BLOTS[n / 4 % BLOTS.len()]),
+            _ => sided_file(&all),
+        };
+        let lent = match n % 16 {
+            3 => [MAX_FILE, FILE_ENDS, FILE_ENDS - 1],
+            7 => [MAX_FILE + 1, FILE_ENDS + 2, FILE_ENDS + 3],
+            _ => EXACT,
+        };
+        try_file(&mut chance, &made, lent, &mut tally);
+        let plain = file::read_tray(&made, MAX_FILE, FILE_ENDS, FILE_ENDS);
+        assert_eq!(Tray::read(&made).map_err(plainly), plain.map(|tray| ours(&tray)));
+    }
+    tally.assert_all_from(&[0, 17], 1_000);
+    tally.assert_all_from(&[15], 200);
+    tally.assert_all_from(&[18, 19], 50);
+    assert!(met.iter().all(|&count| count > 1_500), "files with each side: {met:?}");
 }

@@ -121,8 +121,7 @@ fn the_tray_is_judged_first() {
         ("a small letter", b"AVGaVG", vec![3, 6], 6, 2),
     ];
     for (name, letters, ends, number, detail) in cases {
-        let letters = letters.to_vec();
-        let tray = tray::Tray { letters, ends };
+        let tray = tray::Tray::all_blank(letters.to_vec(), ends);
         for text in [&b""[..], b"AVG", b"avg", &bad] {
             for (cells, records) in [(32_000, 5), (31_999, 0)] {
                 let before = Lent::of(cells, records, &mut chance);

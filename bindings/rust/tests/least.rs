@@ -1,11 +1,14 @@
 //! The least overlap: what was worked out by hand, what is refused, and made-up trays against the plain program.
 mod buffers;
+mod lending;
+mod owned;
 mod sought;
 mod tally;
 mod told;
 
 use buffers::{trial, Buffers, AMPLE};
 use kotsghane::{compose_tray, shortest_legend, Join, Settings, Tray, MAX_LEAST, MAX_SLIP};
+use owned::ours;
 use plain::by_hand::least::{long, refused_first, DIE_GROUPS, JOINED, REFUSED, SHORT_ROOMS, WIDE};
 use plain::by_hand::pairs::PAIRS;
 use plain::by_hand::shortest::longest;
@@ -23,10 +26,6 @@ use told::{plainly, refused};
 
 fn numbers(join: &Join) -> (usize, usize, usize) {
     (join.left(), join.right(), join.overlap())
-}
-
-fn ours(tray: &tray::Tray) -> Tray {
-    Tray::from_parts(tray.letters.clone(), tray.ends.clone())
 }
 
 #[test]

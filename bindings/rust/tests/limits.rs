@@ -36,7 +36,7 @@ const LIMITS: [Limit; 9] = [
 /// How many numbers the records of composing have.
 const RECORDS: [Limit; 2] = [
     limit!("joinCells", "JOIN", JOIN_CELLS),
-    limit!("placeCells", "PLACE", PLACE_CELLS),
+    limit!("recordCells", "PLACE", PLACE_CELLS),
 ];
 
 /// How many numbers an occurrence has; the definitions have no name for it.
@@ -83,6 +83,24 @@ fn the_c_header_has_them() {
     for limit in LIMITS.iter().chain(&RECORDS).chain([&OCCURRENCE]) {
         let line = format!(" KOTSGHANE_{} = {}", limit.header, limit.ours);
         assert_stands("bindings/c/kotsghane.h", &line);
+    }
+}
+
+/// The three sides are the same bytes everywhere, and have the same names.
+#[test]
+fn the_sides_are_the_same() {
+    let sides = [
+        (kotsghane::Side::Blank, plain::BLANK, "blankSide", "BLANK"),
+        (kotsghane::Side::Obverse, plain::OBVERSE, "obverse", "OBVERSE"),
+        (kotsghane::Side::Reverse, plain::REVERSE, "reverse", "REVERSE"),
+    ];
+    assert_eq!(sides.map(|(side, ..)| side), kotsghane::Side::ALL);
+    assert_eq!(sides.map(|(side, ..)| side.byte()), [32, 79, 82]);
+    assert_eq!(plain::SIDES, [32, 79, 82]);
+    for (side, plain, defined, header) in sides {
+        assert_eq!(side.byte(), plain, "{side:?}");
+        assert_stands("crates/trays/specs/Sides.antt", &format!("\n{defined} = {plain}\n"));
+        assert_stands("bindings/c/kotsghane.h", &format!(" KOTSGHANE_{header} = {plain}"));
     }
 }
 

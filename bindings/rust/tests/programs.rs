@@ -1,7 +1,9 @@
 //! The built programs `compose` and `find` on made-up and damaged files, against the plain program's sheets.
 use kotsghane::MAX_SLIP;
+use plain::by_hand::sides_written::{FOUND, SHEETS};
 use plain::made::damage::stored;
-use plain::made::files::{damaged_file, tray_file, BLOTS};
+use plain::made::files::{blotted, damaged_file, sided_file, tray_file, BLOTS};
+use plain::made::sides::{any_sides, echoed, Echo, NO_SIDES};
 use plain::made::texts::{damaged_text, text};
 use plain::made::typed::{has_other_forms, many_forms, spoil, typed, typed_slips, BAD_IN_FILES};
 use plain::made::{valid, Chance};
@@ -138,6 +140,84 @@ fn compose_reads_long_files() {
         let file = &many.as_bytes()[..size];
         assert!(composed(file) == compose_sheet(file), "{size} bytes");
     }
+}
+
+/// A tray file with sides: whole, with slips that come back on another side, or with another byte in column 9, with a slip of
+/// too many letters or a byte that is no sign, or damaged; half of them as readers type them.
+fn sided(chance: &mut Chance, n: usize) -> Vec<u8> {
+    let all = many_forms(chance, [6, 12, 60, 200][n % 4], MAX_SLIP);
+    let small = valid(chance, 12, 10);
+    let tray = match n % 8 {
+        0 => echoed(chance, Echo::Equal, &small, 6),
+        1 => echoed(chance, Echo::Part, &small, 6),
+        _ => any_sides(chance, &all),
+    };
+    let letters: Vec<Vec<u8>> = tray.slips().iter().map(|slip| slip.to_vec()).collect();
+    let letters = if n % 2 == 0 {
+        typed_slips(chance, &letters)
+    } else {
+        letters
+    };
+    let mut slips: Vec<(u8, Vec<u8>)> = tray.sides.iter().copied().zip(letters).collect();
+    let at = chance.below(slips.len());
+    match n % 8 {
+        5 => slips[at].0 = chance.one(NO_SIDES),
+        6 if n % 16 == 6 => slips[at].1 = chance.word(b"AB", MAX_SLIP + 1),
+        6 => spoil(chance, &mut slips[at].1, 1),
+        7 => return blotted(chance, &sided_file(&slips), BLOTS[n / 8 % BLOTS.len()]),
+        _ => {}
+    }
+    sided_file(&slips)
+}
+
+/// A sheet for each side that has slips, or one line.
+#[test]
+fn compose_prints_a_sheet_for_each_side() {
+    for (file, sheet) in SHEETS {
+        assert_eq!(String::from_utf8_lossy(&composed(file.as_bytes())), *sheet);
+    }
+    let (mut chance, mut sheets, mut heads) = (Chance::new(204), Sheets::default(), [0; 4]);
+    for n in 0..1_000 {
+        let file = sided(&mut chance, n);
+        let (sheet, printed) = (compose_sheet(&file), composed(&file));
+        assert!(printed == sheet, "the sheets of {:?}", String::from_utf8_lossy(&file));
+        sheets.count(&sheet, &[&file]);
+        let lines = printed.split(|&byte| byte == b'\n');
+        heads[lines.filter(|line| line.starts_with(b"TRAY ")).count()] += 1;
+    }
+    sheets.assert_from(600, 200, 300);
+    assert!(
+        heads.iter().all(|&count| count > 50),
+        "files by how many sheets: {heads:?}"
+    );
+}
+
+/// `find` reads files with sides, and looks for all slips: what it prints is what it prints of the same slips without sides.
+#[test]
+fn find_takes_no_sides() {
+    let (mut chance, mut sheets, folder) = (Chance::new(205), Sheets::default(), folder("sides"));
+    let (file, text, sheet) = FOUND;
+    assert_eq!(found(&folder, file.as_bytes(), text.as_bytes()), sheet.as_bytes());
+    for n in 0..500 {
+        let file = sided(&mut chance, n);
+        let all = valid(&mut chance, 20, 20);
+        let text = text_for(&mut chance, n, &all, n % 2 == 0);
+        let sheet = find_sheet(&file, &text);
+        assert!(
+            found(&folder, &file, &text) == sheet,
+            "the sheet of {:?}",
+            String::from_utf8_lossy(&file)
+        );
+        sheets.count(&sheet, &[&file, &text]);
+        let slips = any_sides(&mut chance, &all);
+        let slips: Vec<(u8, &[u8])> = slips.sided_slips().iter().map(|x| (x.side, x.letters)).collect();
+        assert_eq!(
+            found(&folder, &sided_file(&slips), &text),
+            found(&folder, &tray_file(&all), &text)
+        );
+    }
+    fs::remove_dir_all(folder).expect("the folder goes");
+    sheets.assert_from(150, 150, 100);
 }
 
 /// The n-th text for these slips: every fourth has a length near the limit or bytes that are no signs.

@@ -1,4 +1,5 @@
 //! The shortest legend: what was worked out by hand, made-up trays against the plain program, and what is claimed of it.
+mod lending;
 mod sought;
 mod tally;
 mod told;
@@ -11,7 +12,7 @@ use plain::made::groups::{die_group, just_kept, stretches, with_aside, FEW, FEW_
 use plain::made::stops::share_stops_alone;
 use plain::made::{near, valid, Chance};
 use plain::shortest::order_legend;
-use plain::{refusal, tray, ONE_LETTER};
+use plain::{refusal, tray, BLANK, ONE_LETTER};
 use sought::{call, numbers, told_of, trial, Lent};
 use tally::Tally;
 use told::refused;
@@ -245,17 +246,16 @@ fn other_orders_of_ten_kept_slips() {
     for n in 0..300 {
         let sets = [FEW, FEW_AND_STOP][n % 2];
         let tray = tray::Tray::of(&just_kept(&mut chance, sets, 10));
-        let slips = tray.slips();
         let (told, after) = call(&tray, DEFAULT, &Lent::of(32_000, 2_000, &mut chance));
         let told = told.expect("ten kept slips");
         let order = told.order.to_vec();
         let mut ascending = order.clone();
         ascending.sort_unstable();
-        assert_eq!(ascending, kept_slips(&slips));
+        assert_eq!(ascending, kept_slips(&tray, BLANK));
         let best = (told.legend, &order);
-        assert_eq!(after.legend[..best.0], order_legend(&slips, ONE_LETTER, &order));
+        assert_eq!(after.legend[..best.0], order_legend(&tray, ONE_LETTER, &order));
         for other in others(&mut chance, &order) {
-            let letters = order_legend(&slips, ONE_LETTER, &other).len();
+            let letters = order_legend(&tray, ONE_LETTER, &other).len();
             assert!(best <= (letters, &other), "{other:?} has {letters} letters");
             ties += usize::from(letters == best.0 && other != order);
         }

@@ -1,9 +1,10 @@
 //! The specimen trays of document 01, as tables of named cases.
 mod buffers;
+mod lending;
 mod told;
 
 use buffers::{trial, Buffers, AMPLE};
-use kotsghane::{compose_tray, Join, Place, Settings, Tray};
+use kotsghane::{compose_tray, Join, Place, Settings, Side, Tray};
 use plain::by_hand::{COMPOSE, SPECIMENS};
 use plain::compose::Rooms;
 use plain::made::Chance;
@@ -17,8 +18,9 @@ fn record(&(left, right, overlap): &(usize, usize, usize)) -> Join {
     Join::new(left, right, overlap)
 }
 
-fn standing(&(at, mark, compared): &(usize, char, usize)) -> Place {
-    Place::new(at, mark == 'K', compared)
+/// The place of a blank slip.
+fn standing(slip: usize, &(at, mark, compared): &(usize, char, usize)) -> Place {
+    Place::new(slip, at, mark == 'K', compared, Side::Blank)
 }
 
 #[test]
@@ -28,7 +30,7 @@ fn specimen_trays() {
         let name = case.name;
         let legend = compose_tray(&Tray::of(case.slips), DEFAULT).expect(name);
         let joins: Vec<Join> = case.joins.iter().map(record).collect();
-        let places: Vec<Place> = case.places.iter().map(standing).collect();
+        let places: Vec<Place> = (1..).zip(case.places).map(|(i, place)| standing(i, place)).collect();
         assert_eq!(legend.text, case.legend, "{name}");
         assert_eq!(legend.joins, joins, "{name}");
         assert_eq!(legend.places, places, "{name}");
@@ -99,7 +101,7 @@ fn buffers_of_the_compose_tray() {
         if case.number == 0 {
             expected.legend[..15].copy_from_slice(COMPOSE.legend.as_bytes());
             expected.joins[..3].copy_from_slice(&[1, 2, 3].map(|i| record(&COMPOSE.joins[i - 1])));
-            expected.places[..5].copy_from_slice(&[1, 2, 3, 4, 5].map(|i| standing(&COMPOSE.places[i - 1])));
+            expected.places[..5].copy_from_slice(&[1, 2, 3, 4, 5].map(|i| standing(i, &COMPOSE.places[i - 1])));
         }
         assert_eq!(after.legend, expected.legend, "{name}");
         assert_eq!(after.joins, expected.joins, "{name}");
@@ -119,10 +121,7 @@ struct Edge {
 fn edge(name: &'static str, letters: impl AsRef<[u8]>, ends: impl Into<Vec<u16>>, number: u32, detail: u32) -> Edge {
     Edge {
         name,
-        tray: tray::Tray {
-            letters: letters.as_ref().to_vec(),
-            ends: ends.into(),
-        },
+        tray: tray::Tray::all_blank(letters.as_ref().to_vec(), ends.into()),
         number,
         detail,
     }

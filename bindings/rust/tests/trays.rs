@@ -1,18 +1,17 @@
 //! Trays as callers build, judge and store them, against the plain program.
+mod owned;
 mod told;
 
-use kotsghane::{Tray, FILE_ENDS, MAX_FILE, MAX_SLIP};
+use kotsghane::{Side, Tray, FILE_ENDS, MAX_FILE, MAX_SLIP};
+use owned::ours;
 use plain::made::damage::{damaged, stored, DAMAGES};
-use plain::made::files::tray_file;
+use plain::made::files::{sided_file, tray_file};
+use plain::made::sides::{any_sides, spread_sides, SPREADS};
 use plain::made::stops::many_stops;
 use plain::made::typed::many_forms;
 use plain::made::{slips, valid, Chance, Slips, SHAPES};
 use plain::tray;
 use told::{plainly, refused};
-
-fn ours(tray: &tray::Tray) -> Tray {
-    Tray::from_parts(tray.letters.clone(), tray.ends.clone())
-}
 
 /// Slips of a valid tray, the n-th of many kinds. U and J are among the letters of many.
 fn any_slips(chance: &mut Chance, n: usize) -> Slips {
@@ -184,4 +183,100 @@ fn files_of_damaged_trays() {
         met[told.err().map_or(0, |refusal| refusal.number)] += 1;
     }
     assert!(met[1..].iter().all(|&count| count > 300), "{met:?}");
+}
+
+/// The side and the letters of each slip of a plain tray.
+fn pairs(tray: &tray::Tray) -> Vec<(Side, &[u8])> {
+    let slips = tray.sided_slips().into_iter();
+    let side = |byte| Side::from_byte(byte).expect("a side");
+    slips.map(|slip| (side(slip.side), slip.letters)).collect()
+}
+
+/// Slips with their sides: from pairs, one by one, from parts, and from what another tray gives. A blank side is the same as none.
+#[test]
+fn trays_of_sides() {
+    let (mut chance, mut blank) = (Chance::new(98), 0);
+    for n in 0..2_000 {
+        let all = any_slips(&mut chance, n);
+        let plain = any_sides(&mut chance, &all);
+        let pairs = pairs(&plain);
+        let tray = Tray::of_sides(pairs.iter().copied());
+        assert_eq!(tray, ours(&plain));
+        assert_eq!(
+            (tray.letters(), tray.ends(), tray.sides()),
+            (&plain.letters[..], &plain.ends[..], &plain.sides[..])
+        );
+        let mut pushed = Tray::default();
+        for &(side, slip) in &pairs {
+            match side {
+                Side::Blank => pushed.push(slip),
+                _ => pushed.push_side(side, slip),
+            }
+        }
+        assert_eq!(pushed, tray);
+        assert!(tray.sided_slips().eq(pairs.iter().copied()));
+        assert_eq!(Tray::of_sides(tray.sided_slips()), tray);
+        assert!(tray.slips().eq(all.iter()));
+        for (number, &(side, _)) in (1..).zip(&pairs) {
+            assert_eq!(tray.side(number), Some(side));
+        }
+        assert_eq!(
+            [0, tray.len() + 1, usize::MAX].map(|number| tray.side(number)),
+            [None; 3]
+        );
+        let same = Tray::of(&all);
+        assert_eq!(tray == same, plain.sides.iter().all(|&side| side == b' '));
+        blank += usize::from(tray == same);
+    }
+    assert!((50..1_000).contains(&blank), "all blank: {blank}");
+}
+
+/// Row 22 after rows 1 to 6, where there are more sides or fewer than slips. A slip more hides neither.
+#[test]
+fn checks_of_sides_agree() {
+    let (mut chance, mut met) = (Chance::new(99), [0; 23]);
+    for n in 0..6_000 {
+        let most = [1, 12, 200][n % 3];
+        let mut plain = match n % 4 {
+            0 => damaged(&mut chance, DAMAGES[n / 4 % DAMAGES.len()], most),
+            _ => tray::Tray::of(&valid(&mut chance, most, MAX_SLIP)),
+        };
+        let slips = plain.ends.len();
+        let any = chance.below(slips + 9);
+        let listed = chance.one(&[slips, slips, slips - 1, slips + 1, any]);
+        plain.sides = spread_sides(&mut chance, SPREADS[n % SPREADS.len()], listed);
+        let mut tray = ours(&plain);
+        let told = tray.check().map_err(plainly);
+        assert_eq!(told.err(), plain.sided_fault());
+        assert_eq!(tray.to_file().map_err(plainly).err(), plain.sided_fault());
+        assert_eq!(tray.slip(1).map_err(plainly).err(), plain.fault());
+        met[told.err().map_or(0, |refusal| refusal.number)] += 1;
+        tray.push_side(Side::Reverse, "A");
+        assert_eq!(tray.sides().len() == tray.len(), listed == slips);
+    }
+    assert!(met[0] > 1_500 && met[22] > 1_500, "{met:?}");
+    assert!(met[1..=6].iter().all(|&count| count > 50), "{met:?}");
+}
+
+/// Column 9 has the side, and is read as that again.
+#[test]
+fn files_of_trays_with_sides() {
+    let (mut chance, mut met) = (Chance::new(100), [0; 3]);
+    for n in 0..3_000 {
+        let all = match n % 2 {
+            0 => valid(&mut chance, [6, 40, 200][n % 3], MAX_SLIP),
+            _ => slips(SHAPES[n % 5], &mut chance, 200, 10, 10, b"AVG.OR"),
+        };
+        let signs = |slip: &Vec<u8>| slip.iter().all(|letter| !b"UJ".contains(letter));
+        let all: Slips = all.into_iter().filter(signs).collect();
+        let plain = any_sides(&mut chance, &all);
+        let slips: Vec<(u8, &[u8])> = plain.sided_slips().iter().map(|x| (x.side, x.letters)).collect();
+        let (tray, file) = (ours(&plain), sided_file(&slips));
+        assert_eq!(tray.to_file().as_ref(), Ok(&file));
+        assert_eq!(Tray::read(&file).as_ref(), Ok(&tray));
+        for (count, side) in met.iter_mut().zip(Side::ALL) {
+            *count += usize::from(tray.sides().contains(&side.byte()));
+        }
+    }
+    assert!(met.iter().all(|&count| count > 1_500), "trays with each side: {met:?}");
 }

@@ -48,10 +48,11 @@ const FAMILIES: [Family; 2] = [
     },
 ];
 
-/// Lent letters and ends.
+/// Lent letters, ends and sides.
 struct Lent {
     letters: Vec<u8>,
     ends: Vec<u16>,
+    sides: Vec<u8>,
 }
 
 impl Lent {
@@ -59,11 +60,13 @@ impl Lent {
         Lent {
             letters: vec![0; MAX_LETTERS],
             ends: vec![0; MAX_SLIPS],
+            sides: vec![0; MAX_SLIPS],
         }
     }
 
     fn merge(&mut self, trays: &[Tray; 2]) -> Result<Written, Refusal> {
-        merge_trays(&trays[0], &trays[1], &mut self.letters, &mut self.ends)
+        let [first, second] = trays.each_ref().map(Tray::lend);
+        merge_trays(first, second, &mut self.letters, &mut self.ends, &mut self.sides)
     }
 }
 
@@ -78,7 +81,7 @@ struct Merging {
 }
 
 fn plain_merge([first, second]: &[tray::Tray; 2]) -> Option<tray::Tray> {
-    merge::merge_trays(first, second, MAX_LETTERS, MAX_SLIPS).ok()
+    merge::merge_trays(first, second, MAX_LETTERS, MAX_SLIPS, MAX_SLIPS).ok()
 }
 
 /// Merges the trays by both programs, and compares what they give.
@@ -90,6 +93,7 @@ fn compare(both: [Slips; 2]) -> Merging {
         (Ok(written), Some(tray)) => {
             assert_eq!(lent.letters[..written.letters], tray.letters);
             assert_eq!(lent.ends[..written.slips], tray.ends);
+            assert_eq!(lent.sides[..written.slips], tray.sides);
         }
         (told, None) => assert_eq!(told.map_err(|refusal| refusal.number()), Err(1)),
         (told, Some(_)) => panic!("the plain program merges them: {told:?}"),
@@ -109,6 +113,7 @@ fn round(trays: &mut [Merging], lent: &mut Lent, buffers: &mut Buffers) {
     for both in trays.iter_mut() {
         lent.letters.fill(0);
         lent.ends.fill(0);
+        lent.sides.fill(0);
         clock(&mut both.merge, || lent.merge(black_box(&both.ours)));
     }
     for both in trays.iter_mut() {

@@ -1,6 +1,7 @@
 //! Lent buffers, and one trial: the library and the plain program on the same tray and the same state of buffers.
+use crate::lending::{lend, named};
 use crate::told::plainly;
-use kotsghane::{compose, Composed, Join, Place, Refusal, Settings};
+use kotsghane::{compose, Composed, Join, Place, Refusal, Settings, Side};
 use plain::compose::{compose_tray, fault_before_c, Composition, Rooms};
 use plain::made::Chance;
 use plain::tray::Tray;
@@ -28,7 +29,7 @@ impl Buffers {
         let mut number = || chance.below(65_536);
         let mut join = |_| Join::new(number(), number(), number());
         let joins = (0..rooms.joins).map(&mut join).collect();
-        let mut place = |_| Place::new(number(), number() % 2 == 0, number());
+        let mut place = |_| Place::new(number(), number(), number() % 2 == 0, number(), Side::ALL[number() % 3]);
         let places = (0..rooms.places).map(&mut place).collect();
         Buffers {
             work: (0..rooms.work).map(|_| number() as u16).collect(),
@@ -66,7 +67,8 @@ pub fn join(from: &plain::compose::Join) -> Join {
 }
 
 pub fn place(from: &plain::compose::Place) -> Place {
-    Place::new(from.place, from.kept, from.compared)
+    let side = Side::from_byte(from.side).expect("a side that was composed");
+    Place::new(from.slip, from.place, from.kept, from.compared, side)
 }
 
 /// All counts.
@@ -86,7 +88,7 @@ fn plain_counts(made: &Composition) -> [usize; 6] {
 /// area. A refusal leaves them as they were, and after the outcome each is unchanged.
 fn expected(tray: &Tray, settings: Settings, before: &Buffers) -> (Result<[usize; 6], plain::Refusal>, Buffers) {
     let mut after = before.clone();
-    let made = compose_tray(tray, settings.least, before.rooms());
+    let made = compose_tray(tray, named(settings), before.rooms());
     let told = made.map(|made| {
         after.write(&made);
         plain_counts(&made)
@@ -99,8 +101,7 @@ fn expected(tray: &Tray, settings: Settings, before: &Buffers) -> (Result<[usize
 pub fn trial(tray: &Tray, settings: Settings, before: &Buffers) -> (Result<Composed, Refusal>, Buffers) {
     let mut ours = before.clone();
     let told = compose(
-        &tray.letters,
-        &tray.ends,
+        lend(tray),
         settings,
         &mut ours.work,
         &mut ours.legend,
@@ -113,7 +114,7 @@ pub fn trial(tray: &Tray, settings: Settings, before: &Buffers) -> (Result<Compo
     assert_eq!(ours.joins, after.joins);
     assert_eq!(ours.places, after.places);
     assert_eq!(ours.work.len(), before.work.len());
-    let before_c = fault_before_c(tray, settings.least, before.work.len()).is_some();
+    let before_c = fault_before_c(tray, named(settings), before.work.len()).is_some();
     assert!(ours.work == before.work || !before_c);
     (told, ours)
 }

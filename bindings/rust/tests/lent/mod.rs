@@ -1,4 +1,4 @@
-//! Letters and ends lent for a tray, and what is expected of a call that writes one into them.
+//! Letters, ends and sides lent for a tray, and what is expected of a call that writes one into them.
 use crate::told::plainly;
 use kotsghane::{Refusal, Written};
 use plain::made::Chance;
@@ -9,14 +9,16 @@ use plain::tray::Tray;
 pub struct Lent {
     pub letters: Vec<u8>,
     pub ends: Vec<u16>,
+    pub sides: Vec<u8>,
 }
 
 impl Lent {
-    /// This many letters and ends, which hold anything.
-    pub fn of(chance: &mut Chance, letters: usize, ends: usize) -> Lent {
+    /// This many letters, ends and sides, which hold anything.
+    pub fn of(chance: &mut Chance, letters: usize, ends: usize, sides: usize) -> Lent {
         Lent {
             letters: (0..letters).map(|_| chance.below(256) as u8).collect(),
             ends: (0..ends).map(|_| chance.below(65_536) as u16).collect(),
+            sides: (0..sides).map(|_| chance.below(256) as u8).collect(),
         }
     }
 
@@ -27,6 +29,7 @@ impl Lent {
         if let Ok(tray) = plain {
             wanted.letters[..tray.letters.len()].copy_from_slice(&tray.letters);
             wanted.ends[..tray.ends.len()].copy_from_slice(&tray.ends);
+            wanted.sides[..tray.sides.len()].copy_from_slice(&tray.sides);
         }
         let counts = told.map(|written| (written.letters, written.slips));
         let expected = plain.as_ref().map(|tray| (tray.letters.len(), tray.ends.len()));

@@ -1,5 +1,6 @@
 //! What is lent for a shortest legend, and one trial: the library and the plain program on the same tray and the same state of
 //! buffers.
+use crate::lending::{lend, named};
 use crate::told::plainly;
 use kotsghane::{shortest, Refusal, Settings, Shortest, MAX_SHORTEST};
 use plain::compose::fault_before_c;
@@ -44,7 +45,7 @@ pub fn numbers(told: &Result<Shortest, Refusal>) -> Result<Told, plain::Refusal>
 /// the outcome it is unchanged.
 fn expected(tray: &Tray, settings: Settings, before: &Lent) -> (Result<Told, plain::Refusal>, Vec<u8>) {
     let mut after = before.legend.clone();
-    let made = shortest_legend(tray, settings.least, before.work.len(), before.legend.len());
+    let made = shortest_legend(tray, named(settings), before.work.len(), before.legend.len());
     let told = made.map(|made| {
         after[..made.legend.len()].copy_from_slice(&made.legend);
         told_of(made.legend.len(), &made.order)
@@ -56,9 +57,9 @@ fn expected(tray: &Tray, settings: Settings, before: &Lent) -> (Result<Told, pla
 /// cells as before, and the same where the call is refused before place C.
 pub fn call(tray: &Tray, settings: Settings, before: &Lent) -> (Result<Shortest, Refusal>, Lent) {
     let mut ours = before.clone();
-    let told = shortest(&tray.letters, &tray.ends, settings, &mut ours.work, &mut ours.legend);
+    let told = shortest(lend(tray), settings, &mut ours.work, &mut ours.legend);
     assert_eq!(ours.work.len(), before.work.len());
-    let before_c = fault_before_c(tray, settings.least, before.work.len()).is_some();
+    let before_c = fault_before_c(tray, named(settings), before.work.len()).is_some();
     assert!(ours.work == before.work || !before_c);
     (told, ours)
 }
