@@ -1,5 +1,5 @@
 -- What is claimed of each side, proved. The laws hold of any members that ascend from 1, and the slips of a side are such members.
-use mathlib.Core.Path.{_≡_, sym, subst}
+use mathlib.Core.Path.{sym, subst}
 use mathlib.Core.List.{List}
 use Prim.Native.Nat.{ℕ}
 use native.Mathlib.Omega.{arith}
@@ -22,7 +22,7 @@ use Rattle.greedy.proofs.TriedAlone.{tried-of}
 use Rattle.shortest.specs.Sides.{AloneShortest}
 use Rattle.shortest.proofs.Shortest.{shortest-of}
 use Rattle.shortest.proofs.ShortestAlone.{alone-shortest}
-use Rattle.claims.specs.Sides.{SideAlone, Sides-alone, EachSide, Each-side}
+use Rattle.claims.specs.Sides.{Sides-alone, Each-side}
 
 pub sides-alone : Sides-alone
 sides-alone g s es cs A =

@@ -1,9 +1,9 @@
 -- Lines, put column by column: what the calls of a line's function leave is the line. And sheets, put line by line.
 --   NAME-put   == the line or sheet of the definition NAMELine or NAMELines, from the parts that were put
-use mathlib.Core.Path.{_≡_, refl}
+use mathlib.Core.Path.{_≡_}
 use mathlib.Core.List.{List, [], _∷_, append-assoc}
 use Prim.Native.Nat.{ℕ, _+_, _*_}
-use borrow.Author.Tests.{eq-eqb, ne-eqb}
+use borrow.Author.Tests.{ne-eqb}
 use native.Mathlib.Omega.{arith}
 use lib.ListN.{length}
 use Rattle.words.specs.Quoted.{word}
@@ -15,7 +15,7 @@ use Rattle.sheet_rule.specs.Sheets.{column, slipLine, joinLine, signOf, findLin
 use Rattle.sheet_rule.specs.Sheets.{slipLineAt, joinLineAt, foundLineAt, composeLines, findLines, placeWidth, countWidth}
 use Rattle.sheet_rule.specs.Sheets.{detailWidth, slipSize, joinSize, findSize, foundSize, refusedSize}
 use Rattle.sheet_columns.specs.steps.Wrote.{Wrote}
-use Rattle.sheet_lines.specs.steps.Lines.{threeColumns, headEnd, Ended, Headed, SlipsFit, JoinsFit, ComposeAsks}
+use Rattle.sheet_lines.specs.steps.Lines.{threeColumns, Ended, Headed, SlipsFit, JoinsFit, ComposeAsks}
 use Rattle.sheet_rule.specs.Lent.{Printed}
 use Rattle.sheet_columns.proofs.Puts.{put-more}
 

@@ -31,7 +31,6 @@ use Rattle.sheet_rule.specs.Sheets.{sideSheetOf, sheetRoom, detailWidth, refuse
 use Rattle.sheet_rule.specs.Sides.{isShown, sheetsOf}
 use Rattle.sheet_rule.specs.Programs.{traySheets}
 use Rattle.sheet_rule.specs.Lent.{TrayRoom, Printed}
-use Rattle.sheet_columns.specs.steps.Wrote.{Wrote}
 use Rattle.sheet_columns.proofs.Puts.{put-is, put-none, put-more}
 use Rattle.sheet_lines.proofs.Lines.{printed}
 use Rattle.sheet_sizes.proofs.RefusalsFit.{sided-refusal-fits}

@@ -1,5 +1,5 @@
 -- `store_places` meets its contract: the loop of `store_loops`, at records made by `place_at`.
-use Prim.Native.Nat.{_+_, _-_, _*_, _≤_, _<_}
+use Prim.Native.Nat.{_+_, _-_, _*_, _≤_}
 use native.Mathlib.Omega.{arith}
 use lib.ListN.{length}
 use Rattle.store_loops.proofs.Loop.{stored-by}
