@@ -1,7 +1,6 @@
 // Composing a tray: over lent numbers, over records, and its slips and pairs by themselves.
 ghost use Prim.Native.Nat.{_≤_};
 ghost use lib.ListN.{length};
-use crate::pairs;
 use crate::shortest;
 use answers::Composed;
 use answers::Join;
@@ -241,7 +240,7 @@ fn try_tray(letters: &[u8], ends: &[u16], sides: &[u8], rooms: Rooms) {
         try_records(letters, ends, sides, rooms, count);
     }
     if ends.len() < 13 {
-        pairs::show(letters, ends, sides, rooms.settings.least);
+        trials_ask::pairs::show(letters, ends, sides, rooms.settings.least);
     }
 }
 

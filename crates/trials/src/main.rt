@@ -19,10 +19,8 @@ ghost use mathlib.Core.Path.{_≡_};
 ghost use lib.ListN.{length};
 use trials_lines::table;
 
-mod ask;
 mod compose;
 mod find;
-mod pairs;
 mod shortest;
 
 fn row(line: &[u8]) {
@@ -32,12 +30,12 @@ fn row(line: &[u8]) {
         b'L' => shortest::row(line),
         b'l' => shortest::side_row(line),
         b'F' => find::row(line),
-        b'A' => ask::row(line),
-        b'a' => ask::side_row(line),
+        b'A' => trials_ask::ask::row(line),
+        b'a' => trials_ask::ask::side_row(line),
         b'T' => trials_trays::read::row(line),
         b'M' => trials_trays::merge::row(line),
         b'm' => trials_trays::merge::side_row(line),
-        b'S' => ask::signs(),
+        b'S' => trials_ask::ask::signs(),
         b'-' => {
             io::write_all(1, line);
         }

@@ -1,8 +1,8 @@
 -- The invariant says nothing.
 use Prim.Native.Nat.{_-_}
 use borrow.Author.Needs.{needs}
-use Rattle.trials.proofs.pairs.pairs_of.Statement.{statement}
-use Rattle.trials.proofs.pairs.pairs_of.Tie as tie
+use Rattle.trials_ask.proofs.pairs.pairs_of.Statement.{statement}
+use Rattle.trials_ask.proofs.pairs.pairs_of.Tie as tie
 
 abbrev Inv-loop : tie.InvT-loop
 Inv-loop first letters ends sides i above least sum₀ j₀ sum j = Unit {0}

@@ -1,8 +1,8 @@
 -- The invariant says nothing.
 use Prim.Native.Nat.{_-_}
 use borrow.Author.Needs.{needs}
-use Rattle.trials.proofs.ask.signs.Statement.{statement}
-use Rattle.trials.proofs.ask.signs.Tie as tie
+use Rattle.trials_ask.proofs.ask.signs.Statement.{statement}
+use Rattle.trials_ask.proofs.ask.signs.Tie as tie
 
 abbrev Inv-loop : tie.InvT-loop
 Inv-loop byte₀ t3 byte = Unit {0}
