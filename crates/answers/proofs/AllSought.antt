@@ -66,7 +66,8 @@ blanks es = replicate (length es) blankSide
 
 abbrev computed : Sought → Sought
 computed x =
-    sought (x .least) (x .letters) (x .ends) (x .cells) (x .room) (shortestOf (record { least = x .least; side = blankSide }) (word (x .letters)) (x .ends) (blanks (x .ends)) (x .cells) (x .room))
+    sought (x .least) (x .letters) (x .ends) (x .cells) (x .room)
+    (shortestOf (record { least = x .least; side = blankSide }) (word (x .letters)) (x .ends) (blanks (x .ends)) (x .cells) (x .room))
 
 pub soughts-computed : map computed soughts ≡ soughts
 unfolding shortestFault shortestOf

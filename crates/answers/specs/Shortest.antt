@@ -1,4 +1,4 @@
--- The shortest legend of a side: refusals 20 and 8 after those of the settings, of the tray, of its sides and 7, the answer, and what each buffer holds afterwards.
+-- The shortest legend of a side: refusals 20 and 8 after those of the settings, the tray, its sides and 7, the answer, and what each buffer holds afterwards.
 --   shortestRows c l         == place C: room for l letters
 --   shortestFault g s es cs w l == what refuses the call, with the settings g, a work area of w cells and room for l letters
 --   shortestOf g s es cs w l == the answer

@@ -102,8 +102,8 @@ module _ (g : Settings) (s es cs w : List ℕ) (l j p : ℕ) (r : Composed) wher
       })
 
 -- the staged joins stand within the work area
-pub staged-room : (g : Settings) (s es cs w w′ l l′ : List ℕ) (j p : ℕ) (r : Composed) → Staged g s es cs w w′ l l′ j p r → Accepts g s es cs w (length l) j p r →
-    NAMED + joinCells * r .joins ≤ length w′
+pub staged-room : (g : Settings) (s es cs w w′ l l′ : List ℕ) (j p : ℕ) (r : Composed) → Staged g s es cs w w′ l l′ j p r
+    → Accepts g s es cs w (length l) j p r → NAMED + joinCells * r .joins ≤ length w′
 unfolding table
 staged-room g s es cs w w′ l l′ j p r st a =
     let e = ap length (st .joins-are (ap (λ (c : Composed). c .number) (a .answer-is))) in

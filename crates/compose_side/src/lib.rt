@@ -83,8 +83,8 @@ fn compose_side(
     answer
 }
 
-// Composes the side that the settings name of any tray, or refuses it: the legend into its buffer, joins and records of places as numbers into the work area. `joins_room` joins and
-// `places_room` records can be taken.
+// Composes the side that the settings name of any tray, or refuses it: the legend into its buffer, joins and records of places as numbers into the work
+// area. `joins_room` joins and `places_room` records can be taken.
 pub fn compose_staged(
     letters: &[u8],
     ends: &[u16],

@@ -58,7 +58,8 @@ module _ (g : Settings) (s es cs w w′ l l′ : List ℕ) (js : List Join) (ps 
     joins-staged = ap (λ (n : ℕ). table w′ NAMED (joinCells * n)) (sym all-joins) ∙ c .stages .joins-are (ap (λ (x : Composed). x .number) (a .answer-is))
 
     records-staged : table w′ RECORDS (recordCells * length M) ≡ flatRecords (sided g cs ss) (g .side)
-    records-staged = ap (λ (n : ℕ). table w′ RECORDS (recordCells * n)) (sym all-places) ∙ c .stages .records-are (ap (λ (x : Composed). x .number) (a .answer-is))
+    records-staged =
+        ap (λ (n : ℕ). table w′ RECORDS (recordCells * n)) (sym all-places) ∙ c .stages .records-are (ap (λ (x : Composed). x .number) (a .answer-is))
 
   module _ (a : Refuses g s es cs w (length l) (length js) (length ps) (r .answer)) where
     no-joins : r .joins ≡ 0

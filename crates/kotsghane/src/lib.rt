@@ -37,8 +37,8 @@ pub extern "C" fn kotsghane_compose(
     ];
 }
 
-// The shortest legend of the side named, by the same overlaps. The answer's number, detail, legend letters, count of kept slips and the ten numbers of their order are
-// fourteen numbers.
+// The shortest legend of the side named, by the same overlaps. The answer's number, detail, legend letters, count of kept slips and the ten numbers of their
+// order are fourteen numbers.
 #[no_mangle]
 pub extern "C" fn kotsghane_shortest(
     letters: &[u8],

@@ -46,7 +46,8 @@ module _ (g : Settings) (s es cs : List ℕ) (a : AcceptedSides s es cs) where
   M = ofSide cs (g .side)
 
   -- n records, whose slips are those of the tray
-  slips-fit : (ps : List ℕ) (n : ℕ) → recordCells * n ≤ length ps → ((i : ℕ) → i < n → (1 ≤ getD ps (recordCells * i) 0) × (getD ps (recordCells * i) 0 ≤ length es))
+  slips-fit : (ps : List ℕ) (n : ℕ) → recordCells * n ≤ length ps
+      → ((i : ℕ) → i < n → (1 ≤ getD ps (recordCells * i) 0) × (getD ps (recordCells * i) 0 ≤ length es))
       → ((i : ℕ) → i < n → getD ps (recordCells * i + 1) 0 < 10 ^ 5) → SlipsFit es ps n
   slips-fit ps n enough real placed = record {
     few = omega (arith, accepted-tells s es (a .tray) .few);

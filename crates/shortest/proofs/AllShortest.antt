@@ -78,7 +78,9 @@ shorter-text = (refl, refl)
 -- So it may with a least overlap of 2: ABC holds AB and BC.
 pub shorter-by-one :
     let ss = map word ("AB" ∷ "BC" ∷ []) in
-    (holdsAll ss (1 ∷ 2 ∷ []) (word "ABC") ≡ true) × (length (word "ABC") ≡ 3) × (length (shortestLegend (whole (record { least = 2; side = blankSide }) ss)) ≡ 4)
+    (holdsAll ss (1 ∷ 2 ∷ []) (word "ABC") ≡ true)
+    × (length (word "ABC") ≡ 3)
+    × (length (shortestLegend (whole (record { least = 2; side = blankSide }) ss)) ≡ 4)
 shorter-by-one = (refl, refl, refl)
 
 -- The slips of a side alone, by their numbers in the tray; of all four together the order is another.

@@ -179,7 +179,8 @@ module _ (n : ℕ) (name : Sym) (D : Type 0) (values : D → Values (Fs n)) (mak
       (𝓖 : GhostRules 𝓤 H) (𝓡 : Running 𝓤 H 𝓜) (c : Clauses 𝓤 ended)
       (holds : (κs : Lfts 5) (a : Args signature κs) (g : c κs a .ghost) (v : Values (Fs n)) (ws : Lasts ended κs a)
       → ComposeSays (a .1 .1 .1 .0) (a .0 .now) (a .1 .0 .now) (a .1 .1 .0 .now) (a .1 .1 .1 .1 .0 .now) (ws .1 .1 .1 .1 .0) (a .1 .1 .1 .1 .1 .0 .now)
-      (ws .1 .1 .1 .1 .1 .0) (a .1 .1 .1 .1 .1 .1 .0) (v .1 .0) (a .1 .1 .1 .1 .1 .1 .1 .0) (v .1 .1 .0) (v .0) → ent 𝓤 (emp 𝓤) (c κs a .ensures g (make v tt) (atExit ended κs a ws))) where
+      (ws .1 .1 .1 .1 .1 .0) (a .1 .1 .1 .1 .1 .1 .0) (v .1 .0) (a .1 .1 .1 .1 .1 .1 .1 .0) (v .1 .1 .0) (v .0)
+      → ent 𝓤 (emp 𝓤) (c κs a .ensures g (make v tt) (atExit ended κs a ws))) where
     abbrev A : Atoms 𝓤
     A = 𝓖 .A
 
@@ -198,7 +199,8 @@ module _ (n : ℕ) (name : Sym) (D : Type 0) (values : D → Values (Fs n)) (mak
 
     module _ (κ₀ κ₁ κ₂ κ₃ κ₄ : Lft) (q₀ q₁ q₂ q₃ q₄ : Share) (ls es cs : RefT (List ℕ)) (st : Settings) (wk lg : RefT (List ℕ)) (js : List Join)
         (ps : List Place) (is-st : Is G.the-row st (set-vals st))
-        (room-s : Room u8 (length (ls .now))) (room-e : Room u16 (length (es .now))) (room-c : Room u8 (length (cs .now))) (room-w : Room u16 (length (wk .now)))
+        (room-s : Room u8 (length (ls .now))) (room-e : Room u16 (length (es .now))) (room-c : Room u8 (length (cs .now)))
+        (room-w : Room u16 (length (wk .now)))
         (room-l : Room u8 (length (lg .now))) (is-js : Is (Array J.the-row n) js (joins-value js))
         (is-ps : Is (Array P.the-row n) ps (places-value ps)) where
       abbrev bound : Bound 𝓤 H A signature
@@ -226,11 +228,13 @@ module _ (n : ℕ) (name : Sym) (D : Type 0) (values : D → Values (Fs n)) (mak
       module _ (C : Calls 𝓤 H) (Λ : Loops 𝓤 H) (fm : FmC 𝓤 H (W .laws) C) (tray-known : Triple 𝓤 (C tray-def.name) Tray)
           (g : c (bound .0) (bound .3) .ghost) where
         walk : ent 𝓤 (onEntry 𝓤 H A signature (bound .0) (bound .1) (bound .3) (bound .4))
-            (WpFn 𝓤 H C Λ function (slice-vals ls ++ slice-vals es ++ slice-vals cs ++ set-vals st ++ slice-vals wk ++ slice-vals lg ++ joins-value js ++ places-value ps)
+            (WpFn 𝓤 H C Λ function (slice-vals ls ++ slice-vals es ++ slice-vals cs ++ set-vals st ++ slice-vals wk ++ slice-vals lg ++ joins-value js
+            ++ places-value ps)
             (walkOf 𝓤 H A ended stayed c .post (bound, g)))
         walk =
             begun 𝓤 H A ended bound W ∵
-            enter ! C Λ function (slice-vals ls ++ slice-vals es ++ slice-vals cs ++ set-vals st ++ slice-vals wk ++ slice-vals lg ++ joins-value js ++ places-value ps) _ $
+            enter ! C Λ function (slice-vals ls ++ slice-vals es ++ slice-vals cs ++ set-vals st ++ slice-vals wk ++ slice-vals lg ++ joins-value js
+            ++ places-value ps) _ $
             alloc1 ! (λ l₀. alloc1 ! (λ l₁. alloc1 ! (λ l₂. alloc1 ! (λ l₃. alloc1 ! (λ l₄. alloc1 ! (λ l₅. alloc1 ! (λ l₆. alloc1 ! (λ l₇. alloc1 ! (λ l₈.
             alloc1 ! (λ l₉. alloc1 ! (λ l₁₀. alloc1 ! (λ l₁₁. alloc1 ! (λ l₁₂. alloc1 ! (λ l₁₃. alloc1 ! (λ l₁₄. alloc1 ! (λ l₁₅. alloc1 ! (λ l₁₆.
             alloc1 ! (λ l₁₇. alloc1 ! (λ l₁₈. alloc1 ! (λ l₁₉. alloc1 ! (λ l₂₀. alloc1 ! (λ l₂₁. alloc0 ! $ params1 ! $
@@ -292,8 +296,10 @@ module _ (n : ℕ) (name : Sym) (D : Type 0) (values : D → Values (Fs n)) (mak
             move ! (3 ∷ 13 ∷ 9 ∷ []) $
             takes-array ! tt P.the-row n
             (zs .1 .1 .1 .1 .1 .1 .1 .0)
-            l₁₀ (λ len-p v. facts ! (Array P.the-row n) (Is (Array P.the-row n)) (shows 𝓤 H A (Array P.the-row n)) (zs .1 .1 .1 .1 .1 .1 .1 .0) (v ∷ []) (λ is-p.
-            rewrite ! 0 (λ (x : Val). ‵ (fat fullShare (tyArray P′.mir n) l₁₀ 0 x)) (value-of P.the-type n places-laws (zs .1 .1 .1 .1 .1 .1 .1 .0) v is-p) refl $
+            l₁₀
+            (λ len-p v. facts ! (Array P.the-row n) (Is (Array P.the-row n)) (shows 𝓤 H A (Array P.the-row n)) (zs .1 .1 .1 .1 .1 .1 .1 .0) (v ∷ []) (λ is-p.
+            rewrite ! 0 (λ (x : Val). ‵ (fat fullShare (tyArray P′.mir n) l₁₀ 0 x))
+            (value-of P.the-type n places-laws (zs .1 .1 .1 .1 .1 .1 .1 .0) v is-p) refl $
             -- [the places' cell; the joins' cell; work's last value; legend's; κ₀; κ₁; κ₂; κ₃; κ₄; sides; ends; letters; locals]
             assigns ! (of-opd ! (load ! (from ! (stop !)) (look ! 1 refl))) (from ! (stop !))
             (init ! 14 refl (typed-of 𝓤 H A W J.the-type joins-law n (zs .1 .1 .1 .1 .1 .1 .0) joins-laws u is-j .0)) $
@@ -308,7 +314,8 @@ module _ (n : ℕ) (name : Sym) (D : Type 0) (values : D → Values (Fs n)) (mak
             -- the arrays' cells are put back among the locals
             move ! (2 ∷ 3 ∷ 4 ∷ 5 ∷ 6 ∷ 7 ∷ 8 ∷ 9 ∷ 10 ∷ 11 ∷ 12 ∷ 13 ∷ 14 ∷ 15 ∷ 16 ∷ 17 ∷ 18 ∷ 19 ∷ 20 ∷ 21 ∷ 22 ∷ 23 ∷ 24 ∷ 25 ∷ 26 ∷ 27 ∷ 28 ∷ 29 ∷ 30 ∷ 31
             ∷ 32 ∷ 33 ∷ 0 ∷ 34 ∷ 1 ∷ []) $
-            frees-behind W 10 (full _ _ _ ∷ full _ _ _ ∷ full _ _ _ ∷ full _ _ _ ∷ full _ _ _ ∷ full _ _ _ ∷ full _ _ _ ∷ full _ _ _ ∷ full _ _ _ ∷ full _ _ _ ∷ full _ _ _
+            frees-behind W 10 (full _ _ _
+            ∷ full _ _ _ ∷ full _ _ _ ∷ full _ _ _ ∷ full _ _ _ ∷ full _ _ _ ∷ full _ _ _ ∷ full _ _ _ ∷ full _ _ _ ∷ full _ _ _ ∷ full _ _ _
             ∷ full _ _ _ ∷ full _ _ _ ∷ full _ _ _ ∷ full _ _ _ ∷ full _ _ _ ∷ full _ _ _ ∷ full _ _ _ ∷ full _ _ _ ∷ full _ _ _ ∷ full _ _ _
             ∷ full _ _ _ ∷ []) ! refl $
             -- [work's last value; legend's; κ₀; κ₁; κ₂; κ₃; κ₄; sides; ends; letters]

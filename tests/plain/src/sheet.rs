@@ -78,8 +78,8 @@ fn found(text: &[u8], finding: &Finding) -> Vec<u8> {
     std::iter::once(head).chain(lines).collect::<String>().into_bytes()
 }
 
-/// What `find` prints of a tray file and a text file: it takes no sides, and looks for all slips. One final LF of the text, if present, is not counted. Every byte
-/// left is folded; an LF is no sign.
+/// What `find` prints of a tray file and a text file: it takes no sides, and looks for all slips. One final LF of the text,
+/// if present, is not counted. Every byte left is folded; an LF is no sign.
 pub fn find_sheet(file: &[u8], text: &[u8]) -> Vec<u8> {
     let text = filed(text.strip_suffix(b"\n").unwrap_or(text));
     let tray = match read_tray(file, MAX_FILE, FILE_ENDS, FILE_ENDS) {

@@ -55,8 +55,8 @@ make-records-requires c κs =
     let composed = cut n in
     let own = chosen composed in
     let asks = start own .pre .1 in
-    records-can (start own .args .settings) _ _ _ _ (side-cut _ _ _ (asks .accepted) _ _ (own .side-slips .ensures)) (asks .room) (start own .args .settings .side) _ _ _ _ _ _
-    (composed .compose-cut .ensures) _ (search needs) _ (n .name-joins .ensures) _ (search needs)
+    records-can (start own .args .settings) _ _ _ _ (side-cut _ _ _ (asks .accepted) _ _ (own .side-slips .ensures)) (asks .room)
+    (start own .args .settings .side) _ _ _ _ _ _ (composed .compose-cut .ensures) _ (search needs) _ (n .name-joins .ensures) _ (search needs)
 
 returns : tie.Need-returns
 returns c =
@@ -66,8 +66,8 @@ returns c =
     let own = chosen composed in
     let asks = start own .pre .1 in
     side-finished _ _ _ (own .side-slips .ensures) _ _ _ _ _ _ _ _
-    (named-finished (start own .args .settings) _ _ _ _ (side-cut _ _ _ (asks .accepted) _ _ (own .side-slips .ensures)) (asks .room) _ _ _ _ _ _ _ (composed .compose-cut .ensures) _
-    (search needs) _ (n .name-joins .ensures) _ (search needs) _ (made .make-records .ensures))
+    (named-finished (start own .args .settings) _ _ _ _ (side-cut _ _ _ (asks .accepted) _ _ (own .side-slips .ensures)) (asks .room) _ _ _ _ _ _ _
+    (composed .compose-cut .ensures) _ (search needs) _ (n .name-joins .ensures) _ (search needs) _ (made .make-records .ensures))
 
 pub compose-side-spec : {M : Type 1} → statement M
 compose-side-spec = tie.close (tie.spec side-slips-requires array-share-prefix-slips slice-aggregate-compose-cut compose-cut-requires

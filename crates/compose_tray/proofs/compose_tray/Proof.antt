@@ -71,7 +71,8 @@ use Rattle.compose_tray.proofs.compose_tray.Key.{name}
 use Rattle.compose_tray.proofs.compose_tray.Code as code
 use Rattle.compose_tray.proofs.compose_tray.Statement.{statement}
 
--- at exit the letters, the ends and the sides are owned as they were passed; of the settings nothing is had, of the four `&mut` slices only their last values are known
+-- at exit the letters, the ends and the sides are owned as they were passed; of the settings nothing is had, of the four `&mut` slices only their last
+-- values are known
 abbrev stayed : Stays (tray.ended .signature .params) (tray.ended .kept)
 stayed = (
   stay-none-slice (0 ∷ []) tt (plain (λ _. u8)) yes,
@@ -107,7 +108,8 @@ module _ {M : Type 1} (𝓤 : URA M) (H : Heap 𝓤) (A : Atoms 𝓤) (W : Given
 
   module _ (κ₀ κ₁ κ₂ κ₃ κ₄ κ₅ κ₆ : Lft) (q₀ q₁ q₂ q₃ q₄ q₅ q₆ : Share) (ls es cs : RefT (List ℕ)) (g : Settings) (wk lg : RefT (List ℕ)) (js : RefT (List Join))
       (ps : RefT (List Place)) (is-g : Is G.the-row g (set-vals g))
-      (room-s : Room u8 (length (ls .now))) (room-e : Room u16 (length (es .now))) (room-c : Room u8 (length (cs .now))) (room-w : Room u16 (length (wk .now))) (room-l : Room u8 (length (lg .now)))
+      (room-s : Room u8 (length (ls .now))) (room-e : Room u16 (length (es .now))) (room-c : Room u8 (length (cs .now)))
+      (room-w : Room u16 (length (wk .now))) (room-l : Room u8 (length (lg .now)))
       (room-j : Room J.the-row (length (js .now))) (room-p : Room P.the-row (length (ps .now))) where
     abbrev bound : Bound 𝓤 H A tray.signature
     bound = (
@@ -154,11 +156,13 @@ module _ {M : Type 1} (𝓤 : URA M) (H : Heap 𝓤) (A : Atoms 𝓤) (W : Given
     module _ (C : Calls 𝓤 H) (Λ : Loops 𝓤 H) (fm : FmC 𝓤 H (W .laws) C) (core-known : Triple 𝓤 (C core-def.name) Core)
         (joins-known : Triple 𝓤 (C joins-def.name) Joins) (places-known : Triple 𝓤 (C places-def.name) Places) where
       walk : ent 𝓤 (onEntry 𝓤 H A tray.signature (bound .0) (bound .1) (bound .3) (bound .4))
-          (WpFn 𝓤 H C Λ code.function (slice-vals ls ++ slice-vals es ++ slice-vals cs ++ set-vals g ++ slice-vals wk ++ slice-vals lg ++ slice-vals js ++ slice-vals ps)
+          (WpFn 𝓤 H C Λ code.function (slice-vals ls ++ slice-vals es ++ slice-vals cs ++ set-vals g ++ slice-vals wk ++ slice-vals lg ++ slice-vals js
+          ++ slice-vals ps)
           (walkOf 𝓤 H A tray.ended stayed (tray.clauses 𝓤 H A at-mem run) .post (bound, tt)))
       walk =
           begun 𝓤 H A tray.ended bound W ∵
-          enter ! C Λ code.function (slice-vals ls ++ slice-vals es ++ slice-vals cs ++ set-vals g ++ slice-vals wk ++ slice-vals lg ++ slice-vals js ++ slice-vals ps) _ $
+          enter ! C Λ code.function (slice-vals ls ++ slice-vals es ++ slice-vals cs ++ set-vals g ++ slice-vals wk ++ slice-vals lg ++ slice-vals js
+          ++ slice-vals ps) _ $
           alloc1 ! (λ l₀. alloc1 ! (λ l₁. alloc1 ! (λ l₂. alloc1 ! (λ l₃. alloc1 ! (λ l₄. alloc1 ! (λ l₅. alloc1 ! (λ l₆. alloc1 ! (λ l₇. alloc1 ! (λ l₈.
           alloc1 ! (λ l₉. alloc1 ! (λ l₁₀. alloc1 ! (λ l₁₁.
           alloc1 ! (λ l₁₂. alloc1 ! (λ l₁₃. alloc1 ! (λ l₁₄. alloc1 ! (λ l₁₅. alloc1 ! (λ l₁₆. alloc1 ! (λ l₁₇. alloc1 ! (λ l₁₈. alloc1 ! (λ l₁₉. alloc1 ! (λ
@@ -187,7 +191,8 @@ module _ {M : Type 1} (𝓤 : URA M) (H : Heap 𝓤) (A : Atoms 𝓤) (W : Given
           -- places; locals]
           move ! (11 ∷ 12 ∷ 13 ∷ 10 ∷ 14 ∷ 6 ∷ 4 ∷ 2 ∷ 17 ∷ 8 ∷ 18 ∷ 1 ∷ 0 ∷ []) $
           calls-to W core.ended (core.clauses 𝓤 H A at-mem run) (to-core ν δ) tt
-          (λ r zs. StagedCounts g (ls .now) (es .now) (cs .now) (wk .now) (zs .1 .1 .1 .1 .0) (lg .now) (zs .1 .1 .1 .1 .1 .0) (length (js .now)) (length (ps .now)) r) ! fm
+          (λ r zs. StagedCounts g (ls .now) (es .now) (cs .now) (wk .now) (zs .1 .1 .1 .1 .0) (lg .now) (zs .1 .1 .1 .1 .1 .0) (length (js .now))
+          (length (ps .now)) r) ! fm
           core-known (id⊢ 𝓤 (emp 𝓤)) (λ r zs. refl)
           (and-then ! (load ! (from ! (stop !)) (look ! 55 refl))
           (and-then ! (load ! (from ! (stop !)) (look ! 53 refl))
@@ -202,8 +207,8 @@ module _ {M : Type 1} (𝓤 : URA M) (H : Heap 𝓤) (A : Atoms 𝓤) (W : Given
           (λ is. land ! (from ! (stop !)) (init ! 47 refl (LL.lawful S.the-type S′.the-laws 𝓤 H A W .typed r _ is .0)) $
           rewrite ! 47 (λ (u : Val). ‵ (fat fullShare S′.mir l₁₁ 0 u)) (ap only (LL.tells S.the-type S′.the-laws r _ is)) refl $
           move ! (0 ∷ 1 ∷ 2 ∷ 3 ∷ 6 ∷ 7 ∷ []) $ drop ! $ drop ! $ drop ! $ drop ! $ drop ! $ drop ! $
-          -- [work's last value; legend's; κ₀; κ₁; κ₂; ν; κ₄; sides; ends; letters; what is kept of work; κ₅; κ₆; joins; places; locals]. The lifetime is ended, and
-          -- the work area comes back
+          -- [work's last value; legend's; κ₀; κ₁; κ₂; ν; κ₄; sides; ends; letters; what is kept of work; κ₅; κ₆; joins; places; locals]. The
+          -- lifetime is ended, and the work area comes back
           move ! (0 ∷ 10 ∷ 5 ∷ []) $ takes-back ! tt u16 wk (zs .1 .1 .1 .1 .0) (slice-vals wk) refl room-w (λ len-w.
           -- [work; κ₃; legend's last value; κ₀; κ₁; κ₂; κ₄; sides; ends; letters; κ₅; κ₆; joins; places; locals]
           move ! (2 ∷ []) $ fsplit ! $ move ! (1 ∷ []) $ feqL ! (λ len-l.
@@ -222,7 +227,8 @@ module _ {M : Type 1} (𝓤 : URA M) (H : Heap 𝓤) (A : Atoms 𝓤) (W : Given
           (and-then ! (load ! (from ! (stop !)) (look ! 25 refl))
           (and-then ! (load ! (from ! (stop !)) (look ! 21 refl))
           (and-then ! (load ! (from ! (fld ! refl (stop !))) (look-in ! 39 (sub ! 1 refl (whole !)))) (no-more !)))) (λ u _ ys joins-are.
-          -- [what () owns; true; joins' last value; true; κ₃; κ₅; work; how work ends; how legend ends; κ₀; κ₁; κ₂; κ₄; sides; ends; letters; κ₆; places; locals]
+          -- [what () owns; true; joins' last value; true; κ₃; κ₅; work; how work ends; how legend ends; κ₀; κ₁; κ₂; κ₄; sides; ends; letters; κ₆; places;
+          -- locals]
           facts ! unit (Is unit) (shows 𝓤 H A unit) tt (u ∷ [])
           (λ is-unit. land ! (from ! (stop !)) (init ! 33 refl (nothing-lawful 𝓤 H A W .typed tt _ is-unit .0)) $
           move ! (1 ∷ []) $ fsplit ! $ move ! (1 ∷ []) $ feqL ! (λ len-j. move ! (1 ∷ 2 ∷ []) $ drop ! $ drop ! $
@@ -238,15 +244,18 @@ module _ {M : Type 1} (𝓤 : URA M) (H : Heap 𝓤) (A : Atoms 𝓤) (W : Given
           (and-then ! (load ! (from ! (stop !)) (look ! 16 refl))
           (and-then ! (load ! (from ! (stop !)) (look ! 12 refl))
           (and-then ! (load ! (from ! (fld ! refl (stop !))) (look-in ! 38 (sub ! 2 refl (whole !)))) (no-more !)))) (λ u′ _ ys′ places-are.
-          -- [what () owns; true; places' last value; true; κ₃; κ₆; how joins end; κ₅; how work ends; how legend ends; κ₀; κ₁; κ₂; κ₄; sides; ends; letters; locals]
+          -- [what () owns; true; places' last value; true; κ₃; κ₆; how joins end; κ₅; how work ends; how legend ends; κ₀; κ₁; κ₂; κ₄; sides; ends; letters;
+          -- locals]
           facts ! unit (Is unit) (shows 𝓤 H A unit) tt (u′ ∷ [])
           (λ is-unit′. land ! (from ! (stop !)) (store ! 32 refl (nothing-lawful 𝓤 H A W .typed tt _ is-unit′ .0)) $
           move ! (1 ∷ []) $ fsplit ! $ move ! (1 ∷ []) $ feqL ! (λ len-p. move ! (1 ∷ 2 ∷ []) $ drop ! $ drop ! $
-          -- [how places end; κ₃; κ₆; how joins end; κ₅; how work ends; how legend ends; κ₀; κ₁; κ₂; κ₄; sides; ends; letters; locals]: local i stands at 62 - 2 i
+          -- [how places end; κ₃; κ₆; how joins end; κ₅; how work ends; how legend ends; κ₀; κ₁; κ₂; κ₄; sides; ends; letters; locals]:
+          -- local i stands at 62 - 2 i
           assigns ! (of-opd ! (load ! (from ! (fld ! refl (stop !))) (look-in ! 40 (sub ! 0 refl (whole !))))) (from ! (stop !))
           (init ! 62 refl (LL.lawful R.the-type R′.the-laws 𝓤 H A W .typed (r .answer) _ (LL.owed S.the-type S′.the-laws r _ is .0) .0)) $
           returns ! (look ! 62 refl) $
-          frees-behind W 14 (full _ _ _ ∷ full _ _ _ ∷ full _ _ _ ∷ full _ _ _ ∷ full _ _ _ ∷ full _ _ _ ∷ full _ _ _ ∷ full _ _ _ ∷ full _ _ _ ∷ full _ _ _ ∷ full _ _ _
+          frees-behind W 14 (full _ _ _
+          ∷ full _ _ _ ∷ full _ _ _ ∷ full _ _ _ ∷ full _ _ _ ∷ full _ _ _ ∷ full _ _ _ ∷ full _ _ _ ∷ full _ _ _ ∷ full _ _ _ ∷ full _ _ _
           ∷ full _ _ _ ∷ full _ _ _ ∷ full _ _ _
           ∷ full _ _ _ ∷ full _ _ _ ∷ full _ _ _ ∷ full _ _ _ ∷ full _ _ _ ∷ full _ _ _ ∷ full _ _ _ ∷ full _ _ _ ∷ full _ _ _ ∷ full _ _ _ ∷ full _ _ _ ∷ []) !
           refl $

@@ -1,5 +1,5 @@
--- The sheets of a tray with letters s, ends es and sides cs, written into a lent buffer one side after another. Afterwards the work area w and the buffer l of the
--- legend may hold anything of the same length.
+-- The sheets of a tray with letters s, ends es and sides cs, written into a lent buffer one side after another. Afterwards the work area w and the buffer l
+-- of the legend may hold anything of the same length.
 --   SideRoom       == the tray and its sides are accepted, b is a side, and there is room for composing it
 --   SideSheetSays  == the sheet of side b stands in the output
 --   shownSheet cs ss b == the sheet of side b, if there is one

@@ -36,15 +36,16 @@ name-order-requires : tie.Need-name-order-requires
 name-order-requires c κs =
     let found = sought c in
     let own = chosen found in
-    order-can (start own .args .settings) _ _ _ _ (side-cut _ _ _ (start own .pre .accepted) _ _ (own .side-slips .ensures)) _ _ _ _ (found .seek-cut .ensures) _ (search needs)
+    order-can (start own .args .settings) _ _ _ _ (side-cut _ _ _ (start own .pre .accepted) _ _ (own .side-slips .ensures)) _ _ _ _
+    (found .seek-cut .ensures) _ (search needs)
 
 returns : tie.Need-returns
 returns c =
     let found = sought (c .before) in
     let own = chosen found in
     side-sought _ _ _ (own .side-slips .ensures) _ _ _ _ _ _
-    (named-sought (start own .args .settings) _ _ _ _ (side-cut _ _ _ (start own .pre .accepted) _ _ (own .side-slips .ensures)) _ _ _ _ (found .seek-cut .ensures) _
-    (c .before .whole .ensures) _ (c .name-order .ensures))
+    (named-sought (start own .args .settings) _ _ _ _ (side-cut _ _ _ (start own .pre .accepted) _ _ (own .side-slips .ensures)) _ _ _ _
+    (found .seek-cut .ensures) _ (c .before .whole .ensures) _ (c .name-order .ensures))
 
 pub seek-side-spec : {M : Type 1} → statement M
 seek-side-spec = tie.close (tie.spec side-slips-requires array-share-prefix-slips slice-aggregate-seek-cut seek-cut-requires
