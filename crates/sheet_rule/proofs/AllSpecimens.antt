@@ -15,14 +15,18 @@ use Rattle.sheet_rule.specs.Stored.{typedIn, storedFault}
 abbrev tray : List (List ℕ)
 tray = map word ("IMPCAES" ∷ "AES" ∷ "CAESAVG" ∷ "VGPIVS" ∷ "SIMP" ∷ [])
 
+abbrev sheet : List ℕ
+sheet =
+    word "TRAY   5   4   24    9   15\n"
+    ++ (word "   1   7    2 K\n   2   3    6 S\n   3   7    5 K\n   4   6   10 K\n   5   4    1 K\n"
+    ++ (word "   1   3   4\n   5   1   3\n   3   4   2\n" ++ word "SIMPCAESAVGPIVS\n"))
+
 pub decimal-specimens :
     map decimal (0 ∷ 9 ∷ 10 ∷ 105 ∷ 2000 ∷ 65535 ∷ []) ≡ map word ("0" ∷ "9" ∷ "10" ∷ "105" ∷ "2000" ∷ "65535" ∷ [])
 unfolding decimal
 decimal-specimens = refl
 
-pub compose-specimen :
-    composeSheetOf tray
-    ≡ word "TRAY   5   4   24    9   15\n   1   7    2 K\n   2   3    6 S\n   3   7    5 K\n   4   6   10 K\n   5   4    1 K\n   1   3   4\n   5   1   3\n   3   4   2\nSIMPCAESAVGPIVS\n"
+pub compose-specimen : composeSheetOf tray ≡ sheet
 unfolding decimal column sideSheetOf
 compose-specimen = refl
 
@@ -52,7 +56,7 @@ pub compose-file-specimens :
     ∷ word "   1   0 \n"
     ∷ word "   1   2 a1\n"
     ∷ word "   1   3 avg\n   2   2 UG\n" ∷ [])
-    ≡ (word "TRAY   5   4   24    9   15\n   1   7    2 K\n   2   3    6 S\n   3   7    5 K\n   4   6   10 K\n   5   4    1 K\n   1   3   4\n   5   1   3\n   3   4   2\nSIMPCAESAVGPIVS\n"
+    ≡ (sheet
     ∷ word "TRAY   0   0    0    0    0\n\n"
     ∷ word "REFUSED  17     2\n"
     ∷ word "REFUSED  18     2\n"
