@@ -1,8 +1,10 @@
 // What the calls answer, and what they leave in the lent buffers, for every input.
+#![tactic(auto)]
+
 use trays::MAX_SHORTEST;
 
 // The answer: number and detail of the refusal, or the counts of what was composed: slips, kept slips, kept letters, saved letters, legend letters, joins.
-#[derive(Drop)]
+#[derive(Clone, Copy)]
 pub struct Composed {
     pub number: u8,
     pub detail: u32,
@@ -15,7 +17,7 @@ pub struct Composed {
 }
 
 // A join: its left slip, its right slip, and how many letters they overlap.
-#[derive(Drop)]
+#[derive(Clone, Copy)]
 pub struct Join {
     pub left: u16,
     pub right: u16,
@@ -23,7 +25,7 @@ pub struct Join {
 }
 
 // A slip, its place in the legend, whether it was kept, how many letters were compared to find the place, 0 if kept, and its side.
-#[derive(Drop)]
+#[derive(Clone, Copy)]
 pub struct Place {
     pub slip: u16,
     pub place: u16,
@@ -42,7 +44,7 @@ pub const PLACE_CELLS: usize = 3;
 pub const RECORD_CELLS: usize = 5;
 
 // The answer of the shortest legend: number and detail of the refusal, or the legend's letters, how many slips are kept, and their order, 0 past the count.
-#[derive(Drop)]
+#[derive(Clone, Copy)]
 pub struct Shortest {
     pub number: u8,
     pub detail: u32,
@@ -52,14 +54,14 @@ pub struct Shortest {
 }
 
 // An occurrence: the place of its last letter, from 1, and its slip.
-#[derive(Drop)]
+#[derive(Clone, Copy)]
 pub struct Found {
     pub end: u32,
     pub slip: u16,
 }
 
 // The answer: number and detail of the refusal, or the moves and how many occurrences there are.
-#[derive(Drop)]
+#[derive(Clone, Copy)]
 pub struct Search {
     pub number: u8,
     pub detail: u32,

@@ -1,4 +1,6 @@
 // Reads a tray file on standard input and writes the sheets of its sides. With an argument it says how it is run.
+#![tactic(auto)]
+
 use file_rule::{ENDS_NEED, MAX_FILE};
 use layout::WORK_NEED;
 use sheet_rule::COMPOSE_ROOM;

@@ -1,4 +1,6 @@
 // Composing an accepted tray, over number slices: the walk over the automaton, the legend, joins and places.
+#![tactic(auto)]
+
 ghost use Rattle.std.specs.Prelude.{◌≤◌};
 ghost use Rattle.trays.specs.Slips.{slips_of};
 ghost use Rattle.greedy.specs.Composing.{whole};

@@ -1,4 +1,6 @@
 // The last step of composing: 8, 9, or the legend and the places are written; and the answer.
+#![tactic(auto)]
+
 ghost use Rattle.std.specs.Prelude.{◌≡◌};
 ghost use Rattle.trays.specs.Faults.{refusal};
 ghost use Rattle.answers.specs.Composing.{refused_by};

@@ -1,5 +1,7 @@
 // Joins and records of places of a tray that was cut out of another, told by the numbers that its slips have in that other tray. Composing stages both by
 // the numbers of the cut tray; `slips` lists the other numbers, that of slip 1 first.
+#![tactic(auto)]
+
 ghost use Rattle.std.specs.Prelude.{[], ◌∷◌, ◌*◌};
 ghost use Rattle.answers.specs.Composing.{join_cells, record_cells};
 ghost use Rattle.layout.specs.Layout as L;

@@ -1,5 +1,7 @@
 // One side of a tray, composed. Its slips are cut out as a tray of their own, that tray is composed, and the joins and places that are staged for it are told
 // by the numbers that its slips have in the whole tray.
+#![tactic(auto)]
+
 ghost use Rattle.std.specs.Prelude.{◌≤◌, length};
 ghost use Rattle.trays.specs.Limits.{work_need};
 ghost use Rattle.trays.specs.Slips.{slips_of, only};

@@ -1,4 +1,6 @@
 // Joins and records of places as structs: taken from where composing stages them in the work area, and stored into lent lists.
+#![tactic(auto)]
+
 ghost use Rattle.std.specs.Prelude.{◌≡◌, ◌≤◌, ◌<◌, ◌+◌, ◌-◌, ◌*◌, length};
 ghost use Rattle.words.specs.Lists.{over};
 ghost use Rattle.store_loops.specs.Firsts.{firsts};

@@ -1,4 +1,6 @@
 // Composing, with joins and records of places as structs in lent lists.
+#![tactic(auto)]
+
 ghost use Rattle.answers.specs.Records.{ComposeSays};
 ghost use Rattle.compose_tray.specs.Steps.Counted.{StagedCounts};
 
@@ -6,7 +8,7 @@ use answers::{Composed, Join, Place};
 use trays::Settings;
 
 // The answer, and how many joins and records are staged for it.
-#[derive(Drop)]
+#[derive(Clone, Copy)]
 pub struct ToStore {
     pub answer: Composed,
     pub joins: usize,

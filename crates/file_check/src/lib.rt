@@ -1,4 +1,6 @@
 // A reader goes through a tray file line after line, and the first bad line is found.
+#![tactic(auto)]
+
 ghost use Rattle.std.specs.Prelude.{◌≡◌, ◌≤◌, length};
 ghost use Rattle.trays.specs.Limits.{max_file};
 ghost use Rattle.file_rule.specs.Lines as L;
@@ -10,7 +12,7 @@ use file_rule::{Line, Reader};
 use trays::{Refusal, refuse};
 
 // How far the check has come: what refuses the file so far, the number of the line that comes next, and whether to read it.
-#[derive(Drop)]
+#[derive(Clone, Copy)]
 struct Checked {
     found: Refusal,
     line: usize,

@@ -1,4 +1,6 @@
 // The parser of a tray file's lines.
+#![tactic(auto)]
+
 ghost use Rattle.std.specs.Prelude.{◌≡◌, ◌+◌, ◌≤◌, length, drop};
 ghost use Rattle.file_rule.specs.Lines as L;
 ghost use Rattle.file_rule.specs.Faults as F;

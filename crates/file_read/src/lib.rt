@@ -1,4 +1,6 @@
 // A tray file is read: it is checked before it is copied, and its letters are folded in the copy. Sides are copied as they stand.
+#![tactic(auto)]
+
 ghost use Rattle.std.specs.Prelude.{◌≡◌};
 ghost use Rattle.file_rule.specs.Faults as F;
 ghost use Rattle.file_rule.specs.Answers.{ReadSays};

@@ -1,4 +1,6 @@
 // Opens TRAY.TXT and TEXT.TXT and writes the sheet of the text's occurrences. With an argument it says how it is run.
+#![tactic(auto)]
+
 use file_rule::{ENDS_NEED, MAX_FILE};
 use layout::WORK_NEED;
 use sheet_of_files::LISTED;

@@ -1,4 +1,6 @@
 // Finding up to where occurrences are stored: the checks, the counts, and one occurrence after another.
+#![tactic(auto)]
+
 ghost use Rattle.std.specs.Prelude.{◌≡◌, ◌<◌};
 ghost use Rattle.trays.specs.Faults.{refusal};
 ghost use Rattle.trie_build.specs.Steps.Built.{Buildable};
@@ -10,7 +12,7 @@ use layout::{SCAN, WORK_NEED};
 use trays::{Refusal, refuse};
 
 // The answer, and how many occurrences are to be stored.
-#[derive(Drop)]
+#[derive(Clone, Copy)]
 pub struct Begun {
     pub answer: Search,
     pub count: usize,

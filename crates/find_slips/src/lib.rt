@@ -1,4 +1,6 @@
 // Finding: every occurrence of every slip in a text, and the moves of the automaton over it.
+#![tactic(auto)]
+
 ghost use Rattle.std.specs.Prelude.{◌≡◌, ◌+◌, ◌≤◌, ◌<◌, length};
 ghost use Rattle.words.specs.Lists.{over};
 ghost use Rattle.store_loops.specs.Firsts.{firsts};

@@ -1,4 +1,6 @@
 // Composing and finding over slices of numbers: `JOIN_CELLS` numbers a join, `RECORD_CELLS` a record of places, two an occurrence.
+#![tactic(auto)]
+
 ghost use Rattle.answers.specs.Flat.{ComposeFlat};
 ghost use Rattle.std.specs.Prelude.{◌+◌, ◌<◌};
 ghost use Rattle.answers.specs.Finding as F;

@@ -1,4 +1,6 @@
 // Letters of tray files and text files, filed by the table of folding.
+#![tactic(auto)]
+
 ghost use Rattle.std.specs.Prelude.{◌≡◌, map, ◌≤◌, ◌<◌, length};
 ghost use Rattle.words.specs.Lists.{over};
 ghost use Rattle.fold_rule.specs.Folding.{fold};

@@ -1,4 +1,6 @@
 // Works the table of folding out from the rule and prints it, as it stands in the source of fold_letters.
+#![tactic(auto)]
+
 ghost use Rattle.std.specs.Prelude.{◌≡◌};
 ghost use Rattle.fold_rule.specs.Folding as F;
 

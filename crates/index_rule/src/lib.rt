@@ -1,1 +1,2 @@
 // The index of beginnings: definitions and theorems. There is no code here.
+#![tactic(auto)]

@@ -1,5 +1,7 @@
 // The tables read off the automaton for composing: the kept members, and for each node those of them that begin with it and those that properly
 // end with it.
+#![tactic(auto)]
+
 ghost use Rattle.std.specs.Prelude.{◌+◌};
 ghost use Rattle.layout.specs.Numbered.{Automaton};
 ghost use Rattle.kept_slips.specs.Steps.Kept as K;

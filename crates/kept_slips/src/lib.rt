@@ -1,4 +1,6 @@
 // Which members are kept, read off the automaton: a member is set aside where its node has a child, or is a failure link, or is that of a lower member.
+#![tactic(auto)]
+
 ghost use Rattle.std.specs.Prelude.{◌≡◌};
 ghost use Rattle.trays.specs.Slips.{slips_of};
 ghost use Rattle.trays.specs.Aside.{is_aside};

@@ -1,4 +1,6 @@
 // The calls for other languages: a slice is a pointer and a length, and the answer is a list of numbers behind a pointer.
+#![tactic(auto)]
+
 ghost use Rattle.kotsghane.specs.Numbers.{SlipExported, PairExported, ReadExported, MergeExported, IndexExported, BeginningExported};
 ghost use Rattle.answers.specs.Exported.{ComposeExported, FindExported, ShortestExported};
 

@@ -1,5 +1,7 @@
 // Where the tables of the automaton and of composing stand in the lent work area, one after another: a base is the base before it and the cells of the
 // table there. specs/Layout.antt says what each holds.
+#![tactic(auto)]
+
 use answers::{JOIN_CELLS, PLACE_CELLS, RECORD_CELLS};
 use trays::{MAX_LETTERS, MAX_SLIPS};
 

@@ -1,5 +1,7 @@
 // Chains, read off the lists of neighbours and put one after another as pieces: two numbers each, the slip and the letters that it shares with the slip
 // before it in its chain.
+#![tactic(auto)]
+
 ghost use Rattle.std.specs.Prelude.{[], ◌∷◌, ◌+◌, ◌*◌, ◌<◌, length, take};
 ghost use Rattle.greedy.specs.Legends.{piece};
 ghost use Rattle.legend_chains.specs.Pieces.{PiecesBehind};

@@ -1,4 +1,6 @@
 // What composing counts before it writes: kept letters, saved letters, and the letters that the legend needs.
+#![tactic(auto)]
+
 ghost use Rattle.std.specs.Prelude.{◌≡◌, ◌+◌, ◌*◌, ◌≤◌, length, take};
 ghost use Rattle.trays.specs.Limits.{max_slips};
 ghost use Rattle.trays.specs.Slips.{slips_of, total};
@@ -10,7 +12,7 @@ use layout::{ALL_JOINS, JOINS, KEPT};
 use trays::MAX_SLIPS;
 
 // Kept letters, saved letters, and the letters that the legend needs.
-#[derive(Drop)]
+#[derive(Clone, Copy)]
 pub struct LetterCounts {
     pub letters: usize,
     pub saved: usize,

@@ -1,4 +1,6 @@
 // Laying: the legend laid piece by piece into a lent buffer.
+#![tactic(auto)]
+
 ghost use Rattle.std.specs.Prelude.{◌≡◌, length};
 ghost use Rattle.words.specs.Lists.{over};
 ghost use Rattle.trays.specs.Slips.{slips_of};

@@ -1,4 +1,6 @@
 // Slips laid as one chain in a given order: its pieces, and how many letters its legend has.
+#![tactic(auto)]
+
 ghost use Rattle.legend_order.specs.Arranging.{OrderAsks, Arranged};
 ghost use Rattle.legend_order.specs.Steps.OneSlip.{SlipAsks, Shared, AddAsks, Added};
 

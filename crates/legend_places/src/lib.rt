@@ -1,4 +1,6 @@
 // Places: for a slip that is laid, where; for one set aside, the lowest place at which it stands in the legend.
+#![tactic(auto)]
+
 ghost use Rattle.std.specs.Prelude.{◌≡◌, ◌+◌, ◌*◌, ◌≤◌, ◌<◌, length, set};
 ghost use Rattle.trays.specs.Limits.{max_slip, max_letters};
 ghost use Rattle.trays.specs.Slips.{slips_of};
@@ -11,7 +13,7 @@ use answers::PLACE_CELLS;
 use tables::wide;
 
 // A place in a text, and the letters compared to find it.
-#[derive(Drop)]
+#[derive(Clone, Copy)]
 struct Trial {
     place: usize,
     compared: usize,

@@ -1,4 +1,6 @@
 // What composing writes: the legend into its buffer, the places into the work area.
+#![tactic(auto)]
+
 ghost use Rattle.legend_write.specs.Steps.Writing.{StageAsks, PiecesStaged, PlacingAsks, PlacesWritten, WritingAsks, Written};
 
 use layout::{ALL_PLACES, KEPT, PLACES};

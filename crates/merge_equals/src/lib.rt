@@ -1,4 +1,6 @@
 // Slips of equal side with equal letters, by comparing them.
+#![tactic(auto)]
+
 ghost use Rattle.std.specs.Prelude.{◌≡◌, ◌∷◌, take};
 ghost use Rattle.words.specs.Lists.{any};
 ghost use Rattle.words.specs.Words as W;
@@ -10,7 +12,7 @@ use slips::slip_part;
 use trays::MAX_SLIPS;
 
 // The slips of a second tray that equal none before them: how many, the letters that they have together, and their numbers, 0 past the count.
-#[derive(Drop)]
+#[derive(Clone, Copy)]
 pub struct Fresh {
     pub count: usize,
     pub letters: usize,

@@ -1,4 +1,6 @@
 // Two trays merged into a lent third, each with its sides. The new slips are told before a buffer is touched, since what refuses the outcome depends on them.
+#![tactic(auto)]
+
 ghost use Rattle.std.specs.Prelude.{◌≡◌, length};
 ghost use Rattle.words.specs.Lists.{over};
 ghost use Rattle.merge_rule.specs.Merging.{MergeSays};

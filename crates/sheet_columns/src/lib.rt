@@ -1,5 +1,7 @@
 // Bytes, words and numbers in columns, written into a lent buffer.
 // Each function writes after the first `at` bytes and answers where the next byte goes.
+#![tactic(auto)]
+
 ghost use Rattle.std.specs.Prelude.{◌≡◌, [], ◌∷◌, ◌+◌, ◌^◌, ◌≤◌, ◌<◌, length, replicate};
 ghost use Rattle.file_rule.specs.Lines.{blank};
 ghost use Rattle.sheet_rule.specs.Sheets as S;

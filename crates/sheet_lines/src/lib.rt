@@ -1,5 +1,7 @@
 // Lines and whole sheets, written into a lent buffer.
 // Each function writes after the first `at` bytes and answers where the next byte goes.
+#![tactic(auto)]
+
 ghost use Rattle.std.specs.Prelude.{◌≡◌, ◌+◌, ◌*◌, ◌^◌, ◌≤◌, ◌<◌, length, get_or};
 ghost use Rattle.trays.specs.Faults.{refusal};
 ghost use Rattle.sheet_rule.specs.Sheets as S;

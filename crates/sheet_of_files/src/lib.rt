@@ -1,4 +1,6 @@
 // From the bytes of a program's files to the whole sheet that it prints.
+#![tactic(auto)]
+
 ghost use Rattle.sheet_rule.specs.Lent.{ComposeRoom, FindRoom, ComposeSheetSays, FindSheetSays};
 
 use sheet_rule::MAX_FOUND;

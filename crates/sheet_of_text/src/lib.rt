@@ -1,4 +1,6 @@
 // From a tray and a text to their sheet, and the text in the bytes of a text file.
+#![tactic(auto)]
+
 ghost use Rattle.sheet_of_text.specs.Steps.Lent.{TextRoom, TextSheetSays, Trimmed, Filed};
 
 use file_rule::LF;

@@ -1,4 +1,6 @@
 // From the letters, ends and sides of a tray to its sheets, one for each side that has slips.
+#![tactic(auto)]
+
 ghost use Rattle.std.specs.Prelude.{◌≡◌, ◌+◌, ◌≤◌, length};
 ghost use Rattle.trays.specs.Limits.{max_slips};
 ghost use Rattle.sheet_rule.specs.Sheets.{sheet_room};

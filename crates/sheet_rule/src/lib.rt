@@ -1,4 +1,5 @@
 // How much room the sheets need. What stands on them: specs/Sheets.antt; the functions that write them: sheet_lines.
+#![tactic(auto)]
 
 // A sheet of one side has at most this many bytes.
 pub const SHEET_ROOM: usize = 7818;

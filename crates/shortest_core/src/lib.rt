@@ -1,4 +1,6 @@
 // The shortest legend of an accepted tray with at most ten kept slips.
+#![tactic(auto)]
+
 ghost use Rattle.std.specs.Prelude.{◌≡◌};
 ghost use Rattle.trays.specs.Slips.{slips_of};
 ghost use Rattle.trays.specs.Faults.{refusal};

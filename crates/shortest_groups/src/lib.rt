@@ -1,5 +1,7 @@
 // The search for the best order of at most ten places. Groups of places already laid are marks in one number: place `a` is in the group `g` where the
 // bit of `1 << a` is set. For each group and each place of it, laid last, the table says the most that can be saved by laying the others after it.
+#![tactic(auto)]
+
 ghost use Rattle.std.specs.Prelude.{◌≡◌, suc, ◌+◌, ◌-◌, ◌^◌, ◌≤◌, ◌<◌, replicate};
 ghost use Rattle.std.specs.Int.Count.{ones};
 ghost use Rattle.words.specs.Lists.{up_from, over};
@@ -74,7 +76,7 @@ fn one_less(x: usize) -> usize
 }
 
 // The best place found so far, and one more than it saves: 0 while there is none, so that a place that saves nothing is taken too.
-#[derive(Drop)]
+#[derive(Clone, Copy)]
 struct Chosen {
     value: usize,
     which: usize,

@@ -1,4 +1,6 @@
 // The shortest legend of a side with at most ten kept slips.
+#![tactic(auto)]
+
 ghost use Rattle.answers.specs.Shortest.{ShortestSays};
 
 use answers::Shortest;

@@ -1,4 +1,6 @@
 // The table of pairs, for the search of the shortest legend: how many letters each of the kept slips shares with each laid after it.
+#![tactic(auto)]
+
 ghost use Rattle.std.specs.Prelude.{◌+◌};
 ghost use Rattle.shortest_pairs.specs.Pairs.{PairsAsk, PairsAre};
 ghost use Rattle.shortest_pairs.specs.Steps.Pairing.{RowAsks, PairedTo};

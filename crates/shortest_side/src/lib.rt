@@ -1,5 +1,7 @@
 // The shortest legend of one side of a tray. Its slips are cut out as a tray of their own, that tray's order is sought, and told by the numbers that the slips
 // have in the whole tray.
+#![tactic(auto)]
+
 ghost use Rattle.std.specs.Prelude.{◌≡◌, map, ◌≤◌, length, take};
 ghost use Rattle.words.specs.Lists.{entry};
 ghost use Rattle.trays.specs.Limits.{work_need};

@@ -1,4 +1,6 @@
 // Where a slip stands in the letters of its tray, that stretch itself, and the overlap of two slips, by comparing their letters.
+#![tactic(auto)]
+
 ghost use Rattle.std.specs.Prelude.{◌≡◌, ◌≤◌, ◌<◌, length};
 ghost use Rattle.words.specs.Words.{overlap_for};
 ghost use Rattle.trays.specs.Slips as S;

@@ -1,1 +1,2 @@
 // Laws alone: no functions.
+#![tactic(auto)]

@@ -1,4 +1,6 @@
 // Tables of 16-bit cells at offsets of one lent work area: a cell is read by `at` and written by `put`, a table is cleared, or copied into a list.
+#![tactic(auto)]
+
 ghost use Rattle.std.specs.Prelude.{◌≡◌, ◌+◌, ◌<◌, ◌≤◌, length, replicate};
 ghost use Rattle.words.specs.Lists.{over};
 ghost use Rattle.tables.specs.Copying.{CanCopy};

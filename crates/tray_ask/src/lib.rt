@@ -1,4 +1,6 @@
 // Requests on a tray: one slip's letters, the overlap of a pair. One slip's letters are asked for without sides.
+#![tactic(auto)]
+
 ghost use Rattle.std.specs.Prelude.{◌≡◌, ◌<◌, eqb};
 ghost use Rattle.trays.specs.Faults as F;
 ghost use Rattle.trays.specs.Sides as B;

@@ -1,4 +1,6 @@
 // The check of settings, tray, sides and text: refusals 21, 1 to 6, 22, 12 and 13, for any settings, letters, ends, sides and text.
+#![tactic(auto)]
+
 ghost use Rattle.std.specs.Prelude.{◌≡◌, ◌≤◌, ◌<◌, ◌+◌, length};
 ghost use Rattle.words.specs.Lists.{last_or};
 ghost use Rattle.trays.specs.Limits.{max_slips};

@@ -1,4 +1,6 @@
 // Slips chosen out of a tray: those of a side; chosen slips written as a tray of their own, and the numbers that they had.
+#![tactic(auto)]
+
 ghost use Rattle.std.specs.Prelude.{◌≡◌, ◌≤◌, ◌<◌, length};
 ghost use Rattle.words.specs.Lists.{entry};
 ghost use Rattle.trays.specs.Limits.{max_slips};
@@ -8,7 +10,7 @@ use tables::{narrow, wide};
 use trays::MAX_SLIPS;
 
 // Slips of a tray: how many, and their numbers, 0 past the count.
-#[derive(Drop)]
+#[derive(Clone, Copy)]
 pub struct Chosen {
     pub count: usize,
     pub slips: [u16; MAX_SLIPS],

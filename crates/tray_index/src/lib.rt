@@ -1,4 +1,6 @@
 // The index of beginnings of a tray: built in a lent list, and asked which slips start with typed letters. Slips of all sides stand in it.
+#![tactic(auto)]
+
 ghost use Rattle.std.specs.Prelude.{◌≡◌, get_or};
 ghost use Rattle.words.specs.Lists.{entry};
 ghost use Rattle.words.specs.Words.{same};

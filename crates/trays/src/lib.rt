@@ -1,4 +1,6 @@
 // Trays: limits, settings, the overlap strings of stops alone, and what calls on a tray answer. The calls stand in tray_check, slips and tray_ask.
+#![tactic(auto)]
+
 ghost use Rattle.std.specs.Prelude.{◌≡◌};
 ghost use Rattle.trays.specs.Aside.{not_stops};
 ghost use Rattle.trays.specs.Faults.{refusal};
@@ -31,26 +33,26 @@ pub const OBVERSE: u8 = 79;
 pub const REVERSE: u8 = 82;
 
 // What the person composing sets: an overlap of fewer letters than the least counts as empty, and the slips of the side named take part.
-#[derive(Drop)]
+#[derive(Clone, Copy)]
 pub struct Settings {
     pub least: u32,
     pub side: u8,
 }
 // A refusal of the rules' table: its number and detail, or 0 and 0.
-#[derive(Drop)]
+#[derive(Clone, Copy)]
 pub struct Refusal {
     pub number: u8,
     pub detail: u32,
 }
 // The overlap of a pair of slips, or the refusal and 0 letters.
-#[derive(Drop)]
+#[derive(Clone, Copy)]
 pub struct Pair {
     pub number: u8,
     pub detail: u32,
     pub letters: u32,
 }
 // Where a slip starts and ends in the letters of its tray, or a stretch in the index; or the refusal and 0 and 0.
-#[derive(Drop)]
+#[derive(Clone, Copy)]
 pub struct Located {
     pub number: u8,
     pub detail: u32,
@@ -58,7 +60,7 @@ pub struct Located {
     pub end: u32,
 }
 // What a call that writes a tray answers: the refusal, or 0 and 0 with the counts of letters and slips; there is a side for each slip.
-#[derive(Drop)]
+#[derive(Clone, Copy)]
 pub struct Written {
     pub number: u8,
     pub detail: u32,
@@ -66,7 +68,7 @@ pub struct Written {
     pub slips: u32,
 }
 // Where a slip starts and ends in the letters of its tray, or a stretch in the index.
-#[derive(Drop)]
+#[derive(Clone, Copy)]
 pub struct Span {
     pub start: usize,
     pub end: usize,

@@ -17,6 +17,8 @@
 // Letters, texts, files and sides are coded: 12A is twelve times A, _ a blank, %0A the byte 10, and a comma an end. 12x3 among the ends is the twelve
 // ends 3, 6, .. 36. INDEX is a list of numbers with commas between them.
 // What was lent is filled with marks before a call, and its sum after it is written.
+#![tactic(auto)]
+
 ghost use Rattle.std.specs.Prelude.{◌≡◌, length};
 
 use trials_lines::table;

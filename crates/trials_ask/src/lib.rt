@@ -1,3 +1,5 @@
 // The cases of `trials` that ask of a tray: whether it is accepted, its slips, and pairs of these.
+#![tactic(auto)]
+
 pub mod ask;
 pub mod pairs;

@@ -1,5 +1,7 @@
 // The cases of `trials` about the index of a tray: it is built in a lent list, and the slips that start with typed letters are asked for with a list that
 // is handed in as the index.
+#![tactic(auto)]
+
 ghost use Rattle.std.specs.Prelude.{◌≤◌, length};
 
 use trays::BLANK_SIDE;

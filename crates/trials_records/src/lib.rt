@@ -1,4 +1,6 @@
 // Composing and finding for callers that hold their lists as arrays: each array is taken by value, lent for the call, and handed back.
+#![tactic(auto)]
+
 ghost use Rattle.answers.specs.Records.{ComposeSays};
 ghost use Rattle.answers.specs.Finding.{FindSays};
 

@@ -1,4 +1,6 @@
 // The automaton of all slips of an accepted tray, built in the lent work area.
+#![tactic(auto)]
+
 ghost use Rattle.trie_build.specs.Steps.Built.{Buildable, SortedAll, Built};
 
 use layout::{COMMON, MEMBERS, ORDER};

@@ -1,5 +1,7 @@
 // Parents and children of the nodes of the prefix automaton, in tables of the lent work area.
 // A tray has `letters` and `ends`; its `n` members stand in the work area, and the nodes of their beginnings have the numbers up to `nodes`.
+#![tactic(auto)]
+
 ghost use Rattle.std.specs.Prelude.{◌≡◌, ◌&&◌, ℕ, ◌+◌, ◌*◌, ◌-◌, ◌≤◌, ◌<◌, leb, ltb};
 ghost use Rattle.layout.specs.Layout.{near_nodes, near_letters, first_sign};
 ghost use Rattle.layout.specs.Tables.{Child};

@@ -1,4 +1,6 @@
 // The members of each node: for each node the lowest member whose letters it is, and for each member the next of the same letters.
+#![tactic(auto)]
+
 ghost use Rattle.std.specs.Prelude.{◌+◌};
 ghost use Rattle.trays.specs.Slips.{slip, slips_of};
 ghost use Rattle.matching.specs.Steps.Nodes.{IsNode};

@@ -1,11 +1,13 @@
 // The step and failure links of the prefix automaton, in tables of the lent work area.
 // A tray has `letters` and `ends`; its `n` members stand in the work area, and the nodes of their beginnings have the numbers up to `nodes`.
+#![tactic(auto)]
+
 ghost use Rattle.layout.specs.Numbered.{patterns_in, Numbered};
 ghost use Rattle.trie_children.specs.Children as C;
 ghost use Rattle.trie_links.specs.Links as L;
 
 // The node of a state that one letter leads to, and the drops on the way.
-#[derive(Drop)]
+#[derive(Clone, Copy)]
 pub struct StepEnd {
     pub state: usize,
     pub drops: usize,

@@ -1,5 +1,7 @@
 // The nodes of the prefix automaton, numbered by length, then byte order, from the sorted order of the members.
 // The letters of the tray are lent for the contracts alone: what two members have in common stands in COMMON.
+#![tactic(auto)]
+
 ghost use Rattle.std.specs.Prelude.{◌+◌};
 ghost use Rattle.trie_nodes.specs.Numbering.{Sorted, NodesFilled};
 ghost use Rattle.trie_nodes.specs.Steps.Stages.{LevelNext, AtStage, Letterable, Lettered};

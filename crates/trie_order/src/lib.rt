@@ -1,4 +1,6 @@
 // The members of a tray in the order of their letters, in a table of the work area.
+#![tactic(auto)]
+
 ghost use Rattle.std.specs.Prelude.{◌≡◌, ◌≤◌, ◌<◌, ◌+◌, length};
 ghost use Rattle.words.specs.Lists.{in_order, up_from};
 ghost use Rattle.words.specs.Words as W;
@@ -10,7 +12,7 @@ ghost use Rattle.trie_order.specs.Order as O;
 ghost use Rattle.trie_order.specs.Steps.Steps.{lay_behind, insert_first, Insertable};
 
 // How far two strings agree, and whether the first is before the second.
-#[derive(Drop)]
+#[derive(Clone, Copy)]
 pub struct Compared {
     pub common: usize,
     pub before: bool,
@@ -18,7 +20,7 @@ pub struct Compared {
 
 // A place in the order for typed letters: where the slips that start with them begin, where these end, or where
 // the slip of a number that has just these letters stands.
-#[derive(Drop)]
+#[derive(Clone, Copy)]
 pub enum Bound {
     Lower,
     Upper,

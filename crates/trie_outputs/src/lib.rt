@@ -1,5 +1,7 @@
 // Output links and tallies of the automaton, in tables of the lent work area: for each node, where along its failure path the next member's whole
 // string stands, and how many members end its string.
+#![tactic(auto)]
+
 ghost use Rattle.std.specs.Prelude.{◌≡◌, length};
 ghost use Rattle.trays.specs.Slips.{slips_of};
 ghost use Rattle.matching.specs.Steps.Nodes.{string};

@@ -1,4 +1,6 @@
 // A text read by the automaton of a tray's slips: moves and occurrences are counted, and a scan tells the occurrences one after another.
+#![tactic(auto)]
+
 ghost use Rattle.std.specs.Prelude.{◌≡◌, ◌+◌, ◌≤◌, ◌<◌, length};
 ghost use Rattle.trays.specs.Slips.{slips_of};
 ghost use Rattle.matching.specs.Steps.Nodes.{Num};
@@ -10,21 +12,21 @@ ghost use Rattle.trie_scan.specs.Steps.Scanning as S;
 use layout::SCAN;
 
 // The moves of a text, and how many occurrences it has.
-#[derive(Drop)]
+#[derive(Clone, Copy)]
 pub struct TextCounts {
     pub moves: usize,
     pub found: usize,
 }
 
 // A node and the next of its members to be reported, 0 for none.
-#[derive(Drop)]
+#[derive(Clone, Copy)]
 pub struct Report {
     pub node: usize,
     pub slip: usize,
 }
 
 // A scan: how many occurrences are reported and letters read, the state after these, and what is to be reported next.
-#[derive(Drop)]
+#[derive(Clone, Copy)]
 pub struct Scan {
     pub done: usize,
     pub read: usize,

@@ -1,4 +1,6 @@
 // The walk of the rules over the tables of the automaton in the lent work area: it makes the joins.
+#![tactic(auto)]
+
 ghost use Rattle.std.specs.Prelude.{◌≤◌};
 ghost use Rattle.greedy.specs.Steps.Scans as S;
 ghost use Rattle.layout.specs.Staging.{joins_in};

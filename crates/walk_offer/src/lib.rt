@@ -1,5 +1,7 @@
 // One slip of a visit of the walk: the slips at a node, which of them wait, and the join that is made. Neighbours, overlaps and the two ends
 // of each chain stand in lists of 200 marks: the mark of slip i is the one at i - 1, and 0 means none.
+#![tactic(auto)]
+
 ghost use Rattle.std.specs.Prelude.{◌≡◌, ◌∷◌, ◌++◌, [], ◌-◌, ◌≤◌, ◌<◌, length, set};
 ghost use Rattle.words.specs.Lists.{up_from};
 ghost use Rattle.trays.specs.Limits.{max_slips};

@@ -1,4 +1,6 @@
 // Strings as byte slices: how far two agree, whether one begins the other, how far they overlap.
+#![tactic(auto)]
+
 ghost use Rattle.std.specs.Prelude.{◌≡◌};
 ghost use Rattle.words.specs.Words as W;
 
