@@ -13,7 +13,7 @@ use mathlib.Core.List.{List, [], ◌∷◌, map, map-append}
 use Prim.Native.Nat.{ℕ, zero, suc, ◌+◌, ◌≤◌, ◌<◌}
 use native.Mathlib.Omega.{arith}
 use lib.Dec.{eqb, ltb, leb}
-use lib.ListN.{length, length-map}
+use lib.ListN.{length, drop, length-map}
 use borrow.Author.Tests.{ltb-true, ltb-false, eqb-true, lt-ltb, le-ltb, eq-eqb}
 use Rattle.words.specs.Lists.{in_order, head_or}
 use Rattle.words.specs.Words.{begins, overlap_for}
@@ -235,7 +235,7 @@ module _ {f : ℕ → ℕ} {ss ss' : List (List ℕ)} {K : List ℕ} (h : Renumb
       place_in ss' (f i) here (map (repiece f) ps) ≡ place_in ss i here ps
   place_in_known i here [] p = refl
   place_in_known i here (q ∷ ps) p =
-      by_test (eqb i q.number) (λ e. rw (eqb_relabel, e, place_in)) (λ e. rw (eqb_relabel, e, place_in, p.0) (place_in_known i _ ps p.1))
+      by_test (eqb i q.number) (λ e. rw (eqb_relabel, e, place_in)) (λ e. rw (eqb_relabel, e, place_in, p.0) (place_in_known i (here + length (drop q.overlap (slip ss q.number))) ps p.1))
 
   module _ (js : List Join) (inside : All (Within K) js) where
     all_pieces : All (λ q. Known q.number) (pieces js K)

@@ -20,7 +20,7 @@ fn lay_piece(letters: &[u8], ends: &[u16], pieces: &[u16], k: usize, legend: &mu
     let slip = wide(pieces[2 * k]);
     let shared = wide(pieces[2 * k + 1]);
     let part = slips::slip_part(letters, ends, slip);
-    bytes::copy(&part[shared..], legend)
+    tables::copy(&part[shared..], legend)
 }
 
 // Lays the `n` pieces from the `k`-th on: by the first slip, then the rest in the same manner with one slip fewer.

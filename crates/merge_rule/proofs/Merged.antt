@@ -45,7 +45,7 @@ module _ {A : Type 0} (eq : A → A → Bool) where
 
   pub merged_append : (ws xs ys : List A) → merged eq ws (xs ++ ys) ≡ merged eq (merged eq ws xs) ys
   merged_append ws [] ys = refl
-  merged_append ws (x ∷ xs) ys = merged_append _ xs ys
+  merged_append ws (x ∷ xs) ys = merged_append (elim (any (eq x) ws) [ true ↦ ws | false ↦ ws ++ (x ∷ []) ]) xs ys
 
   module _ (R : A → A → Type 0) where
     pub merged_rise : (ws xs : List A) → Asc R (ws ++ xs) → Asc R (merged eq ws xs)

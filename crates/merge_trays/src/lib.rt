@@ -86,7 +86,7 @@ fn write_merged(
     ensures { LettersWritten letters1.now ends1.now letters2.now ends2.now new
         letters.old letters.new ends.old ends.new result }
 {
-    let here = bytes::copy(letters1, letters);
+    let here = tables::copy(letters1, letters);
     let count = ends1.len();
     tables::copy_cells(ends1, 0, count, ends);
     let slips = new.slips;
@@ -111,7 +111,7 @@ fn write_sides(sides1: &[u8], sides2: &[u8], new: Fresh, sides: &mut [u8])
     requires { CanWriteSides sides1.now sides2.now new (length sides.old) }
     ensures { sides.new ≡ over (sides_merged sides1.now sides2.now new) sides.old }
 {
-    let here = bytes::copy(sides1, sides);
+    let here = tables::copy(sides1, sides);
     let slips = new.slips;
     let count = new.count;
     let mut i: usize = 0;

@@ -38,7 +38,7 @@ pub fn put_text(out: &mut [u8], at: usize, text: &[u8]) -> usize
     requires { at + length text.now ≤ length out.old }
     ensures { W.Wrote at (length text.now) text.now out.old out.new result }
 {
-    at + bytes::copy(text, &mut out[at..])
+    at + tables::copy(text, &mut out[at..])
 }
 
 fn put_blanks(out: &mut [u8], at: usize, n: usize) -> usize

@@ -1,9 +1,2 @@
--- Structs stored into lent slices, proved by hand once for any element; and the rules that walks of callers use.
+-- Laws on the first elements of a lent list, stored one after another.
 pub mod Firsts
-pub mod Walking
-pub mod Locals
-pub mod Lending
-pub mod Parts
-pub mod Element
-pub mod Loop
-pub mod Scan

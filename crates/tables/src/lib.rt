@@ -1,7 +1,7 @@
 // Tables of 16-bit cells at offsets of one lent work area: a cell is read by `at` and written by `put`, a table is cleared, or copied into a list.
 #![tactic(auto)]
 
-ghost use Rattle.std.specs.Prelude.{◌≡◌, ◌+◌, ◌<◌, ◌≤◌, length, replicate};
+ghost use Rattle.std.specs.Prelude.{◌≡◌, ◌++◌, ◌+◌, ◌<◌, ◌≤◌, length, take, drop, replicate};
 ghost use Rattle.words.specs.Lists.{over};
 ghost use Rattle.tables.specs.Copying.{CanCopy};
 ghost use Rattle.tables.specs.Tables.{Got, Put, Room, Filled, table};
@@ -72,4 +72,14 @@ pub fn copy_cells(work: &[u16], base: usize, n: usize, out: &mut [u16])
         out[i] = work[base + i];
         i += 1;
     }
+}
+
+// Copies all bytes of `from` to the start of `to`, and answers how many these are.
+pub fn copy(from: &[u8], to: &mut [u8]) -> usize
+    requires { length from.now ≤ length to.old }
+    ensures copied { to.new ≡ take (length from.now) from.now ++ drop (length from.now) to.old }
+    ensures count { result ≡ length from.now }
+{
+    to[..from.len()].copy_from_slice(from);
+    from.len()
 }

@@ -91,7 +91,7 @@ module _ (es : List ℕ) (i k here long : ℕ) (h : length es ≤ i) (n : not_ab
   no_fall = n ∙ rw (drop_of_length-le es h)
 
   first_long : too_long max_slip 1 0 es ≡ long
-  first_long = l ∙ rw (drop_of_length-le es h) (elim long [ zero ↦ refl | suc m ↦ refl ])
+  first_long = l ∙ rw (drop_of_length-le es h) (elim long as (λ k. first_of k 0 ≡ k) [ zero ↦ refl | suc m ↦ refl ])
 
   pub ends_too_long : (r : Refusal) → r ≡ refusal 3 long → (long ≡ 0 → ⊥) → r ≡ ends_fault es
   ends_too_long r q z = q ∙ rw (no_fall, first_long, le-leb 1 long (omega arith))

@@ -53,7 +53,7 @@ pub fn write_slips(
     while i < slips.len() {
         let slip = wide(slips[i]);
         let part = slips::slip_part(letters, ends, slip);
-        at += bytes::copy(part, &mut into[at..]);
+        at += tables::copy(part, &mut into[at..]);
         bounds[i] = narrow(here + at);
         i += 1;
     }

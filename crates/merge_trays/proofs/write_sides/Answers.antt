@@ -1,0 +1,40 @@
+use Prim.Native.Nat.{◌-◌, ◌≤◌}
+use native.Mathlib.Omega.{arith}
+use lib.ListN.{length}
+use Rattle.merge_trays.proofs.SideLoop.{first-room, putting_none, putting_same, putting_all, slip_real, putting_more}
+use Rattle.merge_trays.proofs.write_sides.Goals as goal
+
+pub copy-here-requires : goal.copy-here-requires
+copy-here-requires c = search first-room
+
+pub loop-i-init : goal.loop-i-init
+loop-i-init c = search putting_none
+
+-- where the first tray's sides are copied, and where the function starts, from the head of the loop
+-- the slip is one of the second tray
+real : (c : tie.After-wide invariant-loop decreases-loop) → (1 ≤ c.wide.result) × (c.wide.result ≤ length (start c.before.before).args.sides2.now)
+
+real c =
+    let head = c.before.before in
+    slip_real _ _ _ _ (start head).requires _ _ (copied head).copy.ensures.0 (copied head).copy.ensures.1 _ _ head.loop.invariant
+    c.before.loop-test.true _ c.wide.ensures.0
+
+pub overflow_sub-sides : goal.overflow_sub-sides
+overflow_sub-sides c = omega (arith, real c)
+
+pub bounds-sides2-slip : goal.bounds-sides2-slip
+bounds-sides2-slip c = omega (arith, real c)
+
+pub bounds-sides-here : goal.bounds-sides-here
+bounds-sides-here c =
+    omega
+    (arith, putting_same _ _ _ _ c.requires _ _ c.copy-here.ensures.0 c.copy-here.ensures.1 _ _ c.loop-i.invariant, c.requires)
+
+pub loop-i-preserved : goal.loop-i-preserved
+loop-i-preserved c = search putting_more
+
+pub shape_of-sides : goal.shape_of-sides
+shape_of-sides c = search putting_same
+
+pub returns : goal.returns
+returns c = search putting_all

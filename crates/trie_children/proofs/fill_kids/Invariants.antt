@@ -1,0 +1,11 @@
+-- Invariant: for each node before v, KID holds the first node whose parent is not below it; every node before u has a parent before v, and no cell
+-- outside KID has changed.
+use Prim.Native.Nat.{◌+◌, ◌-◌}
+use Rattle.trie_children.proofs.Kids.{FillingKids}
+use Rattle.trie_children.proofs.fill_kids.Given as goal
+
+abbrev pub invariant-loop-v : goal.invariant-loop-v
+invariant-loop-v l = FillingKids l.letters l.ends l.n l.nodes l.initial.work l.work l.v l.u
+
+abbrev pub decreases-loop-v : goal.decreases-loop-v
+decreases-loop-v l = (l.nodes + 2 - l.v) + (l.nodes + 2 - l.u)

@@ -1,0 +1,11 @@
+use Rattle.walk_offer.proofs.NextSlips.{ender_deep, ender_within, ender_is}
+use Rattle.walk_offer.proofs.next_ender.Goals as goal
+
+pub overflow_sub-end : goal.overflow_sub-end
+overflow_sub-end c = search ender_deep
+
+pub at-requires : goal.at-requires
+at-requires c = search ender_within
+
+pub returns : goal.returns
+returns c = search ender_is
