@@ -1,6 +1,6 @@
 -- What refuses a merge, row by row: before the outcome is known, and then by its size.
 --   lent-..       == the ways through check_lent
---   both-..       == through check_both; size-.. == through check_size
+--   one-..        == the ways through check_one; both-.. == through check_both; size-.. == through check_size
 --   lent_room     == where 15 is silent, room for any tray is lent
 --   both_trays    == where neither tray is refused, both are accepted, and have a side for each slip
 --   fault_is      == what refuses the call: 15, the two trays, and then 1 and 4 of the outcome
@@ -15,16 +15,16 @@ use lib.ListN.{length}
 use Rattle.words.proofs.Tests.{neither}
 use Rattle.trays.specs.declared.Refusal.{Refusal}
 use Rattle.trays.specs.Limits.{max_slips, max_letters}
-use Rattle.trays.specs.Faults.{refusal, accepted, row, or_else, first_row, tray_fault}
+use Rattle.trays.specs.Faults.{refusal, accepted, row, or_else, first_row, tray_rows, tray_fault}
 use Rattle.trays.specs.Written.{letters_of, size_rows}
-use Rattle.trays.specs.Sides.{sided_tray_rows, sided_tray_fault}
+use Rattle.trays.specs.Sides.{blank_side, sides_row, side_fault, sided_tray_rows}
 use Rattle.trays.proofs.Accepted.{row_silent}
 use Rattle.trays.proofs.Rows.{or_zero, or_some, or_assoc, both_silent, rows_append}
 use Rattle.trays.proofs.SidedTrays.{sides_tell, rows-accepted}
 use Rattle.merge_rule.specs.Merging.{letters_among, merged_sides, lent_row, merge_fault}
 use Rattle.merge_rule.proofs.MergedTrays.{merge_fault_lem}
 use Rattle.merge_equals.specs.Equals.{BothTrays}
-use Rattle.merge_trays.specs.Steps.Merging.{lent_fault, both_fault, size_fault, Room}
+use Rattle.merge_trays.specs.Steps.Merging.{lent_fault, one_fault, both_fault, size_fault, Room}
 
 -- 15
 module _ (a b d : ℕ) (r : Refusal) where
@@ -55,22 +55,33 @@ module _ (a b d : ℕ) (r : Refusal) where
 
 -- one tray
 module _ (s es cs : List ℕ) where
-  one_accepted : (sided_tray_fault s es cs).number ≡ 0 → ((tray_fault s es).number ≡ 0) × (length cs ≡ length es)
-  unfolding sided_tray_fault
+  one_is : one_fault s es cs ≡ or_else (tray_fault s es) (side_fault es cs blank_side)
+  unfolding one_fault tray_fault side_fault
+  one_is = rows_append (tray_rows s es) (sides_row es cs ∷ [])
+
+  module _ (f : Refusal) (e : f ≡ tray_fault s es) where
+    pub one_tray : (f.number ≡ 0 → ⊥) → f ≡ one_fault s es cs
+    one_tray z = sym (one_is ∙ rw (← e) (or_some f (side_fault es cs blank_side) (omega arith)))
+
+    pub one_sides : f.number ≡ 0 → (r : Refusal) → r ≡ side_fault es cs blank_side → r ≡ one_fault s es cs
+    one_sides z r q = q ∙ sym (one_is ∙ rw (← e) (or_zero f (side_fault es cs blank_side) z))
+
+  one_accepted : (one_fault s es cs).number ≡ 0 → ((tray_fault s es).number ≡ 0) × (length cs ≡ length es)
+  unfolding one_fault
   one_accepted z = let a = rows-accepted s es cs z in (a.tray, (sides_tell es cs a.sides).0)
 
 -- both
 module _ (s es cs t fs ds : List ℕ) where
-  module _ (f : Refusal) (e : f ≡ sided_tray_fault s es cs) where
+  module _ (f : Refusal) (e : f ≡ one_fault s es cs) where
     pub both_first : (f.number ≡ 0 → ⊥) → f ≡ both_fault s es cs t fs ds
-    both_first z = rw (← e) (sym (or_some f (sided_tray_fault t fs ds) (omega arith)))
+    both_first z = rw (← e) (sym (or_some f (one_fault t fs ds) (omega arith)))
 
-    pub both_second : f.number ≡ 0 → (r : Refusal) → r ≡ sided_tray_fault t fs ds → r ≡ both_fault s es cs t fs ds
-    both_second z r q = rw (← e) (q ∙ sym (or_zero f (sided_tray_fault t fs ds) z))
+    pub both_second : f.number ≡ 0 → (r : Refusal) → r ≡ one_fault t fs ds → r ≡ both_fault s es cs t fs ds
+    both_second z r q = rw (← e) (q ∙ sym (or_zero f (one_fault t fs ds) z))
 
   pub both_trays : (f : Refusal) → f ≡ both_fault s es cs t fs ds → f.number ≡ 0 → BothTrays s es cs t fs ds
   both_trays f e z =
-      let (one, two) = both_silent (sided_tray_fault s es cs) (sided_tray_fault t fs ds) (rw e at z) in
+      let (one, two) = both_silent (one_fault s es cs) (one_fault t fs ds) (rw e at z) in
       let (first, first_sides) = one_accepted s es cs one in
       let (second, second_sides) = one_accepted t fs ds two in
       record { first = first; first_sides = first_sides; second = second; second_sides = second_sides }
@@ -78,7 +89,7 @@ module _ (s es cs t fs ds : List ℕ) where
   pub fault_is : (a b d : ℕ) →
       let ms = letters_among (merged_sides s es cs t fs ds) in
       merge_fault a b d s es cs t fs ds ≡ or_else (lent_fault a b d) (or_else (both_fault s es cs t fs ds) (size_fault (length (letters_of ms)) (length ms)))
-  unfolding lent_fault sided_tray_fault
+  unfolding lent_fault one_fault
   fault_is a b d =
       let size = size_rows (letters_among (merged_sides s es cs t fs ds)) in
       let one = sided_tray_rows s es cs in

@@ -4,13 +4,12 @@
 ghost use Rattle.std.specs.Prelude.{◌≡◌, length};
 ghost use Rattle.words.specs.Lists.{over};
 ghost use Rattle.merge_rule.specs.Merging.{MergeSays};
-ghost use Rattle.merge_trays.specs.Steps.Merging.{unwritten, lent_fault, both_fault, size_fault};
+ghost use Rattle.merge_trays.specs.Steps.Merging.{unwritten, lent_fault, one_fault, both_fault, size_fault};
 ghost use Rattle.merge_trays.specs.Steps.Merging.{CanMerge, LettersWritten, CanWriteSides, sides_merged};
 
 use merge_equals::Fresh;
 use tables::wide;
-use tray_check::check_tray_sides;
-use trays::{MAX_LETTERS, MAX_SLIPS, Refusal, Written, refuse};
+use trays::{BLANK_SIDE, MAX_LETTERS, MAX_SLIPS, Refusal, Written, refuse};
 
 // The answer where nothing is written.
 fn refused(fault: Refusal) -> Written
@@ -40,6 +39,17 @@ fn check_lent(letters: usize, ends: usize, sides: usize) -> Refusal
     refuse(0, 0)
 }
 
+// Refusals 1 to 6 and 22 of one tray. Merging names no side, so that the check of sides is handed one that is never refused.
+fn check_one(letters: &[u8], ends: &[u16], sides: &[u8]) -> Refusal
+    ensures { result ≡ one_fault letters.now ends.now sides.now }
+{
+    let fault = tray_check::check_tray(letters, ends);
+    if fault.number != 0 {
+        return fault;
+    }
+    tray_check::check_sides(ends, sides, BLANK_SIDE)
+}
+
 // Refusals 1 to 6 and 22 of the first tray, then of the second.
 fn check_both(
     letters1: &[u8],
@@ -52,11 +62,11 @@ fn check_both(
     ensures { result ≡ both_fault letters1.now ends1.now sides1.now letters2.now ends2.now
         sides2.now }
 {
-    let first = check_tray_sides(letters1, ends1, sides1);
+    let first = check_one(letters1, ends1, sides1);
     if first.number != 0 {
         return first;
     }
-    check_tray_sides(letters2, ends2, sides2)
+    check_one(letters2, ends2, sides2)
 }
 
 // Refusals 1 and 4 of an outcome with this many letters and slips: of two accepted trays no other row of the outcome can speak.

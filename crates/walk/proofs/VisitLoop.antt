@@ -12,7 +12,8 @@ use Rattle.greedy.specs.Joins.{Join}
 use Rattle.greedy.proofs.Scans as S
 use Rattle.layout.specs.Layout.{STARTS, ENDS, JOINS, all_joins}
 use Rattle.layout.specs.Staging.{joins_in}
-use Rattle.walk_offer.specs.Steps.Runs.{next_starter, next_ender, starters_from, starters_at, enders_from, enders_at, Real, ListedFrom}
+use Rattle.trays.specs.Limits.{max_slips}
+use Rattle.walk_offer.specs.Steps.Runs.{along, waiting_in, next_starter, next_ender, starters_from, starters_at, enders_from, enders_at, Real, ListedFrom}
 use Rattle.walk_offer.specs.Steps.Marks.{Marks}
 use Rattle.walk_offer.specs.Steps.Offers.{Sized, Searches, FoundPartner, JoinsMade, Offers}
 use Rattle.walk.specs.Steps.Walking.{Visits}
@@ -53,6 +54,9 @@ module _ {es : List ℕ} {d v : ℕ} {w₀ : List ℕ} {count : ℕ} {w : List �
   same-enders : next_ender w es d ≡ next_ender w₀ es d
   same-enders = ender_kept T.sized T.only
 
+  froms : (i : ℕ) → enders_from w es d i ≡ enders_from w₀ es d i
+  froms i = ap (λ (f : ℕ → ℕ). along f max_slips i) same-enders
+
   pub visit_searches : Searches es w d right l
   visit_searches = record { sized = here_sized; rights = T.marks.neighbours.rights; list = rw same-enders T.ends }
 
@@ -84,7 +88,7 @@ module _ {es : List ℕ} {d v : ℕ} {w₀ : List ℕ} {count : ℕ} {w : List �
       -- what the search has passed changes nothing
       found_rest : S.scan (enders_from w₀ es d l') d (starters_from w₀ es d r) js ≡ S.scan (enders_at w₀ es d v) d (starters_at w₀ es d v) (joins_in w₀ count)
       found_rest =
-          rw (rw same-enders at f.rest) (sym (scan-waiting right js (enders_from w₀ es d l) d (starters_from w₀ es d r) ender_marks) ∙ T.rest)
+          rw (sym (froms l') ∙ f.rest ∙ ap (waiting_in right) (froms l)) (sym (scan-waiting right js (enders_from w₀ es d l) d (starters_from w₀ es d r) ender_marks) ∙ T.rest)
 
       module _ {w' left' right' overs' first' last' : List ℕ} {made' : ℕ}
           (m : JoinsMade w (S.offer (enders_from w es d l') d r (joins_in w made)) w' left' right' overs' first' last' made') where
@@ -103,7 +107,7 @@ module _ {es : List ℕ} {d v : ℕ} {w₀ : List ℕ} {count : ℕ} {w : List �
 
           pub visit_turn : Visiting es d v w₀ count w' made' l' r' left' right' overs' first' last'
           visit_turn =
-              let e : joins_in w' made' ≡ S.offer (enders_from w₀ es d l') d r js = rw same-enders at m.joins_are in
+              let e : joins_in w' made' ≡ S.offer (enders_from w₀ es d l') d r js = m.joins_are ∙ ap (λ ls. S.offer ls d r js) (froms l') in
               record {
                 sized = T.sized;
                 only = all_only;

@@ -3,7 +3,7 @@ use Rattle.legend_places.proofs.LowestPlace.{trial_start, trial_last, trial_othe
 use Rattle.legend_places.proofs.LowestPlace.{short_place, short_count, whole-place, whole_count}
 use borrow.Author.Rules.{rules}
 use Rattle.legend_places.proofs.lowest_place.Goals as goal
-use Rattle.legend_places.proofs.lowest_place.Goals.{else-t-end, then-t-end}
+use Rattle.legend_places.proofs.lowest_place.Goals.{else-t-end+else-t-end-2+else-loop-k-test, then-t-end}
 
 pub places-init : goal.places-init
 places-init c = search trial_start
@@ -21,10 +21,10 @@ pub loop-k-preserved : goal.loop-k-preserved
 loop-k-preserved c = (search trial_agrees, search rules)
 
 pub overflow_sub-compared : goal.overflow_sub-compared
-overflow_sub-compared c = elim c.if-t-end.branch [ then-t-end w ↦ search rules | else-t-end w ↦ search rules ]
+overflow_sub-compared c = elim c.if-t-end.branch [ then-t-end w ↦ search rules | else-t-end+else-t-end-2+else-loop-k-test w ↦ search rules ]
 
 pub overflow_add-compared : goal.overflow_add-compared
-overflow_add-compared c = elim c.if-t-end.branch [ then-t-end w ↦ search rules | else-t-end w ↦ search rules ]
+overflow_add-compared c = elim c.if-t-end.branch [ then-t-end w ↦ search rules | else-t-end+else-t-end-2+else-loop-k-test w ↦ search rules ]
 
 pub returns : goal.returns
-returns c = elim c.if-t-end.branch [ then-t-end w ↦ (search short_place, search short_count) | else-t-end w ↦ (search whole-place, search whole_count) ]
+returns c = elim c.if-t-end.branch [ then-t-end w ↦ (search short_place, search short_count) | else-t-end+else-t-end-2+else-loop-k-test w ↦ (search whole-place, search whole_count) ]

@@ -3,8 +3,6 @@ use Rattle.merge_trays.proofs.MergeSteps.{merge_lent, merge_inputs, few_and_smal
 use native.Mathlib.Omega.{arith}
 use Rattle.merge_trays.proofs.merge_trays.Goals as goal
 
--- moments of the function, each from a later one: what is lent is checked, then both trays, the new slips are told, the size is checked, all but the sides is
--- written
 pub returns-then-lent-ne0 : goal.returns-then-lent-ne0
 returns-then-lent-ne0 c = search merge_lent
 
@@ -27,24 +25,16 @@ returns-then-size-ne0 c = search merge_size
 
 pub write_merged-written-requires : goal.write_merged-written-requires
 write_merged-written-requires c =
-    let new = told (sized c) in
-    let silent = new.before in
-    can_merge _ _ _ _ _ _ _ c.check_both-fault.ensures silent.if2.left _ new.new-slips.ensures _ _ _ _ c.check_lent-lent.ensures
-    silent.before.before.before.if1.left _ c.check_size-size.ensures c.if-size-ne0.false
+    can_merge _ _ _ _ _ _ _ c.check_both-fault.ensures c.if-fault-ne0.false _ c.new_slips-new.ensures _ _ _ _ c.check_lent-lent.ensures
+    c.if-lent-ne0.false _ c.check_size-size.ensures c.if-size-ne0.false
 
 pub write_sides-requires : goal.write_sides-requires
 write_sides-requires c =
-    let new = told (sized c) in
-    let silent = new.before in
-    can_write_sides _ _ _ _ _ _ _ c.check_both-fault.ensures silent.if2.left _ new.new-slips.ensures _ _ _ _ c.check_lent-lent.ensures
-    silent.before.before.before.if1.left _ c.check_size-size.ensures c.if-size-ne0.left
+    can_write_sides _ _ _ _ _ _ _ c.check_both-fault.ensures c.if-fault-ne0.false _ c.new_slips-new.ensures _ _ _ _ c.check_lent-lent.ensures
+    c.if-lent-ne0.false _ c.check_size-size.ensures c.if-size-ne0.false
 
 pub returns : goal.returns
 returns c =
-    let merged = wrote c in
-    let fits = merged.before.before.before in
-    let new = told (sized fits) in
-    let silent = new.before in
-    merge_done _ _ _ _ _ _ _ _ _ _ c.check_lent-lent.ensures silent.before.before.before.if1.left _ c.check_both-fault.ensures
-    silent.if2.left _ new.new-slips.ensures _ c.check_size-size.ensures fits.if3.left _ _ _ _ merged.write-merged.ensures
+    merge_done _ _ _ _ _ _ _ _ _ _ c.check_lent-lent.ensures c.if-lent-ne0.false _ c.check_both-fault.ensures
+    c.if-fault-ne0.false _ c.new_slips-new.ensures _ c.check_size-size.ensures c.if-size-ne0.false _ _ _ _ c.write_merged-written.ensures
     c.write_sides.ensures

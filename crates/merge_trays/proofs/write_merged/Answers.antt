@@ -36,5 +36,5 @@ shape_of-ends c = search all_many
 pub returns : goal.returns
 returns c =
     let pre = c.requires in
-    merged-written _ _ _ _ _ _ _ pre _ _ _ c.copy-here.ensures.1 c.copy-here.ensures.0 c.copy_cells.ensures _ _ _
+    merged-written _ _ _ _ _ _ _ pre _ _ _ c.copy-here.ensures.copied c.copy-here.ensures.count c.copy_cells.ensures _ _ _
     c.write_slips.ensures _ _ refl refl

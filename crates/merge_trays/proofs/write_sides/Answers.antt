@@ -10,25 +10,20 @@ copy-here-requires c = search first-room
 pub loop-i-init : goal.loop-i-init
 loop-i-init c = search putting_none
 
--- where the first tray's sides are copied, and where the function starts, from the head of the loop
--- the slip is one of the second tray
-real : (c : tie.After-wide invariant-loop decreases-loop) → (1 ≤ c.wide.result) × (c.wide.result ≤ length (start c.before.before).args.sides2.now)
-
-real c =
-    let head = c.before.before in
-    slip_real _ _ _ _ (start head).requires _ _ (copied head).copy.ensures.0 (copied head).copy.ensures.1 _ _ head.loop.invariant
-    c.before.loop-test.true _ c.wide.ensures.0
-
 pub overflow_sub-sides : goal.overflow_sub-sides
-overflow_sub-sides c = omega (arith, real c)
+overflow_sub-sides c =
+    -- the slip is one of the second tray
+    omega (arith, slip_real _ _ _ _ c.requires _ _ c.copy-here.ensures.count c.copy-here.ensures.copied _ _ c.loop-i.invariant c.loop-i-test.true _ c.wide-slip.ensures.0)
 
 pub bounds-sides2-slip : goal.bounds-sides2-slip
-bounds-sides2-slip c = omega (arith, real c)
+bounds-sides2-slip c =
+    -- the slip is one of the second tray
+    omega (arith, slip_real _ _ _ _ c.requires _ _ c.copy-here.ensures.count c.copy-here.ensures.copied _ _ c.loop-i.invariant c.loop-i-test.true _ c.wide-slip.ensures.0)
 
 pub bounds-sides-here : goal.bounds-sides-here
 bounds-sides-here c =
     omega
-    (arith, putting_same _ _ _ _ c.requires _ _ c.copy-here.ensures.0 c.copy-here.ensures.1 _ _ c.loop-i.invariant, c.requires)
+    (arith, putting_same _ _ _ _ c.requires _ _ c.copy-here.ensures.count c.copy-here.ensures.copied _ _ c.loop-i.invariant, c.requires)
 
 pub loop-i-preserved : goal.loop-i-preserved
 loop-i-preserved c = search putting_more

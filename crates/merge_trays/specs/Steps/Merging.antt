@@ -1,7 +1,7 @@
 -- What the steps of merging two trays ask and leave: s with ends es and sides cs is the first, t with ends fs and sides ds the second.
 --   unwritten f      == the answer where f refuses
 --   lent_fault a b d  == 15, where a letters, b ends and d sides are lent
---   both_fault        == what refuses the trays: 1 to 6 and 22, of the first tray, then of the second
+--   one_fault         == what refuses one tray: 1 to 6 and 22; both_fault == the first tray, then the second
 --   size_fault n k    == what refuses an outcome of n letters and k slips: 1 and 4
 --   Room a b d       == enough is lent for any tray
 --   chosen new       == the numbers of the new slips
@@ -16,7 +16,7 @@ use Rattle.trays.specs.Limits.{max_slips, max_letters}
 use Rattle.trays.specs.Slips.{slips_of, only}
 use Rattle.trays.specs.Faults.{row, or_else, first_row, tray_fault}
 use Rattle.trays.specs.Written.{letters_of, ends_of, wrote}
-use Rattle.trays.specs.Sides.{side_of, sided_tray_fault}
+use Rattle.trays.specs.Sides.{side_of, sided_tray_rows}
 use Rattle.merge_rule.specs.Merging.{lent_row}
 use Rattle.merge_equals.specs.declared.Fresh.{Fresh}
 
@@ -26,8 +26,11 @@ unwritten f = record { number = f.number; detail = f.detail; letters = 0; slips 
 unfoldable pub lent_fault : ℕ → ℕ → ℕ → Refusal
 lent_fault a b d = lent_row a b d
 
+unfoldable pub one_fault : List ℕ → List ℕ → List ℕ → Refusal
+one_fault s es cs = first_row (sided_tray_rows s es cs)
+
 abbrev pub both_fault : List ℕ → List ℕ → List ℕ → List ℕ → List ℕ → List ℕ → Refusal
-both_fault s es cs t fs ds = or_else (sided_tray_fault s es cs) (sided_tray_fault t fs ds)
+both_fault s es cs t fs ds = or_else (one_fault s es cs) (one_fault t fs ds)
 
 abbrev pub size_fault : ℕ → ℕ → Refusal
 size_fault n k = first_row (row 1 (ltb max_slips k) 0 ∷ (row 4 (ltb max_letters n) 0 ∷ []))
