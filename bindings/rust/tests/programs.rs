@@ -40,11 +40,13 @@ impl Sheets {
 
 fn program(name: &str) -> Command {
     let path = Path::new(env!("CARGO_MANIFEST_DIR"))
-        .join("../../target/bin")
+        .join("../../crates")
+        .join(name)
+        .join("out")
         .join(name);
     assert!(
         path.exists(),
-        "target/bin/{name} is missing: run `rt check {name}` at the root of the repository"
+        "crates/{name}/out/{name} is missing: run `rt run` in crates/{name}"
     );
     Command::new(path)
 }
