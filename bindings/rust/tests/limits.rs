@@ -22,21 +22,21 @@ macro_rules! limit {
 }
 
 const LIMITS: [Limit; 9] = [
-    limit!("maxSlips", "MAX_SLIPS", MAX_SLIPS),
-    limit!("maxSlip", "MAX_SLIP", MAX_SLIP),
-    limit!("maxLetters", "MAX_LETTERS", MAX_LETTERS),
-    limit!("maxText", "MAX_TEXT", MAX_TEXT),
-    limit!("workNeed", "WORK", WORK_CELLS),
-    limit!("maxFile", "MAX_FILE", MAX_FILE),
-    limit!("endsNeed", "FILE_ENDS", FILE_ENDS),
-    limit!("maxShortest", "MAX_SHORTEST", MAX_SHORTEST),
-    limit!("maxLeast", "MAX_LEAST", MAX_LEAST),
+    limit!("max_slips", "MAX_SLIPS", MAX_SLIPS),
+    limit!("max_slip", "MAX_SLIP", MAX_SLIP),
+    limit!("max_letters", "MAX_LETTERS", MAX_LETTERS),
+    limit!("max_text", "MAX_TEXT", MAX_TEXT),
+    limit!("work_need", "WORK", WORK_CELLS),
+    limit!("max_file", "MAX_FILE", MAX_FILE),
+    limit!("ends_need", "FILE_ENDS", FILE_ENDS),
+    limit!("max_shortest", "MAX_SHORTEST", MAX_SHORTEST),
+    limit!("max_least", "MAX_LEAST", MAX_LEAST),
 ];
 
 /// How many numbers the records of composing have.
 const RECORDS: [Limit; 2] = [
-    limit!("joinCells", "JOIN", JOIN_CELLS),
-    limit!("recordCells", "PLACE", PLACE_CELLS),
+    limit!("join_cells", "JOIN", JOIN_CELLS),
+    limit!("record_cells", "PLACE", PLACE_CELLS),
 ];
 
 /// How many numbers an occurrence has; the definitions have no name for it.
@@ -90,7 +90,7 @@ fn the_c_header_has_them() {
 #[test]
 fn the_sides_are_the_same() {
     let sides = [
-        (kotsghane::Side::Blank, plain::BLANK, "blankSide", "BLANK"),
+        (kotsghane::Side::Blank, plain::BLANK, "blank_side", "BLANK"),
         (kotsghane::Side::Obverse, plain::OBVERSE, "obverse", "OBVERSE"),
         (kotsghane::Side::Reverse, plain::REVERSE, "reverse", "REVERSE"),
     ];
