@@ -1,4 +1,4 @@
-//! Finding: the specimen of document 01 and its edges, as tables of named cases.
+//! Finding: the specimen of the rules and its edges, as tables of named cases.
 mod searches;
 mod told;
 

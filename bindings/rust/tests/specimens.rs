@@ -1,4 +1,4 @@
-//! The specimen trays of document 01, as tables of named cases.
+//! The specimen trays of the rules, as tables of named cases.
 mod buffers;
 mod lending;
 mod naming;
