@@ -1,5 +1,6 @@
 -- Finding the slips of a tray with letters s and ends es in a text t: refusals 12, 13, 7 and 14 after those of the tray, the answer, and what
 -- each buffer holds afterwards. The work area has w cells, and the list takes k occurrences.
+--   text_rows t            == place B, text: 12 and 13
 --   find_rows s es t w     == the rows before place C
 --   find_before            == what refuses finding before place C
 --   find_fault .. k        == what refuses finding
@@ -8,17 +9,21 @@
 --   found_numbers f        == an occurrence as numbers: end place, slip; flat_found fs == occurrences as numbers
 --   Answered .. w w' k r  == r is the answer, and the work area is as it may be
 --   FindSays, FindFlat    == what finding promises, with a lent list of records and with one of numbers
-use Rattle.std.specs.Prelude.{◌≡◌, List, [], ◌∷◌, ◌++◌, map, ℕ, zero, suc, ◌*◌, ◌/◌, ◌≤◌, ltb, length}
+use Rattle.std.specs.Prelude.{◌≡◌, List, [], ◌∷◌, ◌++◌, map, ℕ, zero, suc, ◌*◌, ◌/◌, ◌≤◌, ltb, leb, length}
 use Rattle.words.specs.Lists.{each}
 use Rattle.trays.specs.declared.Refusal.{Refusal}
+use Rattle.trays.specs.Limits.{max_text}
 use Rattle.trays.specs.Slips.{slips_of}
-use Rattle.trays.specs.Faults.{row, first_row, tray_rows, text_rows, written}
+use Rattle.trays.specs.Faults.{row, first_row, bad_place, tray_rows, written}
 use Rattle.matching.specs.Moves.{moves}
 use Rattle.matching.specs.Occurrences as O
 use Rattle.matching.specs.Occurrences.{occurrences}
 use Rattle.answers.specs.WorkArea.{work_row, WorkKept}
 use Rattle.answers.specs.declared.Found.{Found}
 use Rattle.answers.specs.declared.Search.{Search}
+
+abbrev pub text_rows : List ℕ → List Refusal
+text_rows t = row 12 (ltb max_text (length t)) 0 ∷ (row 13 (leb 1 (bad_place 1 t)) (bad_place 1 t) ∷ [])
 
 abbrev pub find_rows : List ℕ → List ℕ → List ℕ → ℕ → List Refusal
 find_rows s es t w = tray_rows s es ++ (text_rows t ++ (work_row w ∷ []))

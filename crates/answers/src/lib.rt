@@ -43,6 +43,9 @@ pub const PLACE_CELLS: usize = 3;
 // How many numbers a record of places has where it is told in numbers.
 pub const RECORD_CELLS: usize = 5;
 
+// 12: a text has at most this many letters.
+pub const MAX_TEXT: usize = 2000;
+
 // The answer of the shortest legend: number and detail of the refusal, or the legend's letters, how many slips are kept, and their order, 0 past the count.
 #[derive(Clone, Copy)]
 pub struct Shortest {

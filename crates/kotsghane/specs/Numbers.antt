@@ -1,6 +1,6 @@
 -- Answers as numbers, for calls on one slip, on a pair, on a tray file, on two trays and on the index. Those of composing and finding stand in answers.
 --   refusal_numbers r == number, detail
---   located_numbers r == number, detail, start, end
+--   slip_numbers r    == number, detail, start, end
 --   pair_numbers r    == number, detail, letters shared
 --   written_numbers r == number, detail, letters, slips
 --   SlipExported, PairExported, ReadExported, MergeExported, IndexExported, BeginningExported == what the calls leave; m is the least overlap
@@ -17,8 +17,8 @@ use Rattle.index_rule.specs.Answers.{IndexBuilt, place_for}
 abbrev pub refusal_numbers : Refusal → List ℕ
 refusal_numbers r = r.number ∷ (r.detail ∷ [])
 
-abbrev pub located_numbers : Located → List ℕ
-located_numbers r = r.number ∷ (r.detail ∷ (r.start ∷ (r.end ∷ [])))
+abbrev pub slip_numbers : Located → List ℕ
+slip_numbers r = r.number ∷ (r.detail ∷ (r.start ∷ (r.end ∷ [])))
 
 abbrev pub pair_numbers : Pair → List ℕ
 pair_numbers r = r.number ∷ (r.detail ∷ (r.letters ∷ []))
@@ -29,7 +29,7 @@ written_numbers r = r.number ∷ (r.detail ∷ (r.letters ∷ (r.slips ∷ [])))
 pub record SlipExported (s es : List ℕ) (i : ℕ) (a' : List ℕ) : Type 0 where
   pub answer : Located
   pub says : answer ≡ located_of s es i
-  pub numbers_are : a' ≡ located_numbers answer
+  pub numbers_are : a' ≡ slip_numbers answer
 
 pub record PairExported (m : ℕ) (s es cs : List ℕ) (i j : ℕ) (a' : List ℕ) : Type 0 where
   pub answer : Pair
@@ -57,4 +57,4 @@ pub record IndexExported (s es cs x x' a' : List ℕ) : Type 0 where
 pub record BeginningExported (s es cs x t a' : List ℕ) : Type 0 where
   pub answer : Located
   pub says : answer ≡ place_for s es cs x t
-  pub numbers_are : a' ≡ located_numbers answer
+  pub numbers_are : a' ≡ slip_numbers answer

@@ -14,14 +14,14 @@ use Rattle.words.specs.Lists.{last_or}
 use Rattle.trays.specs.declared.Refusal.{Refusal}
 use Rattle.trays.specs.Limits.{max_file, ends_need}
 use Rattle.trays.specs.Slips.{slips_of}
-use Rattle.trays.specs.Faults.{or_else, first_row, tray_rows, tray_fault, text_rows}
+use Rattle.trays.specs.Faults.{or_else, first_row, tray_rows, tray_fault}
 use Rattle.trays.specs.Written.{letters_of, ends_of}
 use Rattle.trays.specs.Sides.{sided_tray_rows}
 use Rattle.fold_rule.specs.Folding.{fold}
 use Rattle.file_rule.specs.Lines.{lf}
 use Rattle.file_rule.specs.Faults.{read_fault}
 use Rattle.file_rule.specs.Answers.{slips_in, sides_in}
-use Rattle.answers.specs.Finding.{list_row}
+use Rattle.answers.specs.Finding.{text_rows, list_row}
 use Rattle.sheet_rule.specs.Sheets.{find_sheet_of, refused_line, max_found}
 use Rattle.sheet_rule.specs.Sides.{sheets_of}
 
