@@ -1,6 +1,6 @@
 -- The records made of the staged numbers are those of the tray.
 --   joins_made   == where the joins js are staged, their records are made
---   places_made  == where the records of all members are staged, they are made; sides-fit == and their sides are bytes
+--   places_made  == where the records of all members are staged, they are made; sides_fit == and their sides are bytes
 -- A staged table is the list of the numbers, so that each cell is a number of the list; records are equal where their fields are.
 use mathlib.Core.Path.{◌≡◌, refl, sym, ◌∙◌, ap}
 use mathlib.Core.Bool.{Bool, true, false, cond, not}

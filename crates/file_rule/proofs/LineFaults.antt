@@ -3,7 +3,7 @@
 --   or_last       == no row behind the last one
 --   rows a b c    == the rows 17, 18, 19 of line k, where a, b, c say whether each holds
 --   fault_detail  == a fault of line k has k as its detail
---   laid_out      == a line without a fault has the layout of a tray line; long-enough == and at least 10 bytes
+--   laid_out      == a line without a fault has the layout of a tray line; long_enough == and at least 10 bytes
 use mathlib.Core.Path.{◌≡◌, refl, sym, ◌∙◌, ap}
 use mathlib.Core.Bool.{Bool, true, false, not}
 use mathlib.Core.List.{List, [], ◌∷◌}

@@ -1,5 +1,5 @@
 -- Column 9 of a file without a fault holds sides, so that 22 never speaks of what is read from a file.
---   laid_side   == of one line; all-sides == of lines
+--   laid_side   == of one line; all_sides == of lines
 --   sides_count == there is a side for each slip
 --   sides_silent == 22 is silent
 use mathlib.Core.Path.{◌≡◌, refl, sym, ◌∙◌}

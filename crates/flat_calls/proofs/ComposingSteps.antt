@@ -32,7 +32,7 @@ module _ (g : Settings) (s es cs w w₁ l l' : List ℕ) (jr pr : ℕ) (r : Comp
       (λ a. let d = staged_room g s es cs w w₁ l l' jr pr r st a in record { there = omega (arith, d); room = omega (arith, a.joins_fit) })
       (λ b. let z = ap (λ (c : Composed). c.joins) b.answer-is in record { there = omega arith; room = omega arith })
 
-  -- from any cell up to where the records stand, and up to as many cells as a record has: that these are the right ones is for `flat-says`
+  -- from any cell up to where the records stand, and up to as many cells as a record has: that these are the right ones is for `flat_says`
   pub places_can :
       (base k m : ℕ) (p : List ℕ) → leb base RECORDS ≡ true → leb k record_cells ≡ true → m ≡ r.slips → pr ≡ length p / record_cells
       → CanCopy w₁ base (k * m) p

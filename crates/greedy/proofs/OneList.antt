@@ -4,9 +4,9 @@
 --   counting counts ss K i   == the beginnings of slip i that count
 --   visited counts ss K      == the beginnings that the walk visits, in its order
 --   candidates counts ss K   == the candidates of the walk, in its order
--- The walk takes its candidates (walk-takes). They ascend by the order of arcs, and every arc is among them. A candidate of a pair of
+-- The walk takes its candidates (walk_takes). They ascend by the order of arcs, and every arc is among them. A candidate of a pair of
 -- different slips does not precede the arc of that pair, since no string that ends l and begins r is longer than the overlap; and a pair
--- of one slip is refused from the start. So what is taken of the candidates is taken of the arcs (take-thin).
+-- of one slip is refused from the start. So what is taken of the candidates is taken of the arcs (take_thin).
 use mathlib.Core.Path.{◌≡◌, refl, sym, ◌∙◌}
 use mathlib.Core.Bool.{Bool, true, false, cond, ◌&&◌, ◌||◌}
 use mathlib.Core.List.Memᴰ

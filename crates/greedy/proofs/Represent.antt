@@ -3,8 +3,8 @@
 --   merged A B     == the chain A with the chain B behind it
 --   singles xs     == each slip of xs a chain by itself
 -- At the start each slip of K is a chain by itself. A free arc goes from the end of one chain to the first slip of another one, not of
--- the same, which is what the test on rings says (find); the two chains become one (run-merged), and a chain that holds neither slip of
--- the arc stays as it is (run-kept). No inequality on the weights is used, so this serves every rule on which overlaps count.
+-- the same, which is what the test on rings says (find); the two chains become one (run_merged), and a chain that holds neither slip of
+-- the arc stays as it is (run_kept). No inequality on the weights is used, so this serves every rule on which overlaps count.
 use mathlib.Core.Path.{◌≡◌, refl, sym, ◌∙◌, ap}
 use mathlib.Core.Bool.{Bool, true, false}
 use mathlib.Core.List.{List, [], ◌∷◌, ◌++◌, append-nil}

@@ -1,7 +1,7 @@
 -- The slips of a side.
 --   side_real   == their numbers ascend, and are numbers of slips
 --   slips_side  == so in an accepted tray
---   side_all    == where all slips are of one side, that side is the tray; side-none == and no other side has slips
+--   side_all    == where all slips are of one side, that side is the tray; side_none == and no other side has slips
 use mathlib.Core.Path.{◌≡◌, sym, ◌∙◌}
 use mathlib.Core.Bool.{Bool}
 use mathlib.Core.List.{List, []}

@@ -5,7 +5,7 @@
 --   free l r js ≡ false  == the pair l, r is refused
 --   Cover R xs js c      == the pair of c is refused, or xs has an arc of that pair that c does not precede by R
 -- A pair that is refused stays refused: a neighbour stays, and so does the last slip of a chain until it gets a neighbour. After an
--- arc has been considered its pair is refused. So arcs may be left out that follow another one of the same pair (take-thin).
+-- arc has been considered its pair is refused. So arcs may be left out that follow another one of the same pair (take_thin).
 use mathlib.Core.Path.{◌≡◌, refl, sym, ◌∙◌}
 use mathlib.Core.Bool.{Bool, true, false, cond, and-false}
 use mathlib.Core.List.Memᴰ.{head as here}

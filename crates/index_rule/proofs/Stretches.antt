@@ -1,6 +1,6 @@
 -- The slips that start with typed letters t stand together in a list that ascends by letters, after those before t.
 --   between, lower_back, starts_back == what stands before a slip that is before t, or that t begins
---   stretch_part  == those that t begins are a stretch of the list; stretch-end == where it ends
+--   stretch_part  == those that t begins are a stretch of the list; stretch_end_lem == where it ends
 --   stretch_is    == so of the index
 --   stretch_holds, stretch_only == the stretch has the slips that start so, and no others
 -- One induction over the list, by its head: before t, then it is dropped; begun by t, then nothing after it is before t; neither, then nothing

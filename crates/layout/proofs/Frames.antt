@@ -1,7 +1,7 @@
 -- What the work area keeps of its meaning when cells above a place are written.
 --   only_kept       == a frame whose places are all from b on keeps the cells below b
 --   members_kept    == the members, patterns-kept == their letters
---   numbered-kept   == the numbering, branched-kept == the children, near-kept == those of the first nodes, automaton-kept == the failure links
+--   numbered-kept   == the numbering, branched_kept == the children, near_kept == those of the first nodes, automaton_kept == the failure links
 -- The tables of each stage stand below those of the next, and their meaning depends on their cells alone.
 use mathlib.Core.Path.{◌≡◌, sym, ap, ◌∙◌}
 use mathlib.Core.List.{List}

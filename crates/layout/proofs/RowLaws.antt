@@ -2,7 +2,7 @@
 --   row_num       == a number of the row of d letters is that of a node of d letters
 --   row_before    == of two nodes of a row the one with the lower number has the smaller string
 --   row-length    == the strings of a row have d letters; rows-length == those of the rows from d on downwards at most d
---   row_asc       == a row ascends by the order of visits; rows-asc == so do the rows
+--   row_asc       == a row ascends by the order of visits; rows_asc == so do the rows
 --   rows_nodes    == the walk may go over the rows: they have every beginning
 -- Numbers ascend by length, then byte order; the table of levels parts them by length. Within a row the order of numbers is byte order.
 use mathlib.Core.Path.{◌≡◌, refl, sym, ap, ◌∙◌}

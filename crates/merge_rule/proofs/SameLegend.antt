@@ -3,7 +3,7 @@
 --   covers_those   == so among the numbers that pass a test which equals pass alike
 --   covers_spare   == where equals have equal letters, M may stand for N
 --   picked eq n k  == of the numbers 1 to n, and after them k more, those that are written; eq tells which are equal
---   picked_covers  == they cover all the numbers; picked-real == they ascend, and are among them
+--   picked_covers  == they cover all the numbers; picked_real == they ascend, and are among them
 --   picked_is      == any two lists merged are the members of the long list by these numbers
 --   picked_of ws xs  == the numbers, in the long list, of the slips written
 --   picked_of_real   == they ascend, and are numbers of slips

@@ -2,7 +2,7 @@
 --   slips_sum, letters_sum  == how many slips and letters the outcome has
 --   first-.., rest-..       == the first tray is copied, and the new slips are written into the rest of both buffers
 --   merged-written          == together they are the letters and ends of the outcome
---   few_and_small           == how large the counts are that the code adds up; outcome-size == their sums are the counts of the outcome
+--   few_and_small           == how large the counts are that the code adds up; outcome_size == their sums are the counts of the outcome
 --   can_merge, can_write_sides == what writing asks, where no row speaks
 --   merge_lent, merge_inputs, merge_size, merge_done == the ways through merge_trays
 use mathlib.Core.Path.{◌≡◌, refl, sym, ◌∙◌, ap}

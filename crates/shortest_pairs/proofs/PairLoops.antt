@@ -42,7 +42,7 @@ module _ (least : ℕ) (s es xs : List ℕ) (k : ℕ) where
   pub cell-fits : (a b : ℕ) {w : List ℕ} → RowAsks least s es xs k a w → b < k → max_shortest * a + b < 2 ^ 64
   cell-fits a b A h = omega (arith, A.row, A.asks.few)
 
-  -- of any two places: that they are the right ones is for `pair-more`
+  -- of any two places: that they are the right ones is for `pair_more`
   pub pair_asks :
       (a x y l r : ℕ) {w : List ℕ} → RowAsks least s es xs k a w → x < k → y < k → l ≡ get_or xs x 0 → r ≡ get_or xs y 0 → TwoSlips s es l r
   pair_asks a x y l r A hx hy el er =

@@ -16,7 +16,7 @@ module _ (m : ℕ) (s es : List ℕ) (r : Refusal) where
   set_none q e = q ∙ rw (eq-eqb m 0 e)
 
   module _ (z : m ≡ 0 → ⊥) where
-    -- over any number that is no smaller than the limit: that it is the limit is for `set-good`
+    -- over any number that is no smaller than the limit: that it is the limit is for `set_good`
     pub set-over : (n : ℕ) → leb max_least n ≡ true → r ≡ refusal 21 0 → n < m → r ≡ set_fault m s es
     unfolding set_fault
     set-over n l q h = q ∙ rw (ne_eqb m 0 z, lt-ltb max_least m (omega (arith, leb-true max_least n l)))

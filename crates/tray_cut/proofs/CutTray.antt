@@ -2,7 +2,7 @@
 --   chosen_real, chosen_few == their numbers, as laws of composing ask for them
 --   write_can        == they can be written there
 --   text-.., ends-.. == the parts of the arrays that are that tray
---   cut_tray         == it is accepted; slips-cut == and its slips are the chosen ones
+--   cut_tray         == it is accepted; slips_cut == and its slips are the chosen ones
 --   number_at        == the number that one of them had
 use mathlib.Core.Path.{◌≡◌, sym, ◌∙◌, ap}
 use mathlib.Core.List.{List}

@@ -1,7 +1,7 @@
 -- The slips of a side of an accepted tray, chosen: they can be cut out.
 --   sides_few  == what choosing them asks
 --   slips-..   == the part of the numbers that is lent
---   own_cut    == the slips of a side can be cut out as a tray of their own; side-few == which has no more than a tray may have
+--   own_cut    == the slips of a side can be cut out as a tray of their own; side_few == which has no more than a tray may have
 --   side_cut   == so can those chosen
 use mathlib.Core.Path.{◌≡◌, sym}
 use mathlib.Core.List.{List}

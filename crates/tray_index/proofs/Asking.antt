@@ -1,6 +1,6 @@
 -- The ways through check_beginning, and what is handed out.
 --   begin-..   == rows 1 to 6 and 22, then 23, then those of the typed letters
---   rank-..    == what the two searches ask for; span-is == what they find
+--   rank-..    == what the two searches ask for; span_is == what they find
 --   own_index  == where no row speaks, the list is the index of an accepted tray
 --   found-..   == the stretch handed out: it lies within the list, its place, and what is promised
 use mathlib.Core.Path.{◌≡◌, refl, sym, ◌∙◌, ap, ap₂}

@@ -1,6 +1,6 @@
 -- What is known of an accepted tray, and where its slips stand.
 --   Accepted m s es  == no row of 1 to 6 turns the tray back, where a slip may have m letters
---   rows_tell        == so where the rows for m are silent; accepted-tells, for the limit that holds
+--   rows_tell        == so where the rows for m are silent; accepted_tells, for the limit that holds
 --   Signs x          == x is made of the 27 signs
 use mathlib.Core.Path.{◌≡◌, refl, ◌∙◌, ap}
 use mathlib.Core.Bool.{Bool, true, false, not, ◌||◌}

@@ -1,5 +1,5 @@
 -- The kept slips among the members M of a tray, for any M.
---   aside_longer, aside_equal == the two ways in which a slip is set aside; aside-cases == there is no other
+--   aside_longer, aside_equal == the two ways in which a slip is set aside; aside_cases == there is no other
 --   kept_asc, in_kept, kept_in_lem == the kept slips ascend if M does, and are those of M that are not set aside
 --   kept_apart, kept_proper   == no kept slip stands in another one, and none is the whole of its overlap with another one
 -- A slip that stands in another one is shorter, and then it is set aside, or as long, and then the two are equal and the higher one is

@@ -1,5 +1,5 @@
 -- Rows of the table: the first one that holds.
---   or_zero, or_some   == the two cases of or_else; both-silent, if neither speaks
+--   or_zero, or_some   == the two cases of or_else; both_silent, if neither speaks
 --   speaking           == a row that is not silent has a number above 0, and its detail
 --   rows_append        == rows are taken top to bottom, one part after another
 --   rows_when          == rows may be exchanged for others that say the same where those above them are silent

@@ -1,12 +1,12 @@
 -- Slips written as a tray.
 --   length-ends        == there are as many ends as slips
---   letters_append, ends_append == of two lists of slips, one behind the other; letters-snoc, ends_snoc == of one slip more
---   slips_written      == a tray written of slips has these slips; slips-behind == and what stands behind them goes on from their last end
+--   letters_append, ends_append == of two lists of slips, one behind the other; letters_snoc, ends_snoc == of one slip more
+--   slips_written      == a tray written of slips has these slips; slips_behind == and what stands behind them goes on from their last end
 --   tray_refused, tray_wrote == the two ways to keep the promise of a call that writes a tray
 -- and what a caller has of such a call, where f turns it back, or the slips xs are written:
 --   refused_as         == the answer names f
 --   letters-first, ends-first, sides_first == the lent buffers begin with the letters and the ends of xs, and with their sides cs
---   letters_count, ends_count, sides_count == the answer has their counts; letters-within, .. == which the buffers have
+--   letters_count, ends_count, sides_count == the answer has their counts; letters_within, .. == which the buffers have
 use mathlib.Core.Path.{◌≡◌, refl, sym, ◌∙◌, ap}
 use mathlib.Core.List.{List, [], ◌∷◌, ◌++◌, append-nil, append_assoc}
 use Prim.Native.Nat.{ℕ, zero, suc, ◌+◌, ◌≤◌}

@@ -1,7 +1,7 @@
 -- A tray and its slips, written: an accepted tray is its slips, written, and slips that are good each by itself are a tray but for its size.
 --   written_slips    == the slips of an accepted tray, written, are that tray
 --   slips_append     == of two trays, one behind the other, the slips are those of the first and then those of the second
---   Good x           == what rows 2, 3 and 6 ask of one slip; slips-good == the slips of an accepted tray are so
+--   Good x           == what rows 2, 3 and 6 ask of one slip; slips_good == the slips of an accepted tray are so
 --   written-rows     == where slips are good, rows 1 and 4 alone can turn back the tray written of them
 --   written-accepted == within both limits the tray is accepted
 use mathlib.Core.Path.{◌≡◌, refl, ap, ◌∙◌}

@@ -1,7 +1,7 @@
 -- The loops of the sort: laying the first cell behind others, and putting each member into its place among those behind it.
 --   laying i c       == c after i turns: the i cells behind the first have moved to the front
 --   sorting lt m c   == c with the members from place m on in order
--- A turn of the first loop moves one cell more. Insertion of the first member at its rank is `insert`, by insert-rank; so a turn of the second
+-- A turn of the first loop moves one cell more. Insertion of the first member at its rank is `insert`, by insert_rank; so a turn of the second
 -- loop is one clause of `in_order`.
 use mathlib.Core.Path.{◌≡◌, refl, sym, ap, ◌∙◌}
 use mathlib.Core.Bool.{Bool}

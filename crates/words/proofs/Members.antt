@@ -1,6 +1,6 @@
 -- Membership and order in lists, and what the vocabulary of lists has for members.
 --   Sorts R xs ys  == ys is ascending by R and has the members of xs
--- Each law is one induction over the list; a test is decided by `tell`, and the two clauses `those-yes`, `those-no` open `those` at its head.
+-- Each law is one induction over the list; a test is decided by `tell`, and the two clauses `those-yes`, `those_no` open `those` at its head.
 use mathlib.Core.Path.{◌≡◌, refl, sym, ap₂, ◌∙◌}
 use mathlib.Core.Bool.{Bool, true, false, ◌||◌}
 use mathlib.Core.Logic.{inl, inr}

@@ -2,7 +2,7 @@
 --   overlap a b           == the length of the longest suffix of a that is a prefix of b
 --   overlap_for counts a b == that length if the overlap string counts, else 0
 --   Counts counts         == the empty string does not count, and what begins with a string that counts does
--- Two laws say all of `overlap`: it is the length of a suffix that begins b (`overlap-cut`), and no such suffix is longer (`overlap-max`).
+-- Two laws say all of `overlap`: it is the length of a suffix that begins b (`overlap-cut`), and no such suffix is longer (`overlap_max`).
 -- The exchange inequality: a's overlap with b holds a suffix that begins d, and a prefix that ends c; the letters that both have in common are a
 -- suffix of c that begins d.
 use mathlib.Core.Path.{◌≡◌, refl, sym, ap, ◌∙◌}

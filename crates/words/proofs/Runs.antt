@@ -3,7 +3,7 @@
 --   up_from_more   == one number more
 --   up_from_append == a run, and another that goes on where it ends
 --   up_from_at     == number k of a run
---   map_places    == a list is its places, mapped; each-places == lists by place are lists by member
+--   map_places    == a list is its places, mapped; each_places == lists by place are lists by member
 --   sum_run       == a sum over ascending numbers of a run is at most that over the run
 use mathlib.Core.Path.{◌≡◌, refl, sym, ◌∙◌, ap, ap₂}
 use mathlib.Core.List.Memᴰ
