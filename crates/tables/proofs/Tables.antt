@@ -20,7 +20,7 @@ use lib.Seq.{get_or-take, get_or-drop, get_or-set_same, get_or-set_other, take-s
 use lib.Seq.{take-suc, take-suc-set, ext_get_or, take_all, length-take-le, take_at, drop_at, take-take}
 use borrow.Rule.Slice.PartMut.{mid_of, mid_len, same_len_mid, take_put, drop_put}
 use Rattle.words.specs.Lists.{over}
-use Rattle.tables.specs.Tables.{Got, Put, table, Cells, Only, Filled}
+use Rattle.tables.specs.Tables.{Put, table, Cells, Only, Filled}
 
 -- a table as a list
 pub table-length : (w : List ℕ) (base n : ℕ) → base + n ≤ length w → length (table w base n) ≡ n

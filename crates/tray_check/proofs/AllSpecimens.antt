@@ -1,7 +1,6 @@
 -- Computed specimens of what the loops of the tray check compute.
 use mathlib.Core.Path.{◌≡◌, refl}
 use mathlib.Core.List.{[], ◌∷◌, map}
-use Prim.Native.Nat.{suc, ◌+◌, ◌*◌}
 use Rattle.words.specs.Quoted.{word}
 use Rattle.trays.specs.Faults.{refusal, bad_place}
 use Rattle.tray_check.specs.Steps.Checks.{note_long, ends_fault, slip_holding}

@@ -3,7 +3,7 @@
 --   letters, bounds  == the letters and the ends of the sample tray, whose slips are `slips`
 use mathlib.Core.Path.{◌≡◌, refl}
 use mathlib.Core.List.{List, [], ◌∷◌, map}
-use Prim.Native.Nat.{ℕ, suc, ◌+◌, ◌*◌}
+use Prim.Native.Nat.{ℕ}
 use lib.ListN.{replicate}
 use Rattle.words.specs.Lists.{those, up_from}
 use Rattle.words.specs.Quoted.{word}

@@ -2,7 +2,7 @@
 --   rows_stored   == the rows for the limit k, of a tray accepted under m
 --   stored_trays  == the same for the limit that holds
 use mathlib.Core.Path.{◌≡◌, refl}
-use mathlib.Core.List.{List, [], ◌∷◌}
+use mathlib.Core.List.{List}
 use Prim.Native.Nat.{ℕ, zero, suc}
 use borrow.Author.Tests.{le-ltb, le-leb, eq-eqb}
 use native.Mathlib.Omega.{arith}

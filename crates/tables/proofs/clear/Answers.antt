@@ -1,4 +1,3 @@
-use Prim.Native.Nat.{◌-◌}
 use lib.ListN.{length-replicate}
 use Rattle.tables.proofs.Tables.{filling_none, filling_more, filling_all, replicate_at}
 use borrow.Author.Rules.{rules}

@@ -1,4 +1,3 @@
-use Prim.Native.Nat.{◌-◌}
 use Rattle.tables.proofs.CopyLoop.{cells_none, cells_more, cells_all}
 use borrow.Author.Rules.{rules}
 use Rattle.tables.proofs.copy_cells.Goals as goal

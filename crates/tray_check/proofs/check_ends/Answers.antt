@@ -1,4 +1,3 @@
-use Prim.Native.Nat.{◌-◌}
 use Rattle.tray_check.proofs.CheckLoops.{ends_fall, ends_above, ends_long, ends_too_long, ends_good}
 use borrow.Author.Rules.{rules}
 use Rattle.tray_check.proofs.check_ends.Goals as goal

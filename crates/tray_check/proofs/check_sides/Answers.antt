@@ -1,5 +1,4 @@
 use mathlib.Core.Path.{refl}
-use Prim.Native.Nat.{◌-◌}
 use native.Mathlib.Omega.{arith}
 use Rattle.tray_check.proofs.SideRows.{good_none, good_more, sides_long, sides_value, sides_good, sides_named}
 use Rattle.tray_check.proofs.check_sides.Goals as goal

@@ -1,4 +1,3 @@
-use Prim.Native.Nat.{◌-◌}
 use Rattle.tray_check.proofs.CheckLoops.{bad_here, bad_next, bad_none}
 use borrow.Author.Rules.{rules}
 use Rattle.tray_check.proofs.first_bad.Goals as goal

@@ -1,4 +1,3 @@
-use Prim.Native.Nat.{◌-◌}
 use Rattle.tray_check.proofs.CheckLoops.{holding_here, holding_next, holding_none}
 use borrow.Author.Rules.{rules}
 use Rattle.tray_check.proofs.slip_holding.Goals as goal

@@ -1,4 +1,3 @@
-use Prim.Native.Nat.{◌-◌}
 use Rattle.tables.proofs.Tables.{filling_none, filling_all}
 use Rattle.trie_order.proofs.CommonTable.{fill_members, fill_place, fill_more, fill_size}
 use borrow.Author.Rules.{rules}

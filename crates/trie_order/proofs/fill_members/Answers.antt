@@ -1,4 +1,3 @@
-use Prim.Native.Nat.{◌-◌}
 use Rattle.tables.proofs.Tables.{filling_none, filling_more, filling_all}
 use Rattle.words.proofs.Runs.{length-up_from}
 use Rattle.trie_order.proofs.AllMembers.{member_at}

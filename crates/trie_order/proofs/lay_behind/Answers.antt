@@ -1,4 +1,3 @@
-use Prim.Native.Nat.{◌-◌}
 use Rattle.trie_order.proofs.SortLoops.{laying_more, laying_all}
 use borrow.Author.Rules.{rules}
 use Rattle.trie_order.proofs.lay_behind.Goals as goal

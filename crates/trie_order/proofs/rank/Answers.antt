@@ -1,4 +1,3 @@
-use Prim.Native.Nat.{◌-◌}
 use Rattle.trie_order.proofs.RankLoop.{passed_none, failed_none, passed_to, failed_from, rank_found, middle_least, middle_most}
 use borrow.Author.Rules.{rules}
 use Rattle.trie_order.proofs.rank.Goals as goal

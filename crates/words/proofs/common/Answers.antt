@@ -1,4 +1,3 @@
-use Prim.Native.Nat.{◌-◌}
 use Rattle.words.proofs.CommonLoop.{common_more, common-differs, common-ends, common-whole}
 use borrow.Author.Rules.{rules}
 use Rattle.words.proofs.common.Goals as goal

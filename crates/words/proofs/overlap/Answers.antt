@@ -1,4 +1,3 @@
-use Prim.Native.Nat.{◌-◌}
 use Rattle.words.proofs.OverlapLoop.{overlap_hit, overlap_miss, overlap_none}
 use borrow.Author.Rules.{rules}
 use Rattle.words.proofs.overlap.Goals as goal
