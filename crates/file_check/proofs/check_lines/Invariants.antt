@@ -6,7 +6,7 @@ use Rattle.file_check.proofs.check_lines.Given as goal
 abbrev pub invariant-loop-state : goal.invariant-loop-state
 invariant-loop-state l = record {
   file_is : l.reader.file.now ≡ l.file;
-  through : Through l.file l.reader.at l.state
+  through : Through l.file l.reader.at l.state;
 }
 
 abbrev pub decreases-loop-state : goal.decreases-loop-state

@@ -10,7 +10,7 @@ abbrev pub invariant-loop-i : goal.invariant-loop-i
 invariant-loop-i l = record {
   upto : l.i ≤ l.count;
   telling : Telling l.letters l.ends l.text l.count l.initial.work l.i l.work;
-  found_are : l.found ≡ over (firsts (found_at l.letters l.ends l.text) l.i) l.initial.found
+  found_are : l.found ≡ over (firsts (found_at l.letters l.ends l.text) l.i) l.initial.found;
 }
 
 abbrev pub decreases-loop-i : goal.decreases-loop-i
