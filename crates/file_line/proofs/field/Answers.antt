@@ -1,4 +1,3 @@
-use Prim.Native.Nat.{◌-◌}
 use Rattle.file_line.proofs.Fields.{field-blank, field-digits, field_leading, field-zero, field_none}
 use borrow.Author.Rules.{rules}
 use Rattle.file_line.proofs.field.Goals as goal

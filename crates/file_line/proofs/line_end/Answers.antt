@@ -1,4 +1,3 @@
-use Prim.Native.Nat.{◌-◌}
 use Rattle.file_line.proofs.LineEnds.{end_here, end_more, end_none}
 use Rattle.file_line.proofs.line_end.Goals as goal
 

@@ -1,4 +1,3 @@
-use Prim.Native.Nat.{◌-◌}
 use Rattle.file_line.proofs.Fields.{number_low, number_high, number_more, number_all, number_grows, number-times, number_plus, number_fits}
 use borrow.Author.Rules.{rules}
 use Rattle.file_line.proofs.number.Goals as goal
