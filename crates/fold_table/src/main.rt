@@ -31,6 +31,7 @@ fn die_sign(b: u8) -> u8
 }
 
 // The sign that a byte is filed as; 0 where it is no sign.
+#[tactic(auto, unfolding(fold_rule::specs::Folding::fold))]
 fn rule(b: u8) -> u8
     ensures { result ≡ F.fold b }
 {
