@@ -4,10 +4,12 @@
 use file_rule::{ENDS_NEED, MAX_FILE};
 use layout::WORK_NEED;
 use sheet_rule::COMPOSE_ROOM;
+use std::env::FillError;
+use std::rt::Env;
 use trays::MAX_LETTERS;
 
 // Writes the sheets of a file. There are as many sides as ends.
-fn print_sheet(file: &[u8]) {
+fn print_sheet<R: Print + Eprint>(rt: &R, file: &[u8]) {
     let mut letters = [0u8; MAX_FILE];
     let mut ends = [0u16; ENDS_NEED];
     let mut sides = [0u8; ENDS_NEED];
@@ -23,32 +25,36 @@ fn print_sheet(file: &[u8]) {
         &mut legend,
         &mut out,
     );
-    let written = io::write_all(1, &out[..n]);
-    if !written {
-        io::write_all(2, b"compose: the sheet could not be written\n");
+    let written = rt.write_all(&out[..n]);
+    if written.is_err() {
+        let _ = rt.eprintln("compose: the sheet could not be written");
     }
 }
 
 // One byte more than a tray file may have is read, so that a longer one is seen.
-fn print_input() {
+fn print_input(rt: &HostRuntime) {
     let mut file = [0u8; MAX_FILE + 1];
-    let came = input::read_all(0, &mut file);
+    let came = input::read_all(&mut rt.stdin(), &mut file);
     if came.failed {
-        io::write_all(1, b"NO FILE\n");
+        let _ = rt.println("NO FILE");
         return;
     }
     let n = came.count;
-    print_sheet(&file[..n]);
+    print_sheet(rt, &file[..n]);
 }
 
-// Its own name is counted among the arguments.
-fn main() {
-    if os::arg_count() > 1 {
-        io::write_all(
-            2,
-            b"compose takes no argument; run it as: compose < TRAY-FILE\n",
-        );
+// Whether an argument was given. The program's own name is argument 0.
+fn has_argument(rt: &impl Env) -> bool {
+    match rt.arg(1, &mut [0u8; 1]) {
+        Err(FillError::NotPresent) => false,
+        _ => true,
+    }
+}
+
+fn main(rt: HostRuntime) {
+    if has_argument(&rt) {
+        let _ = rt.eprintln("compose takes no argument; run it as: compose < TRAY-FILE");
         return;
     }
-    print_input();
+    print_input(&rt);
 }

@@ -5,10 +5,14 @@ use file_rule::{ENDS_NEED, MAX_FILE};
 use layout::WORK_NEED;
 use sheet_of_files::LISTED;
 use sheet_rule::FIND_ROOM;
+use std::env::FillError;
+use std::fs::File;
+use std::io::Read;
+use std::rt::{Env, Files};
 use trays::MAX_TEXT;
 
 // Writes the sheet of a tray file and a text file. The sides of the slips are read and left: all slips are looked for.
-fn print_sheet(tray: &[u8], text: &mut [u8]) {
+fn print_sheet<R: Print + Eprint>(rt: &R, tray: &[u8], text: &mut [u8]) {
     let mut letters = [0u8; MAX_FILE];
     let mut ends = [0u16; ENDS_NEED];
     let mut sides = [0u8; ENDS_NEED];
@@ -25,52 +29,55 @@ fn print_sheet(tray: &[u8], text: &mut [u8]) {
         &mut found,
         &mut out,
     );
-    let written = io::write_all(1, &out[..n]);
-    if !written {
-        io::write_all(2, b"find: the sheet could not be written\n");
+    let written = rt.write_all(&out[..n]);
+    if written.is_err() {
+        let _ = rt.eprintln("find: the sheet could not be written");
     }
 }
 
-fn no_file() {
-    io::write_all(1, b"NO FILE\n");
+fn no_file(rt: &impl Print) {
+    let _ = rt.println("NO FILE");
 }
 
 // One byte more than a tray file may have is read, and one more than a text with its final LF, so that longer ones are seen.
-fn print_files(tray: i32, text: i32) {
+fn print_files<R: Print + Eprint, F: Read>(rt: &R, tray: &mut F, text: &mut F) {
     let mut tray_file = [0u8; MAX_FILE + 1];
     let mut text_file = [0u8; MAX_TEXT + 2];
     let tray_came = input::read_all(tray, &mut tray_file);
     let text_came = input::read_all(text, &mut text_file);
     if tray_came.failed || text_came.failed {
-        no_file();
+        no_file(rt);
         return;
     }
     let n = tray_came.count;
     let m = text_came.count;
-    print_sheet(&tray_file[..n], &mut text_file[..m]);
+    print_sheet(rt, &tray_file[..n], &mut text_file[..m]);
 }
 
 // Both are opened before either is checked.
-fn print_folder() {
-    let tray = os::open_read(b"TRAY.TXT");
-    let text = os::open_read(b"TEXT.TXT");
-    if tray < 0 || text < 0 {
-        no_file();
-        return;
+fn print_folder<R: Files + Print + Eprint>(rt: &R) {
+    let tray = File::open(rt, "TRAY.TXT");
+    let text = File::open(rt, "TEXT.TXT");
+    match (tray, text) {
+        (Ok(mut tray), Ok(mut text)) => print_files(rt, &mut tray, &mut text),
+        _ => no_file(rt),
     }
-    print_files(tray, text);
-    libc::close(tray);
-    libc::close(text);
 }
 
-// Its own name is counted among the arguments.
-fn main() {
-    if os::arg_count() > 1 {
-        io::write_all(
-            2,
-            b"find takes no argument; run it in the folder that has TRAY.TXT and TEXT.TXT\n",
+// Whether an argument was given. The program's own name is argument 0.
+fn has_argument(rt: &impl Env) -> bool {
+    match rt.arg(1, &mut [0u8; 1]) {
+        Err(FillError::NotPresent) => false,
+        _ => true,
+    }
+}
+
+fn main(rt: HostRuntime) {
+    if has_argument(&rt) {
+        let _ = rt.eprintln(
+            "find takes no argument; run it in the folder that has TRAY.TXT and TEXT.TXT",
         );
         return;
     }
-    print_folder();
+    print_folder(&rt);
 }

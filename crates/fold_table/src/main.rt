@@ -1,4 +1,4 @@
-// Works the table of folding out from the rule and prints it, as it stands in the source of fold_letters.
+// Works the table of folding out from the rule and prints it as source, an entry a line; fold_letters has it in the formatter's layout.
 #![tactic(auto)]
 
 ghost use Rattle.std.specs.Prelude.{◌≡◌};
@@ -31,6 +31,7 @@ fn die_sign(b: u8) -> u8
 }
 
 // The sign that a byte is filed as; 0 where it is no sign.
+#[tactic(auto, unfolding(fold_rule::specs::Folding::fold))]
 fn rule(b: u8) -> u8
     ensures { result ≡ F.fold b }
 {
@@ -42,7 +43,7 @@ fn rule(b: u8) -> u8
     0
 }
 
-// An entry on a line of its own, as the layout of the source has it.
+// An entry on a line of its own.
 fn print_entry(sign: u8) {
     if sign == 0 {
         io::write_all(1, b"    0,\n");

@@ -15,7 +15,7 @@ const ALL_PLACES: u32 = 200 * RECORD_CELLS as u32;
 const TWO_PLACES: u32 = 2 * RECORD_CELLS as u32;
 
 // The settings, how many cells, bytes and numbers are lent, and where the letters start in the line.
-#[derive(Drop)]
+#[derive(Clone, Copy)]
 struct Rooms {
     settings: Settings,
     work: u32,

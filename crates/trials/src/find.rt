@@ -6,7 +6,7 @@ use trials_lines::writing::put;
 use trials_lines::{sums, table, writing};
 
 // How many cells and numbers are lent, and where the text starts in the line.
-#[derive(Drop)]
+#[derive(Clone, Copy)]
 struct Rooms {
     work: u32,
     list: u32,

@@ -68,9 +68,9 @@ fn space() -> [u8; 3407872]
     [0; 3407872]
 }
 
-fn main() {
+fn main(rt: HostRuntime) {
     let mut buf = space();
-    let came = input::read_all(0, &mut buf);
+    let came = input::read_all(&mut rt.stdin(), &mut buf);
     let n = came.count;
     rows(&buf[..n]);
 }

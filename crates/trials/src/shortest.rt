@@ -7,7 +7,7 @@ use trials_lines::writing::put;
 use trials_lines::{sums, table, writing};
 
 // The settings, how many cells and bytes are lent, and where the line goes on.
-#[derive(Drop)]
+#[derive(Clone, Copy)]
 pub struct Rooms {
     pub settings: Settings,
     pub work: u32,

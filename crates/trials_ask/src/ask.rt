@@ -26,7 +26,7 @@ fn pair(letters: &[u8], ends: &[u16], sides: &[u8], i: u32, j: u32, least: u32) 
 }
 
 // The least overlap, the two slips of a pair, and where the letters start in the line.
-#[derive(Drop)]
+#[derive(Clone, Copy)]
 struct Asked {
     least: u32,
     left: u32,

@@ -2,28 +2,28 @@
 ghost use Rattle.std.specs.Prelude.{◌<◌, ◌≤◌, length};
 
 // A number of the line, and the place after it.
-#[derive(Drop)]
+#[derive(Clone, Copy)]
 pub struct Read {
     pub value: u32,
     pub at: usize,
 }
 
 // A side that the line names, and the place after it.
-#[derive(Drop)]
+#[derive(Clone, Copy)]
 pub struct Side {
     pub value: u8,
     pub at: usize,
 }
 
 // How many letters a tray has, and how many ends.
-#[derive(Drop)]
+#[derive(Clone, Copy)]
 pub struct Tray {
     pub letters: usize,
     pub ends: usize,
 }
 
 // What a code adds, how many times a letter and how many ends, and the place after it.
-#[derive(Drop)]
+#[derive(Clone, Copy)]
 struct Code {
     letter: u8,
     letters: u32,
@@ -32,7 +32,7 @@ struct Code {
 }
 
 // How many ends, the first of them, and the place after the entry.
-#[derive(Drop)]
+#[derive(Clone, Copy)]
 struct Run {
     times: u32,
     step: u32,

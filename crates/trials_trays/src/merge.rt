@@ -9,7 +9,7 @@ use trials_lines::table;
 const BLANK_ROOM: u32 = 200;
 
 // How many letters, ends and sides are lent, whether all slips are blank, and where the two trays start in the line.
-#[derive(Drop)]
+#[derive(Clone, Copy)]
 struct Rooms {
     letters: u32,
     ends: u32,

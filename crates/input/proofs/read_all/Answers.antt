@@ -1,13 +1,16 @@
-use Prim.Native.Nat.{◌-◌}
-use borrow.Author.Rules.{rules}
-use Rattle.io.proofs.Counting.{prefix_len_of_le}
+use Rattle.std.proofs.Common.{rules}
+use Rattle.input.proofs.Reading.{consumes_more}
 use Rattle.input.proofs.read_all.Goals as goal
 
-pub returns-then-came : goal.returns-then-came
-returns-then-came c = prefix_len_of_le _ _ (search rules)
+pub returns-then-came-clause-bytes : goal.returns-then-came-clause-bytes
+returns-then-came-clause-bytes g c =
+    consumes_more _ _ _ _ _ _ _ c.read_more-came.ensures.count.from c.read_more-came.ensures.front c.loop-done.invariant.2
+    c.read_more-came.ensures.bytes
 
-pub returns-then-came-done : goal.returns-then-came-done
-returns-then-came-done c = prefix_len_of_le _ _ (search rules)
-
-pub returns : goal.returns
-returns c = prefix_len_of_le _ _ (search rules)
+pub loop-done-preserved : goal.loop-done-preserved
+loop-done-preserved g c = (
+  search rules,
+  search rules,
+  consumes_more _ _ _ _ _ _ _ c.read_more-came.ensures.count.from c.read_more-came.ensures.front
+      c.loop-done.invariant.2 c.read_more-came.ensures.bytes,
+)

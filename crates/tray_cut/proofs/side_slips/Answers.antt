@@ -1,4 +1,3 @@
-use Prim.Native.Nat.{◌-◌}
 use Rattle.tray_cut.proofs.SideLoop.{picking_none, picking_fits, picking_room, picking_yes, picking_no, picking_all}
 use Rattle.tray_cut.proofs.side_slips.Goals as goal
 

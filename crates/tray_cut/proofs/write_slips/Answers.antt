@@ -1,7 +1,4 @@
-use Prim.Native.Nat.{◌+◌, ◌-◌, ◌≤◌}
 use native.Mathlib.Omega.{arith}
-use lib.ListN.{length}
-use Rattle.trays.specs.Limits.{max_letters}
 use Rattle.tray_cut.proofs.WriteLoop.{writing_none, writing_more, writing_all}
 use Rattle.tray_cut.proofs.WriteLoop.{letters_long, ends_long, turn_at, turn_bound, turn_real, turn_room, turn_small}
 use Rattle.tray_cut.proofs.write_slips.Goals as goal
@@ -23,19 +20,19 @@ pub copy-at-requires : goal.copy-at-requires
 copy-at-requires c = search turn_room
 
 pub overflow_add-at : goal.overflow_add-at
-overflow_add-at c = 
+overflow_add-at c =
     -- the letters written so far and those of the slip are within the limit
     let l = turn_small _ _ _ _ _ _ c.requires _ _ _ _ c.loop-i.invariant c.loop-i-test.true _ c.wide-slip.ensures.0 _ c.slip_part-part.ensures in
     record { fits = omega (arith, l, c.copy-at.ensures) }
 
 pub overflow_add-here : goal.overflow_add-here
-overflow_add-here c = 
+overflow_add-here c =
     -- the letters written so far and those of the slip are within the limit
     let l = turn_small _ _ _ _ _ _ c.requires _ _ _ _ c.loop-i.invariant c.loop-i-test.true _ c.wide-slip.ensures.0 _ c.slip_part-part.ensures in
     record { fits = omega (arith, l, c.copy-at.ensures) }
 
 pub narrow-requires : goal.narrow-requires
-narrow-requires c = 
+narrow-requires c =
     -- the letters written so far and those of the slip are within the limit
     let l = turn_small _ _ _ _ _ _ c.requires _ _ _ _ c.loop-i.invariant c.loop-i-test.true _ c.wide-slip.ensures.0 _ c.slip_part-part.ensures in
     omega (arith, l, c.copy-at.ensures)

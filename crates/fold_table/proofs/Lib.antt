@@ -1,2 +1,0 @@
--- The ways through the functions that work the rule out.
-pub mod Ways
