@@ -12,11 +12,10 @@ pub is_aside-aside-requires : goal.is_aside-aside-requires
 is_aside-aside-requires c = search sifting_judged
 
 pub loop-j-preserved-then-aside : goal.loop-j-preserved-then-aside
-loop-j-preserved-then-aside c =
-    (
-      sifting_aside c.loop-j.invariant.0 c.loop-j-test.true c.at-i.ensures _ c.is_aside-aside.ensures c.if-aside.true refl,
-      search rules,
-    )
+loop-j-preserved-then-aside c = (
+  sifting_aside c.loop-j.invariant.0 c.loop-j-test.true c.at-i.ensures _ c.is_aside-aside.ensures c.if-aside.true refl,
+  search rules,
+)
 
 pub put-requires : goal.put-requires
 put-requires c = search sifting_can

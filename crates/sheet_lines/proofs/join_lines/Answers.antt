@@ -13,8 +13,7 @@ join_line-next-requires c = (search join-left, search join_right, search join_sh
 
 pub loop-i-preserved : goal.loop-i-preserved
 loop-i-preserved c =
-    let l = c.loop-i in
-    (
+    let l = c.loop-i in (
       search rules,
       join_turn c.args.joins.now l.i _ _ _ _ _ _ _ _ _ c.small-left.ensures c.small-right.ensures c.small-shared.ensures
           l.invariant.1 c.join_line-next.ensures,

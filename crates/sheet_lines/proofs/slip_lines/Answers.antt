@@ -19,8 +19,7 @@ slip_line-next-requires c = (search slip_few, search span_small, search slip_pla
 
 pub loop-i-preserved : goal.loop-i-preserved
 loop-i-preserved c =
-    let l = c.loop-i in
-    (
+    let l = c.loop-i in (
       search rules,
       slip_turn c.args.ends.now c.args.records.now l.i _ _ _ _ _ _ c.slip_span-span.result _ _ _ c.small-slip.ensures
           c.small-place.ensures c.small-mark.ensures c.slip_span-span.ensures l.invariant.1 c.slip_line-next.ensures,

@@ -14,7 +14,7 @@ pub slice_bounds-seek_cut-end : goal.slice_bounds-seek_cut-end
 slice_bounds-seek_cut-end c = search slips_counted
 
 pub seek_cut-found-requires : goal.seek_cut-found-requires
-seek_cut-found-requires c =  record { can_cut = search side_cut; work_need_in_bounds = search rules }
+seek_cut-found-requires c = record { can_cut = search side_cut; work_need_in_bounds = search rules }
 
 pub slice_bounds-slips-end-2 : goal.slice_bounds-slips-end-2
 slice_bounds-slips-end-2 c = search slips_fit

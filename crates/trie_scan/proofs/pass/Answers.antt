@@ -11,7 +11,7 @@ pub returns-then-twin-ne0 : goal.returns-then-twin-ne0
 returns-then-twin-ne0 c = search reportable_twin
 
 pub report_behind-report-requires : goal.report_behind-report-requires
-report_behind-report-requires c =  record { at_node = search reportable_node; num = search reportable_num }
+report_behind-report-requires c = record { at_node = search reportable_node; num = search reportable_num }
 
 pub overflow_add-result-2 : goal.overflow_add-result-2
 overflow_add-result-2 c = search reportable_fits

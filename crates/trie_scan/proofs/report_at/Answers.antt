@@ -12,7 +12,7 @@ pub returns-then-slip-ne0 : goal.returns-then-slip-ne0
 returns-then-slip-ne0 c = search (here_node, told_node)
 
 pub report_behind-requires : goal.report_behind-requires
-report_behind-requires c =  record { at_node = search rules; num = search told_node }
+report_behind-requires c = record { at_node = search rules; num = search told_node }
 
 pub returns : goal.returns
 returns c = search (here-behind, told_node)

@@ -12,7 +12,7 @@ offer-made-requires c =
     visit_offers c.loop-r.invariant c.loop-r-test.true c.next_free-l.ensures
 
 pub next_starter-r-requires : goal.next_starter-r-requires
-next_starter-r-requires c =  record { sized = visit_next c.loop-r.invariant c.loop-r-test.true c.next_free-l.ensures c.offer-made.ensures; real = visit_real c.loop-r.invariant c.loop-r-test.true }
+next_starter-r-requires c = record { sized = visit_next c.loop-r.invariant c.loop-r-test.true c.next_free-l.ensures c.offer-made.ensures; real = visit_real c.loop-r.invariant c.loop-r-test.true }
 
 pub loop-r-smaller : goal.loop-r-smaller
 loop-r-smaller c = search visit-less

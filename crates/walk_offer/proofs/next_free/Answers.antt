@@ -12,7 +12,7 @@ pub returns-then-taken-eq0 : goal.returns-then-taken-eq0
 returns-then-taken-eq0 c = search free_found
 
 pub next_ender-l-requires : goal.next_ender-l-requires
-next_ender-l-requires c =  record { sized = search rules; real = search free_real }
+next_ender-l-requires c = record { sized = search rules; real = search free_real }
 
 pub loop-l-smaller : goal.loop-l-smaller
 loop-l-smaller c = search free-less

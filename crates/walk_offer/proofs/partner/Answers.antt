@@ -6,7 +6,7 @@ pub returns-then-l-m : goal.returns-then-l-m
 returns-then-l-m c = search choose-first
 
 pub next_ender-next-requires : goal.next_ender-next-requires
-next_ender-next-requires c =  record { sized = search rules; real = search choose_real }
+next_ender-next-requires c = record { sized = search rules; real = search choose_real }
 
 pub next_free-requires : goal.next_free-requires
 next_free-requires c = search choose_next
