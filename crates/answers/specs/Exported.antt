@@ -2,7 +2,7 @@
 --   in_numbers r    == the answer of composing as eight numbers; search_numbers r == that of finding as four
 --   shortest_numbers r == that of the shortest legend as fourteen: number, detail, letters, count and the order's ten
 --   ComposeExported, FindExported, ShortestExported == what the calls leave; m is the least overlap, b the side named
-use Rattle.std.specs.Prelude.{◌≡◌, List, [], ◌∷◌, map, ℕ, ◌-◌, get_or}
+use Rattle.std.specs.Prelude.{◌≡◌, List, [], ◌∷◌, map, ℕ, get_or}
 use Rattle.words.specs.Lists.{up_from}
 use Rattle.trays.specs.Limits.{max_shortest}
 use Rattle.answers.specs.declared.Composed.{Composed}

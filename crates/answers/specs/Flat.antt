@@ -1,7 +1,7 @@
 -- Composing over slices of numbers, for every input: `join_cells` numbers a join, `record_cells` a record of places.
 --   flat_fault  == what refuses it, given the lengths of what was lent
 --   ComposeFlat == the answer, and what each lent buffer holds afterwards
-use Rattle.std.specs.Prelude.{◌≡◌, List, ℕ, ◌-◌, ◌/◌, length}
+use Rattle.std.specs.Prelude.{◌≡◌, List, ℕ, ◌/◌, length}
 use Rattle.trays.specs.declared.Settings.{Settings}
 use Rattle.trays.specs.Slips.{slips_of}
 use Rattle.trays.specs.declared.Refusal.{Refusal}

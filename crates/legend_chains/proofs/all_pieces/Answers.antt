@@ -1,4 +1,3 @@
-use Prim.Native.Nat.{◌-◌}
 use Rattle.legend_chains.proofs.ChainsLoop.{pieces_start, pieces_asks, pieces_turn, pieces_end}
 use borrow.Author.Rules.{rules}
 use Rattle.legend_chains.proofs.all_pieces.Goals as goal

@@ -1,4 +1,3 @@
-use Prim.Native.Nat.{◌-◌}
 use Rattle.merge_equals.proofs.Comparing.{equal_here, equal_next, equal_none}
 use borrow.Author.Rules.{rules}
 use Rattle.merge_equals.proofs.equal_among.Goals as goal

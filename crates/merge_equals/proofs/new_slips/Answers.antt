@@ -1,5 +1,4 @@
 use mathlib.Core.Path.{refl}
-use Prim.Native.Nat.{◌-◌}
 use Rattle.merge_equals.proofs.NewSteps.{found_none, found_slip, found_fits, found_room, found_old, found_new, found_total, found_all}
 use Rattle.merge_equals.proofs.new_slips.Goals as goal
 

@@ -1,4 +1,3 @@
-use Prim.Native.Nat.{◌-◌}
 use native.Mathlib.Numerals.{add-one}
 use Rattle.shortest_groups.proofs.SeekLoop.{seek_start, seek_asks, seek_end}
 use borrow.Author.Rules.{rules}

@@ -1,4 +1,3 @@
-use Prim.Native.Nat.{◌-◌}
 use Rattle.shortest_groups.proofs.FillLoop.{count_start, count_more, count_all}
 use borrow.Author.Rules.{rules}
 use Rattle.shortest_groups.proofs.fill_count.Goals as goal

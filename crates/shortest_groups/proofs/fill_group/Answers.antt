@@ -1,4 +1,3 @@
-use Prim.Native.Nat.{◌-◌}
 use Rattle.shortest_groups.proofs.StoreLoop.{storing_start, storing_more, storing_all}
 use borrow.Author.Rules.{rules}
 use Rattle.shortest_groups.proofs.fill_group.Goals as goal

@@ -1,4 +1,3 @@
-use Prim.Native.Nat.{◌-◌}
 use Rattle.shortest_groups.proofs.FillLoop.{groups_start, groups_more, groups_all}
 use borrow.Author.Rules.{rules}
 use Rattle.shortest_groups.proofs.fill_groups.Goals as goal

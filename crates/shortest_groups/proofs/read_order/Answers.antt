@@ -1,4 +1,4 @@
-use Prim.Native.Nat.{◌<◌, ◌-◌}
+use Prim.Native.Nat.{◌<◌}
 use native.Mathlib.Omega.{arith}
 use Rattle.trays.specs.Limits.{max_shortest}
 use Rattle.shortest_groups.proofs.ReadLoop.{read_start, read_asks, read_group, read_end, next_place, next_free, read_more}

@@ -1,4 +1,3 @@
-use Prim.Native.Nat.{◌-◌}
 use Rattle.shortest_pairs.proofs.PairLoops.{clear_room, rows_none, row_asks, rows_more, rows_all}
 use Rattle.shortest_pairs.proofs.fill_pairs.Goals as goal
 

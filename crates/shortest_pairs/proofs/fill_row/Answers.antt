@@ -1,4 +1,3 @@
-use Prim.Native.Nat.{◌-◌}
 use Rattle.shortest_pairs.proofs.PairLoops.{row_listed, place_listed, row_fits, place-fits, rows_fit, cell-fits, pair_asks, cell_room, pair_more, row_done}
 use Rattle.shortest_pairs.proofs.fill_row.Goals as goal
 

@@ -1,4 +1,3 @@
-use Prim.Native.Nat.{◌-◌}
 use Rattle.trie_children.proofs.Kids.{kids_start, kids_placed, kids_pass, kids_put, kids_room, kids_all}
 use Rattle.trie_children.proofs.fill_kids.Goals as goal
 

@@ -1,4 +1,3 @@
-use Prim.Native.Nat.{◌-◌}
 use Rattle.trie_children.proofs.Near.{near_start, near_can, near_more, near_few, near_all}
 use Rattle.trie_children.proofs.fill_near.Goals as goal
 

@@ -1,4 +1,3 @@
-use Prim.Native.Nat.{◌-◌}
 use Rattle.trie_children.proofs.Near.{row_start, row_branched, row_node, row_close, row_from, row_room, row_put, row_all}
 use Rattle.trie_children.proofs.fill_row.Goals as goal
 

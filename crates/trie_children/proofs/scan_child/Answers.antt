@@ -1,4 +1,3 @@
-use Prim.Native.Nat.{◌-◌}
 use Rattle.trie_children.proofs.Children.{scan_start, scan_lettered, scan_hit, scan_past, scan_more, scan_none}
 use Rattle.trie_children.proofs.scan_child.Goals as goal
 

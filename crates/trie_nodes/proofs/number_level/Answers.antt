@@ -1,6 +1,5 @@
 use native.Mathlib.Omega.{arith}
 use borrow.Author.Rules.{rules}
-use Prim.Native.Nat.{◌-◌}
 use Rattle.trie_nodes.proofs.StageLoops.{level-slip, level_start, level_letterable, level_letter, level_short, level_few, level-room, level-done}
 use Rattle.trie_nodes.proofs.number_level.Goals as goal
 use Rattle.trie_nodes.proofs.number_level.Goals.{then-place-span, else-place-span}

@@ -1,5 +1,4 @@
 use borrow.Author.Rules.{rules}
-use Prim.Native.Nat.{◌-◌}
 use Rattle.trie_nodes.proofs.StageLoops.{nodes_begin, nodes_next, nodes_all}
 use Rattle.trie_nodes.proofs.number_nodes.Goals as goal
 
