@@ -7,7 +7,7 @@ use mathlib.Core.List.{List, [], ◌∷◌, map}
 use Prim.Native.Nat.{ℕ, suc, ◌-◌, ◌≤◌}
 use borrow.Author.Tests.{not-false}
 use native.Mathlib.Omega.{arith}
-use lib.ListN.{length, take, drop, length-map}
+use lib.ListN.{take, drop, length-map}
 use Rattle.words.specs.Lists.{any}
 use Rattle.words.proofs.Tests.{neither}
 use Rattle.words.proofs.Maps.{take-map, drop-map}

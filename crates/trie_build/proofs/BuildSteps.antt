@@ -9,14 +9,14 @@ use Rattle.words.proofs.Members.{in_up_from, asc_up_from}
 use Rattle.tables.specs.Tables.{table, Filled}
 use Rattle.tables.proofs.Tables.{cells-below}
 use Rattle.trays.specs.Limits.{max_slips}
-use Rattle.trays.specs.Slips.{slips_of, numbers}
+use Rattle.trays.specs.Slips.{slips_of}
 use Rattle.trays.proofs.Accepted.{accepted_tells, slips_count}
 use Rattle.trie_order.specs.Order.{precedes, commons, Members, Sortable}
 use Rattle.trie_order.proofs.AllMembers.{all_sortable}
 use Rattle.trie_order.proofs.Precedes.{order_members}
 use Rattle.layout.specs.Layout.{MEMBERS, ORDER, COMMON}
 use Rattle.layout.specs.Tables.{members}
-use Rattle.trie_nodes.specs.Numbering.{Sorted, NodesFilled}
+use Rattle.trie_nodes.specs.Numbering.{NodesFilled}
 use Rattle.trie_links.specs.Links.{LinksFilled}
 use Rattle.trie_build.specs.Steps.Built.{Buildable, SortedAll, Built}
 

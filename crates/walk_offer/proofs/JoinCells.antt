@@ -14,7 +14,6 @@ use Rattle.words.proofs.Runs.{up_from_more}
 use Rattle.words.specs.Lists.{up_from}
 use Rattle.tables.specs.Tables.{Put}
 use Rattle.tables.proofs.Tables.{only-refl, cells-put, put-here, put_other}
-use Rattle.greedy.specs.Joins.{Join, join}
 use Rattle.answers.specs.Composing.{join_cells}
 use Rattle.layout.specs.Layout.{JOINS}
 use Rattle.layout.specs.Tables.{cell}

@@ -1,9 +1,9 @@
 -- One offer: what its calls ask, and what it leaves.
-use mathlib.Core.Path.{◌≡◌, refl, sym, ap, ◌∙◌}
+use mathlib.Core.Path.{◌≡◌, sym, ap, ◌∙◌}
 use mathlib.Core.List.{List, [], ◌∷◌, ◌++◌}
 use Prim.Native.Nat.{ℕ, ◌-◌, ◌≤◌, ◌<◌}
 use native.Mathlib.Omega.{arith}
-use lib.ListN.{length, set}
+use lib.ListN.{set}
 use Rattle.words.proofs.Members.{In}
 use Rattle.trays.specs.Limits.{max_slips}
 use Rattle.tables.proofs.Tables.{only-refl}
@@ -11,7 +11,6 @@ use Rattle.greedy.specs.Joins.{Join, join, last_of}
 use Rattle.greedy.proofs.Scans as S
 use Rattle.layout.specs.Staging.{joins_in}
 use Rattle.walk_offer.specs.Steps.Runs.{enders_from, mark}
-use Rattle.walk_offer.specs.Steps.Marks.{Marks}
 use Rattle.walk_offer.specs.Steps.Offers.{Chooses, partner_in, JoinsMade, CanJoin, JoinPut, EndsFit, EndsJoined, Joinable, Offers}
 use Rattle.walk_offer.proofs.ScanLaws.{MarksOf, partner-among, partner_marks, offer_taken, offer_none, offer_made}
 use Rattle.walk_offer.proofs.MarkLaws.{left-mark, right_mark, last_mark, last_some, marks_room, ends_fit, marks_join}

@@ -1,4 +1,3 @@
-use Prim.Native.Nat.{◌-◌}
 use borrow.Author.Rules.{rules}
 use Rattle.compose_names.proofs.NameLoops.{rows_none, made_asks, made_more, made_all}
 use Rattle.compose_names.proofs.make_records.Goals as goal

@@ -1,4 +1,3 @@
-use Prim.Native.Nat.{◌-◌}
 use borrow.Author.Rules.{rules}
 use Rattle.compose_names.proofs.NameLoops.{rows_none, named_asks, named_more, named_all}
 use Rattle.compose_names.proofs.name_joins.Goals as goal

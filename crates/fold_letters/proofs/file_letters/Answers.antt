@@ -1,6 +1,5 @@
 use Rattle.fold_letters.proofs.Loops.{filed_more, filed_all}
 use lib.ListN.{length-set}
-use Prim.Native.Nat.{◌-◌}
 use borrow.Author.Rules.{rules}
 use Rattle.fold_letters.proofs.file_letters.Goals as goal
 

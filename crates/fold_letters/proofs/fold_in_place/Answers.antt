@@ -1,4 +1,3 @@
-use Prim.Native.Nat.{◌-◌}
 use lib.ListN.{length-set}
 use Rattle.fold_letters.proofs.Loops.{placed_more, placed_all}
 use borrow.Author.Rules.{rules}

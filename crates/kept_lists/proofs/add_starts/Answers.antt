@@ -1,4 +1,3 @@
-use Prim.Native.Nat.{◌-◌}
 use Rattle.kept_lists.proofs.StartLoop.{beginning_start, beginning_place, beginning_can, beginning_more, beginning_all}
 use Rattle.kept_lists.proofs.AffixLoop.{added-some, added-most}
 use Rattle.kept_lists.proofs.add_starts.Goals as goal

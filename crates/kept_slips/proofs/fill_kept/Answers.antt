@@ -1,5 +1,4 @@
 use mathlib.Core.Path.{refl}
-use Prim.Native.Nat.{◌-◌}
 use Rattle.trie_heads.proofs.Keeping.{kept_refl, kept_trans, kept_put}
 use Rattle.kept_slips.proofs.KeptLoop.{sifting_start, sifting_judged, sifting_aside, sifting_can, sifting_kept, sifting_all}
 use borrow.Author.Rules.{rules}

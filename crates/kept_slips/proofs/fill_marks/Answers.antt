@@ -1,4 +1,3 @@
-use Prim.Native.Nat.{◌-◌}
 use Rattle.trie_heads.proofs.Keeping.{kept_refl, kept_trans, kept_put}
 use Rattle.kept_slips.proofs.MarkLoop.{marking_room, marking_start, marking_place, marking_can, marking_more, marking_all}
 use Rattle.kept_slips.proofs.fill_marks.Goals as goal

@@ -1,5 +1,4 @@
 use mathlib.Core.List.{[]}
-use Prim.Native.Nat.{◌-◌}
 use Rattle.legend_counts.proofs.SumLoops.{kept_asks, kept-fits, kept-bound, kept_more, total_end}
 use borrow.Author.Rules.{rules}
 use Rattle.legend_counts.proofs.kept_letters.Goals as goal

@@ -1,4 +1,3 @@
-use Prim.Native.Nat.{◌-◌}
 use Rattle.legend_counts.proofs.SumLoops.{thirds_more, thirds_end}
 use borrow.Author.Rules.{rules}
 use Rattle.legend_counts.proofs.saved_letters.Goals as goal

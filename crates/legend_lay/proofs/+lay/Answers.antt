@@ -1,4 +1,3 @@
-use borrow.Author.Rules.{rules}
 use native.Mathlib.Omega.{arith}
 use Rattle.legend_lay.proofs.LayStep.{lay_one, lay_rest, lay_both}
 use Rattle.legend_lay.proofs.+lay.Goals as goal

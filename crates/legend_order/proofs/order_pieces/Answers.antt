@@ -1,4 +1,3 @@
-use Prim.Native.Nat.{◌-◌}
 use Rattle.legend_order.proofs.OrderLoop.{arranging_none, slip_asks, need_fits, arranging_more, arranging_all}
 use Rattle.legend_order.proofs.order_pieces.Goals as goal
 

@@ -1,4 +1,3 @@
-use Prim.Native.Nat.{◌-◌}
 use Rattle.legend_places.proofs.PlacesLoop.{aside_asks, aside_turn, aside_same, aside_end}
 use borrow.Author.Rules.{rules}
 use Rattle.legend_places.proofs.aside_places.Goals as goal

@@ -1,4 +1,3 @@
-use Prim.Native.Nat.{◌-◌}
 use Rattle.legend_places.proofs.PlacesLoop.{placing_start, placing_asks, placing_turn, placing_end}
 use Rattle.legend_places.proofs.kept_places.Goals as goal
 

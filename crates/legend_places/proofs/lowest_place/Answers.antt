@@ -1,4 +1,3 @@
-use Prim.Native.Nat.{◌-◌}
 use Rattle.legend_places.proofs.LowestPlace.{trial_start, trial_last, trial_other, trial_agrees, trial_differs}
 use Rattle.legend_places.proofs.LowestPlace.{short_place, short_count, whole-place, whole_count}
 use borrow.Author.Rules.{rules}

@@ -1,6 +1,4 @@
-use Prim.Native.Nat.{◌-◌, ◌≤◌}
 use native.Mathlib.Omega.{arith}
-use lib.ListN.{length}
 use Rattle.merge_trays.proofs.SideLoop.{first-room, putting_none, putting_same, putting_all, slip_real, putting_more}
 use Rattle.merge_trays.proofs.write_sides.Goals as goal
 

@@ -1,4 +1,3 @@
-use Prim.Native.Nat.{◌-◌}
 use Rattle.tray_index.proofs.Passing.{pass_none, pass_asks, pass_more, pass_stop, pass_all, other_length}
 use Rattle.tray_index.proofs.is_index.Goals as goal
 

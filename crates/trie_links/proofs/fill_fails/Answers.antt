@@ -1,4 +1,3 @@
-use Prim.Native.Nat.{◌-◌}
 use Rattle.trie_links.proofs.Fails.{fails_start, fails_can, fails_room, fails_put, fails_all}
 use Rattle.trie_links.proofs.fill_fails.Goals as goal
 

@@ -1,4 +1,3 @@
-use Prim.Native.Nat.{◌-◌}
 use Rattle.trie_outputs.proofs.OutputsLoop.{filling_root, filling_start, filling_telling, filling_out, filling_tally, filling_more, filling_all}
 use Rattle.trie_outputs.proofs.fill_outputs.Goals as goal
 

@@ -1,4 +1,3 @@
-use Prim.Native.Nat.{◌-◌}
 use Rattle.trie_outputs.proofs.OwnersLoop.{owners_head, counting_start, counting_room, counting_less, counting_more, counting_all}
 use Rattle.trie_outputs.proofs.owners_of.Goals as goal
 

@@ -1,4 +1,3 @@
-use Prim.Native.Nat.{◌-◌}
 use Rattle.walk_offer.proofs.MarkLaws.{own_start, own_turn, own_end}
 use Rattle.walk_offer.proofs.own_marks.Goals as goal
 
