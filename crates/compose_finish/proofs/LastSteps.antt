@@ -23,7 +23,7 @@ use Rattle.trays.specs.Faults.{refusal, first_row}
 use Rattle.trays.proofs.Accepted.{accepted_tells, slips_count, numbers_count}
 use Rattle.greedy.specs.Joins.{Join, right_of, saved}
 use Rattle.greedy.specs.Composing.{Composing, whole, joins_of, legend_of, kept_letters}
-use Rattle.greedy.specs.Legends.{pieces, pieces_for}
+use Rattle.greedy.specs.Legends.{pieces_for}
 use Rattle.greedy.proofs.Relabel.{plain_in}
 use Rattle.greedy.proofs.GreedyLegends.{greedy_of}
 use Rattle.greedy.proofs.Chosen.{numbers_real}

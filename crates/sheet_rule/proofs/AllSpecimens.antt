@@ -2,7 +2,7 @@
 -- Modules are checked in the order of their names: an edited layout is refused here first.
 use mathlib.Core.Path.{◌≡◌, refl}
 use mathlib.Core.List.{List, [], ◌∷◌, ◌++◌, map}
-use Prim.Native.Nat.{ℕ, ◌+◌}
+use Prim.Native.Nat.{ℕ}
 use lib.ListN.{replicate}
 use Rattle.words.specs.Quoted.{word}
 use Rattle.trays.specs.Faults.{refusal, tray_fault}

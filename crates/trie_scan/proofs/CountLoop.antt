@@ -3,14 +3,14 @@
 --   counting-..                          == the turns of the loop
 use mathlib.Core.Path.{◌≡◌, refl, sym, ap, ap₂, ◌∙◌}
 use mathlib.Core.List.{List, [], map}
-use Prim.Native.Nat.{ℕ, suc, ◌+◌, ◌-◌, ◌*◌, ◌≤◌, ◌<◌}
+use Prim.Native.Nat.{ℕ, suc, ◌+◌, ◌*◌, ◌≤◌, ◌<◌}
 use native.Mathlib.Omega.{arith}
 use lib.ListN.{length, get_or, take, drop, length-append, length-map, drop_of_length-le}
 use Rattle.trays.specs.Limits.{max_text}
 use Rattle.trays.specs.Slips.{slips_of, slip}
 use Rattle.tables.specs.Tables.{Got}
 use Rattle.matching.specs.Moves as Moves
-use Rattle.matching.specs.Steps.Nodes.{nodes_of, string, IsNode}
+use Rattle.matching.specs.Steps.Nodes.{string, IsNode}
 use Rattle.matching.specs.Occurrences as Occurrences
 use Rattle.matching.specs.Occurrences.{ending_at, occurrences}
 use Rattle.matching.proofs.States.{few_from}
@@ -19,7 +19,6 @@ use Rattle.layout.specs.Layout.{TALLY}
 use Rattle.layout.specs.Numbered.{patterns_in}
 use Rattle.trie_links.specs.Links.{StepIs, CanStep}
 use Rattle.trie_links.proofs.Steps.{node_within, state_none, state_next, moves_next, moves_least}
-use Rattle.trie_scan.specs.declared.TextCounts.{TextCounts}
 use Rattle.trie_scan.specs.Steps.Scanning.{occurs_from, Able, TextCountsAre}
 use Rattle.trie_scan.proofs.Occurs.{slips_all, occurs_all, occurs_next, occurs_none}
 use Rattle.trie_scan.proofs.Scans.{able_endings, able_few, able_steps}

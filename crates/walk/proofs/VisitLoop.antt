@@ -1,11 +1,10 @@
 -- A visit, slip by slip.
 --   Visiting .. w made l r ..  == what is left of the visit from the slips l and r on makes of the joins in w what the whole visit makes
-use mathlib.Core.Path.{◌≡◌, refl, sym, ap, ◌∙◌}
+use mathlib.Core.Path.{◌≡◌, sym, ap, ◌∙◌}
 use mathlib.Core.List.{List, ◌∷◌}
-use Prim.Native.Nat.{ℕ, ◌-◌, ◌<◌}
+use Prim.Native.Nat.{ℕ, ◌<◌}
 use native.Mathlib.Omega.{arith}
 use lib.ListN.{length}
-use Rattle.words.proofs.Members.{In}
 use Rattle.tables.specs.Tables.{Cells, Only, Got}
 use Rattle.tables.proofs.Tables.{only-refl, only_trans}
 use Rattle.greedy.specs.Joins.{Join}

@@ -13,7 +13,7 @@ use Rattle.words.proofs.Picks.{those-same, those_none}
 use Rattle.words.proofs.Sums.{all_in, asc_once, length_sum}
 use Rattle.trays.specs.Limits.{max_slips, max_slip}
 use Rattle.trays.specs.Slips.{slips_of}
-use Rattle.trays.specs.Aside.{kept, not_stops, counted}
+use Rattle.trays.specs.Aside.{not_stops, counted}
 use Rattle.trays.proofs.Stops.{counted_counts, counted_long, counted_short}
 use Rattle.tables.specs.Tables.{Cells, Only}
 use Rattle.tables.proofs.Tables.{only-refl, only_trans}

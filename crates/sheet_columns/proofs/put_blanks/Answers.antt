@@ -1,4 +1,3 @@
-use Prim.Native.Nat.{◌-◌}
 use Rattle.sheet_columns.proofs.ColumnLoops.{blanks_start, blanks_turn, blanks_end}
 use borrow.Author.Rules.{rules}
 use Rattle.sheet_columns.proofs.put_blanks.Goals as goal

@@ -1,4 +1,3 @@
-use Prim.Native.Nat.{◌-◌}
 use Rattle.sheet_columns.proofs.Puts.{put_none}
 use Rattle.sheet_lines.proofs.LineLoops.{founds_end, found_place, found_slip, found_turn}
 use native.Mathlib.Omega.{arith}

@@ -1,4 +1,3 @@
-use Prim.Native.Nat.{◌-◌}
 use Rattle.sheet_columns.proofs.Puts.{put_none}
 use Rattle.sheet_lines.proofs.LineLoops.{joins_end, join-left, join_right, join_shared, join_turn}
 use native.Mathlib.Omega.{arith}

@@ -1,4 +1,3 @@
-use Prim.Native.Nat.{◌-◌}
 use Rattle.sheet_columns.proofs.Puts.{put_none}
 use Rattle.sheet_lines.proofs.LineLoops.{slips_end, slip-some, slip-there, slip_few, span_rises, span_small, slip_placed, slip_turn}
 use native.Mathlib.Omega.{arith}

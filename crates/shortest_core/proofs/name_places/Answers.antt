@@ -1,4 +1,3 @@
-use Prim.Native.Nat.{◌-◌}
 use Rattle.shortest_core.proofs.OrderSteps.{naming_none, place-fits, place_listed, known_fits, place_known, name_room, naming_more, naming_all}
 use Rattle.shortest_core.proofs.name_places.Goals as goal
 

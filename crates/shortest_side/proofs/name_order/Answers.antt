@@ -1,4 +1,3 @@
-use Prim.Native.Nat.{◌-◌}
 use Rattle.shortest_side.proofs.NameSteps.{naming_none, name_fits, name_listed, name_room, name_some, name_known, naming_more, naming_all}
 use Rattle.shortest_side.proofs.name_order.Goals as goal
 

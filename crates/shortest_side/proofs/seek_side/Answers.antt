@@ -3,7 +3,6 @@ use Rattle.shortest_side.proofs.SideSteps.{order_can, named_sought, side_sought}
 use borrow.Author.Rules.{rules}
 use Rattle.shortest_side.proofs.seek_side.Goals as goal
 
--- what is behind the moments at which the slips of the side are chosen, and their order is sought
 pub side_slips-own-requires : goal.side_slips-own-requires
 side_slips-own-requires c = search sides_few
 
@@ -24,15 +23,11 @@ slice_bounds-name_order-end c = search slips_counted
 
 pub name_order-named-requires : goal.name_order-named-requires
 name_order-named-requires c =
-    let found = sought c in
-    let own = chosen found in
-    order_can c.args.settings _ _ _ _ (side_cut _ _ _ c.requires.accepted _ _ own.side-slips.ensures) _ _ _ _
-    found.seek-cut.ensures _ (search rules)
+    order_can c.args.settings _ _ _ _ (side_cut _ _ _ c.requires.accepted _ _ c.side_slips-own.ensures) _ _ _ _
+    c.seek_cut-found.ensures _ (search rules)
 
 pub returns : goal.returns
 returns c =
-    let found = sought c in
-    let own = chosen found in
-    side_sought _ _ _ own.side-slips.ensures _ _ _ _ _ _
-    (named_sought c.args.settings _ _ _ _ (side_cut _ _ _ c.requires.accepted _ _ own.side-slips.ensures) _ _ _ _
-    found.seek-cut.ensures _ c.whole.ensures _ c.name_order-named.ensures)
+    side_sought _ _ _ c.side_slips-own.ensures _ _ _ _ _ _
+    (named_sought c.args.settings _ _ _ _ (side_cut _ _ _ c.requires.accepted _ _ c.side_slips-own.ensures) _ _ _ _
+    c.seek_cut-found.ensures _ c.whole.ensures _ c.name_order-named.ensures)

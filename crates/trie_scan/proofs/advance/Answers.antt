@@ -1,4 +1,3 @@
-use Prim.Native.Nat.{◌-◌}
 use Rattle.trie_scan.proofs.Scans.{reaching_start, reaching_unread, reaching_less, reaching_more, reaching_all}
 use Rattle.trie_scan.proofs.advance.Goals as goal
 

@@ -1,4 +1,3 @@
-use Prim.Native.Nat.{◌-◌}
 use Rattle.trie_scan.proofs.CountLoop.{counting_start, counting_steps, counting_drop, counting_moves}
 use Rattle.trie_scan.proofs.CountLoop.{counting_tally, counting_found, counting_more, counting_all}
 use Rattle.trie_scan.proofs.count_text.Goals as goal

@@ -1,4 +1,3 @@
-use Prim.Native.Nat.{◌-◌}
 use Rattle.walk.proofs.RowLoop.{row_ends, row_start, row_visits, row_turn, row_end}
 use Rattle.walk.proofs.walk_row.Goals as goal
 
