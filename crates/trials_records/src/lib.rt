@@ -90,8 +90,8 @@ pub fn compose_two(
     mut joins: [Join; 2],
     mut places: [Place; 2],
 ) -> CompositionTwo
-    ensures { ComposeSays settings letters.now ends.now sides.now work.old work.new
-        legend.old legend.new joins result.joins places result.places result.answer }
+    ensures { ComposeSays settings letters.now ends.now sides.now work.old work.new legend.old legend.new
+        joins result.joins places result.places result.answer }
 {
     let answer = compose_tray::compose_tray(
         letters,
@@ -117,8 +117,8 @@ pub fn find_two(
     work: &mut [u16],
     mut found: [Found; 2],
 ) -> FindingTwo
-    ensures { FindSays letters.now ends.now text.now work.old work.new
-        found result.found result.answer }
+    ensures { FindSays letters.now ends.now text.now work.old work.new found
+        result.found result.answer }
 {
     let answer = find_slips::find_slips(letters, ends, text, work, &mut found);
     FindingTwo { answer, found }
