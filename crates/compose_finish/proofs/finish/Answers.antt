@@ -27,7 +27,6 @@ write_out-requires c = search write_can
 pub outcome-requires : goal.outcome-requires
 outcome-requires c = search outcome_can
 
--- what is behind the moment at which the answer is made up: `search` does not find its way past more records, so these are no lets
 pub returns : goal.returns
 returns c =
     ends_good _ _ _ _ _ _ _ _ c.requires _ (search rules) _ _ _ (search rules) _ (search rules) _ _ _ (search rules) (search rules)

@@ -1,7 +1,6 @@
 use Rattle.legend_write.proofs.StageSteps.{places_asks, aside_asks, places_same, places_given}
 use Rattle.legend_write.proofs.write_places.Goals as goal
 
--- what is behind the moment at which the places of the kept slips are written
 pub kept_places-requires : goal.kept_places-requires
 kept_places-requires c = search places_asks
 

@@ -2,7 +2,6 @@ use mathlib.Core.Path.{refl}
 use Rattle.merge_equals.proofs.NewSteps.{found_none, found_slip, found_fits, found_room, found_old, found_new, found_total, found_all}
 use Rattle.merge_equals.proofs.new_slips.Goals as goal
 
--- where the function starts, from the head of the loop
 pub loop-i-init : goal.loop-i-init
 loop-i-init c = search found_none
 

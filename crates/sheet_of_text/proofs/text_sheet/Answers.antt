@@ -1,7 +1,6 @@
 use Rattle.sheet_of_text.proofs.TextSteps.{refused_can, text_refused, found_within, found_count, lines_can, text_printed}
 use Rattle.sheet_of_text.proofs.text_sheet.Goals as goal
 
--- where the function starts, from behind its first call
 pub refused_line-requires : goal.refused_line-requires
 refused_line-requires c =
     refused_can _ _ _ _ _ _ c.requires _ _ _ c.find_flat-a.ensures c.if-a-ne0.true

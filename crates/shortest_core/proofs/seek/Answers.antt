@@ -2,7 +2,6 @@ use Rattle.shortest_core.proofs.SeekSteps.{many_finished, kept_can, seek_can, wr
 use borrow.Author.Rules.{rules}
 use Rattle.shortest_core.proofs.seek.Goals as goal
 
--- what is behind the moment at which the kept slips are copied
 pub returns-then-k-gt-MAX_SHORTEST : goal.returns-then-k-gt-MAX_SHORTEST
 returns-then-k-gt-MAX_SHORTEST c = search many_finished
 

@@ -1,7 +1,6 @@
 use Rattle.walk_offer.proofs.OfferStep.{offer_refused, offer_chooses, offer_nobody, offer_joinable, offer_joins}
 use Rattle.walk_offer.proofs.offer.Goals as goal
 
--- where the function starts, from behind its first call
 pub returns-then-taken-ne0 : goal.returns-then-taken-ne0
 returns-then-taken-ne0 c =
     offer_refused c.requires c.mark_of-taken.ensures c.if-taken-ne0.true
