@@ -1,6 +1,5 @@
 /* What the sample does not reach: the version, the words of every refusal, slips that are not there, lists that just hold what is written, and sides: the
- * records of each, sides without slips, and what is refused before them, by them and after them. Of an index: what is written and what is not, stretches
- * without slips, lists that are no index, and the order of what is refused. */
+ * records of each, sides without slips, and what is refused before them, by them and after them. */
 #include "kotsghane_structs.h"
 #include <inttypes.h>
 #include <stdio.h>
@@ -192,78 +191,6 @@ static void say_read(size_t room) {
     printf("%.3s %.2s, end %u\n", (const char *)lent.letters, (const char *)lent.sides, lent.ends[0]);
 }
 
-/* Writes the index of a tray into `room` of seven entries, and prints the answer and all seven. */
-static void say_index(kotsghane_tray tray, size_t room) {
-    uint16_t index[] = {9, 9, 9, 9, 9, 9, 9};
-    kotsghane_indexed indexed = kotsghane_index_tray(tray, index, room);
-    printf("index %" PRIu32 " %" PRIu32 ", slips %" PRIu32 ":", indexed.number, indexed.detail, indexed.slips);
-    for (size_t i = 0; i < sizeof index / sizeof *index; i++) {
-        printf(" %u", index[i]);
-    }
-    printf("\n");
-}
-
-/* Looks up typed letters in a list, and prints the first of them, the answer and the slips. */
-static void say_beginning(kotsghane_tray tray, const uint16_t *index, size_t entries, const char *typed) {
-    kotsghane_stretch s = kotsghane_beginning_stretch(tray, index, entries, (const uint8_t *)typed, strlen(typed));
-    printf("(%.4s) %" PRIu32 " %" PRIu32 ", %" PRIu32 " to %" PRIu32 ":", typed, s.number, s.detail, s.start, s.end);
-    for (uint32_t i = s.start; i < s.end; i++) {
-        printf(" %u", index[i]);
-    }
-    printf("\n");
-}
-
-/* Looks up beginnings in AB, A, ABC, B, AB: those that slips have, those that none has, bytes that are no letters, and as many letters as may be typed, and one
- * more. */
-static void say_beginnings(kotsghane_tray five) {
-    static const uint16_t index[] = {2, 1, 5, 3, 4};
-    static const char *const typed[] = {"", "A", "AB", "ABC", "B", ".", "AA", "ABB", "ABCD", "AZ", "B.", "a", "Aa", "AB "};
-    char many[KOTSGHANE_MAX_TEXT + 2] = "";
-    for (size_t i = 0; i < sizeof typed / sizeof *typed; i++) {
-        say_beginning(five, index, 5, typed[i]);
-    }
-    memset(many, 'A', KOTSGHANE_MAX_TEXT);
-    say_beginning(five, index, 5, many);
-    many[KOTSGHANE_MAX_TEXT] = 'a';
-    say_beginning(five, index, 5, many);
-}
-
-/* Looks up AB, and then a small letter, in lists that are not the index of AB, A, ABC, B, AB. */
-static void say_no_index(kotsghane_tray five) {
-    static const uint16_t equals[] = {2, 5, 1, 3, 4}, longer[] = {2, 1, 5, 3, 4, 0}, above[] = {2, 1, 5, 3, 6}, twice[] = {2, 1, 1, 3, 4};
-    say_beginning(five, equals, 5, "AB");
-    say_beginning(five, longer, 4, "AB");
-    say_beginning(five, longer, 6, "AB");
-    say_beginning(five, longer, 0, "AB");
-    say_beginning(five, above, 5, "AB");
-    say_beginning(five, twice, 5, "AB");
-    say_beginning(five, equals, 5, "a");
-}
-
-/* The index of AB, A, ABC, B, AB; of the tray without slips; and of A, .A, where the full stop comes first. Then trays and sides that are refused, before
- * anything is asked of the list and of what is typed. */
-static void say_indexes(void) {
-    static const uint16_t ends[] = {2, 3, 6, 7, 9}, two[] = {1, 3}, index[] = {2, 1};
-    kotsghane_tray five = kotsghane_blank_tray((const uint8_t *)"ABAABCBAB", 9, ends, 5), empty = kotsghane_blank_tray(NULL, 0, NULL, 0);
-    kotsghane_tray stop = kotsghane_blank_tray((const uint8_t *)"A.A", 3, two, 2), small = kotsghane_blank_tray((const uint8_t *)"aBA", 3, two, 2);
-    say_index(five, 7);
-    say_index(five, 5);
-    say_index(five, 4);
-    say_beginnings(five);
-    say_no_index(five);
-    say_index(empty, 0);
-    say_beginning(empty, NULL, 0, "");
-    say_beginning(empty, NULL, 0, "A");
-    say_beginning(empty, index, 1, "A");
-    say_index(stop, 2);
-    say_beginning(stop, index, 2, ".");
-    say_index(small, 0);
-    say_beginning(small, index, 0, "a");
-    stop.sides_len = 1;
-    say_index(stop, 0);
-    say_beginning(stop, index, 0, "a");
-}
-
 int main(void) {
     static const uint16_t ends[] = {7, 10, 17, 23, 27};
     kotsghane_tray five = kotsghane_blank_tray((const uint8_t *)"IMPCAESAESCAESAVGVGPIVSSIMP", 27, ends, 5);
@@ -290,6 +217,5 @@ int main(void) {
     say_kept();
     say_read(KOTSGHANE_FILE_ENDS);
     say_read(KOTSGHANE_FILE_ENDS - 1);
-    say_indexes();
     return 0;
 }

@@ -30,12 +30,11 @@
 #include <stddef.h>
 #include <stdint.h>
 
-/* The version, which is that of the Rust crate too. As long as it begins with 0, a change that callers must follow raises the second number, and one that
- * only adds raises the third. */
+/* The version, which is that of the Rust crate too. As long as it begins with 0, a change that callers must follow raises the second number. */
 #define KOTSGHANE_VERSION_MAJOR 0
 #define KOTSGHANE_VERSION_MINOR 2
-#define KOTSGHANE_VERSION_PATCH 1
-#define KOTSGHANE_VERSION "0.2.1"
+#define KOTSGHANE_VERSION_PATCH 0
+#define KOTSGHANE_VERSION "0.2.0"
 
 #ifdef __cplusplus
 extern "C" {
@@ -50,10 +49,10 @@ enum {
 
 /* Limits, and how much must be lent, each with the number that refuses what is beyond it. */
 enum {
-    KOTSGHANE_MAX_SLIPS = 200,     /* slips of a tray (1), and so entries of an index; and ends, and sides, to lend for two trays merged (15) */
+    KOTSGHANE_MAX_SLIPS = 200,     /* slips of a tray (1), and ends, and sides, to lend for two trays merged (15) */
     KOTSGHANE_MAX_SLIP = 32,       /* letters of a slip (3) */
     KOTSGHANE_MAX_LETTERS = 2000,  /* letters of a tray (4), and so of a legend; and letters to lend for two trays merged (15) */
-    KOTSGHANE_MAX_TEXT = 2000,     /* letters of a text, and letters typed (12) */
+    KOTSGHANE_MAX_TEXT = 2000,     /* letters of a text (12) */
     KOTSGHANE_WORK = 32000,        /* cells of the work area (7) */
     KOTSGHANE_MAX_FILE = 16384,    /* bytes of a tray file (16), and letters to lend for one (15) */
     KOTSGHANE_FILE_ENDS = 1700,    /* ends, and sides, to lend for a tray file (15) */
@@ -73,13 +72,11 @@ enum kotsghane_refusal {
     KOTSGHANE_REFUSED_BAD_SLIP_BYTE = 6,                /* a byte is neither A to Z nor the full stop. Detail: the slip */
     KOTSGHANE_REFUSED_WORK_AREA_TOO_SMALL = 7,          /* fewer than KOTSGHANE_WORK cells are lent */
     KOTSGHANE_REFUSED_LEGEND_BUFFER_TOO_SMALL = 8,      /* the legend is longer than its buffer. Detail: how many letters the legend has */
-    KOTSGHANE_REFUSED_JOIN_OR_PLACE_LIST_TOO_SMALL = 9, /* more joins, or more slips of the side, than fit the lists lent. Detail: joins, perhaps 0. Or more
-                                                         * slips of the tray than fit the list lent for its index. Detail: slips */
+    KOTSGHANE_REFUSED_JOIN_OR_PLACE_LIST_TOO_SMALL = 9, /* more joins, or more slips of the side, than fit the lists lent. Detail: joins, perhaps 0 */
     KOTSGHANE_REFUSED_NO_SUCH_SLIP = 10,                /* a slip number is 0 or above the count of slips. Detail: that number, perhaps 0 */
     KOTSGHANE_REFUSED_SAME_SLIP_TWICE = 11,             /* a pair is one slip with itself. Detail: the slip */
-    KOTSGHANE_REFUSED_TEXT_TOO_LONG = 12,               /* the text, or what was typed, has more than KOTSGHANE_MAX_TEXT bytes */
-    KOTSGHANE_REFUSED_BAD_TEXT_BYTE = 13,               /* a byte of the text, or of what was typed, is neither A to Z nor the full stop. Detail: its place,
-                                                         * from 1 */
+    KOTSGHANE_REFUSED_TEXT_TOO_LONG = 12,               /* the text has more than KOTSGHANE_MAX_TEXT bytes */
+    KOTSGHANE_REFUSED_BAD_TEXT_BYTE = 13,               /* a byte is neither A to Z nor the full stop. Detail: its place, from 1 */
     KOTSGHANE_REFUSED_FOUND_LIST_TOO_SMALL = 14,        /* more occurrences than their list takes. Detail: how many occurrences */
     KOTSGHANE_REFUSED_TRAY_BUFFERS_TOO_SMALL = 15,      /* too few letters, ends or sides are lent for a tray that is read or merged */
     KOTSGHANE_REFUSED_FILE_TOO_LONG = 16,               /* the tray file has more than KOTSGHANE_MAX_FILE bytes */
@@ -88,9 +85,8 @@ enum kotsghane_refusal {
     KOTSGHANE_REFUSED_WRONG_LENGTH = 19,                /* the length on a line is not the count of its letters. Detail: the line */
     KOTSGHANE_REFUSED_TOO_MANY_KEPT_SLIPS = 20,         /* the shortest legend is sought, and more than KOTSGHANE_MAX_SHORTEST slips of the side are kept */
     KOTSGHANE_REFUSED_LEAST_OVERLAP_OUT_OF_RANGE = 21,  /* the least overlap is 0 or more than KOTSGHANE_MAX_LEAST */
-    KOTSGHANE_REFUSED_BAD_SIDE = 22,                    /* there is not one side for each slip; or one of them, or the side named, is none of the three:
+    KOTSGHANE_REFUSED_BAD_SIDE = 22                     /* there is not one side for each slip; or one of them, or the side named, is none of the three:
                                                          * lend one for each slip, and KOTSGHANE_BLANK where none is known */
-    KOTSGHANE_REFUSED_WRONG_INDEX = 23                  /* the list handed in is another one than the index of the tray, perhaps only longer or shorter */
 };
 
 /* How many numbers a record of each list has, and which. */
@@ -139,12 +135,6 @@ enum { KOTSGHANE_READ_LETTERS = 2, KOTSGHANE_READ_SLIPS, KOTSGHANE_READ_NUMBERS 
 
 /* The answer of kotsghane_merge: the same. */
 enum { KOTSGHANE_MERGED_LETTERS = 2, KOTSGHANE_MERGED_SLIPS, KOTSGHANE_MERGED_NUMBERS };
-
-/* The answer of kotsghane_index: nothing more. */
-enum { KOTSGHANE_INDEX_NUMBERS = 2 };
-
-/* The answer of kotsghane_beginning: the slips that start with the typed letters are index[start] up to, but not including, index[end]. */
-enum { KOTSGHANE_BEGINNING_START = 2, KOTSGHANE_BEGINNING_END, KOTSGHANE_BEGINNING_NUMBERS };
 
 /* Composes one side of a tray. Ordered pairs of its kept slips that overlap by at least `least` letters are taken by longer overlap, then by smaller overlap
  * string, then by lower right slip, then by lower left slip. A pair becomes a join unless its left slip has been joined on its right already, its right slip
@@ -200,23 +190,6 @@ void kotsghane_merge(const uint8_t *letters1, size_t letters1_len, const uint16_
                      const uint8_t *letters2, size_t letters2_len, const uint16_t *ends2, size_t ends2_len, const uint8_t *sides2,
                      size_t sides2_len, uint8_t *letters, size_t letters_len, uint16_t *ends, size_t ends_len, uint8_t *sides, size_t sides_len,
                      uint32_t answer[KOTSGHANE_MERGED_NUMBERS]);
-
-/* Writes the index of a tray: the numbers of all its slips, whatever their sides, ordered by letters. The order of letters is that of bytes, in which the full
- * stop comes before A. A slip comes before longer ones that start with it, and equal slips come by number. Every tray has one index, with an entry for each
- * slip. No side is named, and no work area is lent; KOTSGHANE_MAX_SLIPS entries suffice for any tray. Refusals 1 to 6; 22; and then 9, if fewer entries are
- * lent than there are slips, with the number of slips as detail. */
-void kotsghane_index(const uint8_t *letters, size_t letters_len, const uint16_t *ends, size_t ends_len, const uint8_t *sides, size_t sides_len,
-                     uint16_t *index, size_t index_len, uint32_t answer[KOTSGHANE_INDEX_NUMBERS]);
-
-/* Looks up, in the index of a tray, the slips that start with the typed letters, whatever their sides: they stand there one after another. Where nothing is
- * typed, that is the whole index. Where no slip starts so, the stretch is empty: start and end are both the place where such a slip would stand. Typed letters
- * are not folded: a small one is refused by 13.
- *
- * The index must be that of this very tray, as kotsghane_index writes it: any other list is refused by 23, even if only longer or shorter. So index_len is the
- * number of slips, though more entries may have been lent. Refusals 1 to 6, 22, 23, 12 and 13, in this order. */
-void kotsghane_beginning(const uint8_t *letters, size_t letters_len, const uint16_t *ends, size_t ends_len, const uint8_t *sides, size_t sides_len,
-                         const uint16_t *index, size_t index_len, const uint8_t *typed, size_t typed_len,
-                         uint32_t answer[KOTSGHANE_BEGINNING_NUMBERS]);
 
 #ifdef __cplusplus
 }

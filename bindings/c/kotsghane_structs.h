@@ -3,10 +3,10 @@
  * nothing more to link. They do not allocate, and have no state.
  *
  * The functions are kotsghane_read_tray_file, kotsghane_compose_tray, kotsghane_shortest_legend, kotsghane_find_slips, kotsghane_slip_span,
- * kotsghane_pair_overlap, kotsghane_merge_trays, kotsghane_index_tray and kotsghane_beginning_stretch, one for each call. Each returns a struct, in which
- * `number` is KOTSGHANE_ACCEPTED or, if the call is refused, one of KOTSGHANE_REFUSED_...; then `detail` is the detail of the refusal, and all counts are 0.
- * kotsghane_refusal_text puts a number into words, and kotsghane_detail_text what its detail is: both stand in kotsghane_refusals.h, which this file includes.
- * kotsghane_slip_letters gives the letters of one slip. kotsghane_blank_tray makes a tray for callers who know no sides.
+ * kotsghane_pair_overlap and kotsghane_merge_trays, one for each call. Each returns a struct, in which `number` is KOTSGHANE_ACCEPTED or, if the call is
+ * refused, one of KOTSGHANE_REFUSED_...; then `detail` is the detail of the refusal, and all counts are 0. kotsghane_refusal_text puts a number into words, and
+ * kotsghane_detail_text what its detail is. kotsghane_slip_letters gives the letters of one slip. kotsghane_blank_tray makes a tray for callers who know no
+ * sides.
  *
  * Buffers are lent as a struct of pointers and lengths. The easy way is to declare a kotsghane_buffers, whose arrays are large enough for any tray, and to lend
  * all of it:
@@ -33,7 +33,6 @@
 #define KOTSGHANE_STRUCTS_H
 
 #include "kotsghane.h"
-#include "kotsghane_refusals.h"
 
 #ifdef __cplusplus
 extern "C" {
@@ -340,52 +339,54 @@ static inline kotsghane_written kotsghane_merge_trays(kotsghane_tray first, kots
     return written;
 }
 
-/* The answer of kotsghane_index_tray. */
-typedef struct kotsghane_indexed {
-    uint32_t number;
-    uint32_t detail;
-    uint32_t slips; /* slips of the tray, and so entries of its index */
-} kotsghane_indexed;
-
-/* Writes the index of a tray, as kotsghane_index does, into a list of `index_len` entries. Keep it beside the tray, and look up what readers type:
- *
- *     uint16_t index[KOTSGHANE_MAX_SLIPS];
- *     kotsghane_indexed indexed = kotsghane_index_tray(tray, index, KOTSGHANE_MAX_SLIPS);
- *     if (indexed.number != KOTSGHANE_ACCEPTED) ...
- *     kotsghane_stretch stretch = kotsghane_beginning_stretch(tray, index, indexed.slips, typed, typed_len);
- *     if (stretch.number != KOTSGHANE_ACCEPTED) ...
- *     for (uint32_t i = stretch.start; i < stretch.end; i++) printf("%u\n", index[i]); */
-static inline kotsghane_indexed kotsghane_index_tray(kotsghane_tray tray, uint16_t *index, size_t index_len) {
-    uint32_t answer[KOTSGHANE_INDEX_NUMBERS];
-    kotsghane_indexed indexed;
-    kotsghane_index(tray.letters, tray.letters_len, tray.ends, tray.ends_len, tray.sides, tray.sides_len, index, index_len, answer);
-    indexed.number = answer[KOTSGHANE_NUMBER];
-    indexed.detail = answer[KOTSGHANE_DETAIL];
-    indexed.slips = indexed.number == KOTSGHANE_ACCEPTED ? (uint32_t)tray.ends_len : 0;
-    return indexed;
+/* A refusal in words. Never null: any other number has words too. */
+static inline const char *kotsghane_refusal_text(uint32_t number) {
+    switch (number) {
+    case KOTSGHANE_ACCEPTED: return "accepted";
+    case KOTSGHANE_REFUSED_TOO_MANY_SLIPS: return "the tray has too many slips";
+    case KOTSGHANE_REFUSED_EMPTY_SLIP: return "a slip has no letters";
+    case KOTSGHANE_REFUSED_SLIP_TOO_LONG: return "a slip has too many letters";
+    case KOTSGHANE_REFUSED_TOO_MANY_LETTERS: return "the tray has too many letters";
+    case KOTSGHANE_REFUSED_LAST_END_MISMATCH: return "the last end is not the count of letters";
+    case KOTSGHANE_REFUSED_BAD_SLIP_BYTE: return "a slip has a byte that is neither A to Z nor the full stop";
+    case KOTSGHANE_REFUSED_WORK_AREA_TOO_SMALL: return "the work area is too small";
+    case KOTSGHANE_REFUSED_LEGEND_BUFFER_TOO_SMALL: return "the legend is longer than its buffer";
+    case KOTSGHANE_REFUSED_JOIN_OR_PLACE_LIST_TOO_SMALL: return "the list of joins or that of places is too small";
+    case KOTSGHANE_REFUSED_NO_SUCH_SLIP: return "the tray has no slip with this number";
+    case KOTSGHANE_REFUSED_SAME_SLIP_TWICE: return "the pair is one slip with itself";
+    case KOTSGHANE_REFUSED_TEXT_TOO_LONG: return "the text is too long";
+    case KOTSGHANE_REFUSED_BAD_TEXT_BYTE: return "the text has a byte that is neither A to Z nor the full stop";
+    case KOTSGHANE_REFUSED_FOUND_LIST_TOO_SMALL: return "the list of occurrences is too small";
+    case KOTSGHANE_REFUSED_TRAY_BUFFERS_TOO_SMALL: return "the letters, ends or sides lent for a tray are too few";
+    case KOTSGHANE_REFUSED_FILE_TOO_LONG: return "the tray file is too long";
+    case KOTSGHANE_REFUSED_BAD_LINE: return "a line of the tray file is not laid out as it must be";
+    case KOTSGHANE_REFUSED_WRONG_SLIP_NUMBER: return "the slip number on a line of the tray file is not the number of the line";
+    case KOTSGHANE_REFUSED_WRONG_LENGTH: return "the length on a line of the tray file is not the count of its letters";
+    case KOTSGHANE_REFUSED_TOO_MANY_KEPT_SLIPS: return "too many slips of the side are kept for the shortest legend to be sought";
+    case KOTSGHANE_REFUSED_LEAST_OVERLAP_OUT_OF_RANGE: return "the least overlap is 0 or too large";
+    case KOTSGHANE_REFUSED_BAD_SIDE: return "a side is missing, one too many or none of the three: lend a blank, O or R for each slip, and name one of these";
+    default: return "not the number of a refusal";
+    }
 }
 
-/* The answer of kotsghane_beginning_stretch. */
-typedef struct kotsghane_stretch {
-    uint32_t number;
-    uint32_t detail;
-    uint32_t start; /* where the first slip that starts so stands in the index, from 0 */
-    uint32_t end;   /* after the last one */
-} kotsghane_stretch;
-
-/* The stretch of the index whose slips start with the typed letters, as kotsghane_beginning has it. `index_len` is `slips` of kotsghane_indexed, and no
- * more. */
-static inline kotsghane_stretch kotsghane_beginning_stretch(kotsghane_tray tray, const uint16_t *index, size_t index_len, const uint8_t *typed,
-                                                            size_t typed_len) {
-    uint32_t answer[KOTSGHANE_BEGINNING_NUMBERS];
-    kotsghane_stretch stretch;
-    kotsghane_beginning(tray.letters, tray.letters_len, tray.ends, tray.ends_len, tray.sides, tray.sides_len, index, index_len, typed, typed_len,
-                        answer);
-    stretch.number = answer[KOTSGHANE_NUMBER];
-    stretch.detail = answer[KOTSGHANE_DETAIL];
-    stretch.start = answer[KOTSGHANE_BEGINNING_START];
-    stretch.end = answer[KOTSGHANE_BEGINNING_END];
-    return stretch;
+/* What the detail of a refusal is, in a word or two, or null if it has none. Ask this, and not whether the detail is 0: a slip number may be, and so may a
+ * count of joins. */
+static inline const char *kotsghane_detail_text(uint32_t number) {
+    switch (number) {
+    case KOTSGHANE_REFUSED_EMPTY_SLIP:
+    case KOTSGHANE_REFUSED_SLIP_TOO_LONG:
+    case KOTSGHANE_REFUSED_BAD_SLIP_BYTE:
+    case KOTSGHANE_REFUSED_SAME_SLIP_TWICE: return "slip";
+    case KOTSGHANE_REFUSED_LEGEND_BUFFER_TOO_SMALL: return "letters needed";
+    case KOTSGHANE_REFUSED_JOIN_OR_PLACE_LIST_TOO_SMALL: return "joins";
+    case KOTSGHANE_REFUSED_NO_SUCH_SLIP: return "slip number";
+    case KOTSGHANE_REFUSED_BAD_TEXT_BYTE: return "place";
+    case KOTSGHANE_REFUSED_FOUND_LIST_TOO_SMALL: return "occurrences";
+    case KOTSGHANE_REFUSED_BAD_LINE:
+    case KOTSGHANE_REFUSED_WRONG_SLIP_NUMBER:
+    case KOTSGHANE_REFUSED_WRONG_LENGTH: return "line";
+    default: return NULL;
+    }
 }
 
 #ifdef __cplusplus

@@ -1,16 +1,13 @@
-/* Reads a tray file on standard input, composes it, finds its slips in the legend, seeks the shortest legend, merges it with another tray, and looks up slips
- * by their first letters: every call. No overlap of the tray is too short; a tray of two slips shows what a least overlap does. Of a tray file with slips of
- * two sides, each is composed. */
+/* Reads a tray file on standard input, composes it, finds its slips in the legend, seeks the shortest legend, and merges it with another tray: every call.
+ * No overlap of the tray is too short; a tray of two slips shows what a least overlap does. Of a tray file with slips of two sides, each is composed. */
 #include "kotsghane_structs.h"
 #include <inttypes.h>
 #include <stdio.h>
-#include <string.h>
 
 static uint8_t file[KOTSGHANE_MAX_FILE + 1];
 static kotsghane_tray_buffers tray_buffers, sided_buffers, merged_buffers;
 static kotsghane_buffers buffers;
 static kotsghane_occurrence found[8000];
-static uint16_t slip_index[KOTSGHANE_MAX_SLIPS];
 
 /* Prints a refusal, if there is one: by its number, and in words. */
 static int refused(const char *call, uint32_t number, uint32_t detail) {
@@ -130,37 +127,7 @@ static void say_sided_campaigns(kotsghane_tray tray) {
     say_merged(tray, more, KOTSGHANE_REVERSE, lent);
 }
 
-/* Prints the slips that start with the typed letters, looked up in this many entries of the list, each with its letters, whatever its side. */
-static void say_starting(kotsghane_tray tray, size_t entries, const char *typed) {
-    kotsghane_stretch stretch = kotsghane_beginning_stretch(tray, slip_index, entries, (const uint8_t *)typed, strlen(typed));
-    if (refused("beginning", stretch.number, stretch.detail)) {
-        return;
-    }
-    printf("starting with (%s):", typed);
-    for (uint32_t i = stretch.start; i < stretch.end; i++) {
-        kotsghane_letters slip = kotsghane_slip_letters(tray, slip_index[i]);
-        printf(" %u %.*s", slip_index[i], (int)slip.letters_len, (const char *)slip.letters);
-    }
-    printf("\n");
-}
-
-/* Writes the index of a tray and looks up what readers may type: nothing, some letters, a letter with which no slip starts. Then what is refused: a small
- * letter, half of the index, and half of the entries lent for one. */
-static void say_index(kotsghane_tray tray, const char *typed) {
-    kotsghane_indexed indexed = kotsghane_index_tray(tray, slip_index, KOTSGHANE_MAX_SLIPS);
-    if (refused("index", indexed.number, indexed.detail)) {
-        return;
-    }
-    say_starting(tray, indexed.slips, "");
-    say_starting(tray, indexed.slips, typed);
-    say_starting(tray, indexed.slips, "Q");
-    say_starting(tray, indexed.slips, "Av");
-    say_starting(tray, indexed.slips / 2, typed);
-    indexed = kotsghane_index_tray(tray, slip_index, indexed.slips / 2);
-    refused("index", indexed.number, indexed.detail);
-}
-
-/* Reads a tray file with slips of two sides, and prints each side, two pairs, the slips by their first letters, and what is refused. */
+/* Reads a tray file with slips of two sides, and prints each side, two pairs and what is refused. */
 static void say_sides(void) {
     static const char sided[] = "   1   7OIMPCAES\n"
                                 "   2   6RPAXAVG\n"
@@ -181,7 +148,6 @@ static void say_sides(void) {
     printf("overlap of 2 and 4 %" PRIu32, kotsghane_pair_overlap(tray, 2, 4, 1).overlap);
     printf(", of 3 and 4, which are of different sides, %" PRIu32 "\n", kotsghane_pair_overlap(tray, 3, 4, 1).overlap);
     say_sided_campaigns(tray);
-    say_index(tray, "AVG");
     say_composed(tray, 'o');
     tray.sides_len--;
     say_composed(tray, KOTSGHANE_OBVERSE);
@@ -205,7 +171,6 @@ int main(void) {
     say_least(2);
     say_least(KOTSGHANE_MAX_LEAST + 1);
     say_campaigns(tray);
-    say_index(tray, "CA");
     uint32_t pair[KOTSGHANE_PAIR_NUMBERS]; /* a call without structs */
     kotsghane_pair(tray.letters, tray.letters_len, tray.ends, tray.ends_len, tray.sides, tray.sides_len, 1, 1, 1, pair);
     refused("pair", pair[KOTSGHANE_NUMBER], pair[KOTSGHANE_DETAIL]);

@@ -1,8 +1,7 @@
-//! `steps CALL FAMILY SLIPS TIMES`: makes the exported call `beginning`, `compose`, `find`, `index`, `merge`, `read` or `shortest`
-//! TIMES times on one tray of a family, of SLIPS slips of ten letters, all blank. `run` beside it counts the instructions of one
-//! more call.
-use kotsghane::{beginning, build_index, compose, find, merge_trays, read_tray, shortest};
-use kotsghane::{Found, Join, Place, Settings, TrayRef, FILE_ENDS, MAX_FILE, MAX_SLIPS, WORK_CELLS};
+//! `steps CALL FAMILY SLIPS TIMES`: makes the exported call `compose`, `find`, `merge`, `read` or `shortest` TIMES times on one
+//! tray of a family, of SLIPS slips of ten letters, all blank. `run` beside it counts the instructions of one more call.
+use kotsghane::{compose, find, merge_trays, read_tray, shortest, Found, Join, Place, Settings, TrayRef};
+use kotsghane::{FILE_ENDS, MAX_FILE, WORK_CELLS};
 use plain::made::files::tray_file;
 use plain::made::{slips, Chance, Shape, Slips};
 use plain::tray::Tray;
@@ -47,9 +46,6 @@ fn shuffled(all: &Slips) -> Slips {
     shuffled
 }
 
-/// How many letters are typed: the first ones of slip 1.
-const TYPED: usize = 3;
-
 fn main() {
     let words: Vec<String> = std::env::args().collect();
     let number = |i: usize| words[i].parse::<usize>().expect("a number");
@@ -60,8 +56,6 @@ fn main() {
     let (mut joins, mut places) = (vec![Join::default(); 200], vec![Place::default(); 200]);
     let mut found = vec![Found::default(); 8_000];
     let (mut letters_lent, mut ends_lent, mut sides_lent) = (vec![0; MAX_FILE], vec![0; FILE_ENDS], vec![0; FILE_ENDS]);
-    let index = two[0].index().expect("a valid tray").list().to_vec();
-    let (mut index_lent, typed) = (vec![0; MAX_SLIPS], &all[0][..TYPED]);
     let settings = Settings::default();
     for _ in 0..number(4) {
         let (letters, ends, sides) = (black_box(&tray.letters), black_box(&tray.ends), black_box(&tray.sides));
@@ -75,12 +69,9 @@ fn main() {
                 let [first, second] = black_box(&two).each_ref().map(kotsghane::Tray::lend);
                 merge_trays(first, second, &mut letters_lent, &mut ends_lent, &mut sides_lent).err()
             }
-            "index" => build_index(lent, &mut index_lent).err(),
-            "beginning" => beginning(lent, black_box(&index), black_box(typed)).err(),
             call => panic!("no call {call}"),
         };
         assert_eq!(refused, None);
     }
-    black_box((legend, joins, places, found));
-    black_box((letters_lent, ends_lent, sides_lent, index_lent));
+    black_box((legend, joins, places, found, letters_lent, ends_lent, sides_lent));
 }

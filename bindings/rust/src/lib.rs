@@ -48,8 +48,6 @@
 //! | [`find_slips`] | [`find`] | finds every occurrence of every slip, of any side, in a text |
 //! | [`Tray::read`] | [`read_tray`] | reads a tray file |
 //! | [`Tray::merge`] | [`merge_trays`] | merges two trays |
-//! | [`Tray::index`] | [`build_index`] | orders the slips of a tray, of every side, by their letters |
-//! | [`Index::starting_with`] | [`beginning`] | gives the slips that start with some letters |
 //! | [`Tray::to_file`] | | writes a tray file |
 //! | [`Tray::check`] | | judges a tray |
 //! | [`Tray::slip`] | | gives the letters of a slip |
@@ -59,8 +57,7 @@
 //! # Slips and letters
 //!
 //! A tray has at most [`MAX_SLIPS`] slips of 1 to [`MAX_SLIP`] letters, and at most [`MAX_LETTERS`] letters together. Slips
-//! are numbered from 1, by `usize`. A number above `u32::MAX` is taken as `u32::MAX`, and refused as that. The entries of an
-//! [`Index`] have 16 bits, as they are lent to the library, and so have the ends of a tray.
+//! are numbered from 1, by `usize`. A number above `u32::MAX` is taken as `u32::MAX`, and refused as that.
 //!
 //! Letters are 27 signs: the capitals A to Z and the full stop, which is a letter like the rest, except that full stops alone
 //! are no overlap. A tray file may also have small letters, and U and J, which are not on the die: [`Tray::read`] files them as
@@ -71,7 +68,7 @@
 //! Slips of different sides neither overlap nor set each other aside. Each side of a tray composes as if the tray had no other
 //! slips, except that the slips keep their numbers. [`Tray::of`] and [`Tray::push`] make blank slips; [`Tray::of_sides`] and
 //! [`Tray::push_side`] take the side with the letters. [`Settings`] name the side that is composed, by default the blank one, so
-//! that callers whose slips have no sides can ignore them. [`find_slips`], [`Tray::slip`] and [`Tray::index`] look at all slips.
+//! that callers whose slips have no sides can ignore them. [`find_slips`] and [`Tray::slip`] look at all slips.
 //!
 //! # Refusals
 //!
@@ -84,15 +81,13 @@
 //!
 //! The forms in lent buffers allocate nothing. They take a tray as a [`TrayRef`], which may have any bytes as sides; [`find`]
 //! takes its letters and ends alone. What a buffer holds before the call does not matter. On success the outcome is its first
-//! part, and the rest is unchanged. [`build_index`] gives that part, as [`beginning`] takes it. A refusal leaves every buffer as
-//! it was, except that the work area may differ after `LegendBufferTooSmall`, `JoinOrPlaceListTooSmall`, `FoundListTooSmall` and
-//! `TooManyKeptSlips`.
+//! part, and the rest is unchanged. A refusal leaves every buffer as it was, except that the work area may differ after
+//! `LegendBufferTooSmall`, `JoinOrPlaceListTooSmall`, `FoundListTooSmall` and `TooManyKeptSlips`.
 #![deny(missing_docs, unsafe_code)]
 
 mod composing;
 mod file;
 mod finding;
-mod index;
 mod limits;
 mod merging;
 mod records;
@@ -124,7 +119,6 @@ mod readme {}
 pub use composing::{compose, compose_tray, Composed, Legend};
 pub use file::read_tray;
 pub use finding::{find, find_slips, Finding, Search};
-pub use index::{beginning, build_index, Index};
 pub use limits::{
     FILE_ENDS, FOUND_CELLS, JOIN_CELLS, MAX_FILE, MAX_LEAST, MAX_LETTERS, MAX_SHORTEST, MAX_SLIP, MAX_SLIPS, MAX_TEXT,
     PLACE_CELLS, WORK_CELLS,

@@ -3,9 +3,8 @@
 /// How many cells of the work area are asked for ([`WorkAreaTooSmall`](crate::RefusalKind::WorkAreaTooSmall)).
 pub const WORK_CELLS: usize = 32_000;
 
-/// The most slips that a tray has ([`TooManySlips`](crate::RefusalKind::TooManySlips)), and so the most entries of its index; and
-/// how many ends, and how many sides, are lent for two trays merged
-/// ([`TrayBuffersTooSmall`](crate::RefusalKind::TrayBuffersTooSmall)).
+/// The most slips that a tray has ([`TooManySlips`](crate::RefusalKind::TooManySlips)), and how many ends, and how many sides,
+/// are lent for two trays merged ([`TrayBuffersTooSmall`](crate::RefusalKind::TrayBuffersTooSmall)).
 pub const MAX_SLIPS: usize = 200;
 
 /// The most letters that a slip has ([`SlipTooLong`](crate::RefusalKind::SlipTooLong)).
@@ -15,7 +14,7 @@ pub const MAX_SLIP: usize = 32;
 /// trays merged ([`TrayBuffersTooSmall`](crate::RefusalKind::TrayBuffersTooSmall)).
 pub const MAX_LETTERS: usize = 2_000;
 
-/// The most letters that a text has, and the most that are typed ([`TextTooLong`](crate::RefusalKind::TextTooLong)).
+/// The most letters that a text has ([`TextTooLong`](crate::RefusalKind::TextTooLong)).
 pub const MAX_TEXT: usize = 2_000;
 
 /// The most bytes that a tray file has ([`FileTooLong`](crate::RefusalKind::FileTooLong)), and how many letters are lent for

@@ -33,17 +33,15 @@ pub enum RefusalKind {
     /// 8: the legend is longer than its buffer. The detail is how many letters it has.
     LegendBufferTooSmall = 8,
     /// 9: there are more joins than their list takes, or fewer records of places than slips of the side. The detail is how many
-    /// joins there are. Where an index is built: its list has fewer entries than the tray has slips. The detail is how many slips
-    /// there are.
+    /// joins there are.
     JoinOrPlaceListTooSmall = 9,
     /// 10: a slip number is 0 or above the count of slips. The detail is that number.
     NoSuchSlip = 10,
     /// 11: a pair names one slip twice. The detail is the slip.
     SameSlipTwice = 11,
-    /// 12: the text has over [`MAX_TEXT`] bytes, or the typed letters do.
+    /// 12: the text has over [`MAX_TEXT`] bytes.
     TextTooLong = 12,
-    /// 13: the text has a byte that is neither a capital A to Z nor the full stop, or the typed letters do. The detail is its place,
-    /// from 1.
+    /// 13: the text has a byte that is neither a capital A to Z nor the full stop. The detail is its place, from 1.
     BadTextByte = 13,
     /// 14: there are more occurrences than their list takes. The detail is how many there are.
     FoundListTooSmall = 14,
@@ -66,9 +64,6 @@ pub enum RefusalKind {
     /// named that is none, which [`Settings`](crate::Settings) cannot hold. Only
     /// [`Tray::from_sided_parts`](crate::Tray::from_sided_parts) and the forms in lent buffers can meet it.
     BadSide = 22,
-    /// 23: the list handed in is another one than the index of the tray, perhaps only longer or shorter. An
-    /// [`Index`](crate::Index) always holds the right one, so only [`beginning`](crate::beginning) can meet it.
-    WrongIndex = 23,
 }
 
 impl RefusalKind {
@@ -96,7 +91,6 @@ impl RefusalKind {
         RefusalKind::TooManyKeptSlips,
         RefusalKind::LeastOverlapOutOfRange,
         RefusalKind::BadSide,
-        RefusalKind::WrongIndex,
     ];
 
     /// The number in the table of refusals, which the programs print.
@@ -153,23 +147,17 @@ impl Refusal {
         self.kind.number()
     }
 
-    /// A slip, a place in what was searched or typed, a line of the tray file or a count, as the documentation of the
-    /// [kind](RefusalKind) says; 0 if it names no detail. A slip is the lowest at fault, a place or a line the first.
+    /// A slip, a place in the text, a line of the tray file or a count, as the documentation of the [kind](RefusalKind) says;
+    /// 0 if it names no detail. A slip is the lowest at fault, a place or a line the first.
     #[must_use]
     pub const fn detail(&self) -> usize {
         self.detail
     }
 }
 
-/// What a byte is that is refused.
-const NO_LETTER: &str = "neither a capital A to Z nor a full stop";
-
 /// What may be wrong with sides, and what to do.
 const BAD_SIDE: &str =
     "a side is missing, one too many or none of the three: give each slip a blank, O or R, and name one of these";
-
-/// What is wrong with a list that is no index, and what it should be.
-const WRONG_INDEX: &str = "the list handed in is not the index of the tray, which has one entry for each slip";
 
 impl fmt::Display for Refusal {
     fn fmt(&self, f: &mut fmt::Formatter<'_>) -> fmt::Result {
@@ -181,17 +169,20 @@ impl fmt::Display for Refusal {
             Kind::SlipTooLong => write!(f, "slip {d} has over {MAX_SLIP} letters"),
             Kind::TooManyLetters => write!(f, "the tray has over {MAX_LETTERS} letters"),
             Kind::LastEndMismatch => write!(f, "the last end is not the count of letters"),
-            Kind::BadSlipByte => write!(f, "slip {d} has a byte that is {NO_LETTER}"),
+            Kind::BadSlipByte => write!(
+                f,
+                "slip {d} has a byte that is neither a capital A to Z nor a full stop"
+            ),
             Kind::WorkAreaTooSmall => write!(f, "the work area has under {WORK_CELLS} cells"),
             Kind::LegendBufferTooSmall => write!(f, "the legend has {d} letters, more than its buffer takes"),
             Kind::JoinOrPlaceListTooSmall => write!(
                 f,
-                "the lists are too short for {d} joins and one place for each slip of the side, or the index for {d} slips"
+                "the lists are too short for {d} joins and one place for each slip of the side"
             ),
             Kind::NoSuchSlip => write!(f, "the tray has no slip {d}"),
             Kind::SameSlipTwice => write!(f, "the pair names slip {d} twice"),
-            Kind::TextTooLong => write!(f, "the text, or what was typed, has over {MAX_TEXT} bytes"),
-            Kind::BadTextByte => write!(f, "place {d} of the text, or of what was typed, is {NO_LETTER}"),
+            Kind::TextTooLong => write!(f, "the text has over {MAX_TEXT} bytes"),
+            Kind::BadTextByte => write!(f, "place {d} of the text is neither a capital A to Z nor a full stop"),
             Kind::FoundListTooSmall => write!(f, "there are {d} occurrences, more than their list takes"),
             Kind::TrayBuffersTooSmall => write!(
                 f,
@@ -205,7 +196,6 @@ impl fmt::Display for Refusal {
             Kind::TooManyKeptSlips => write!(f, "the side has over {MAX_SHORTEST} kept slips"),
             Kind::LeastOverlapOutOfRange => write!(f, "the least overlap is zero or over {MAX_LEAST}"),
             Kind::BadSide => f.write_str(BAD_SIDE),
-            Kind::WrongIndex => f.write_str(WRONG_INDEX),
         }
     }
 }

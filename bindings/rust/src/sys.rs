@@ -5,8 +5,7 @@
 //!
 //! # Why every call is sound
 //!
-//! - **Declarations** (`archive.rs`). Each has the parameters of `bindings/c/kotsghane.h`, in the same order and of the same
-//!   types.
+//! - **Declarations.** Each has the parameters of `bindings/c/kotsghane.h`, in the same order and of the same types.
 //! - **Pointers and lengths.** Every pointer is taken from a slice and passed with the length of that slice, in the elements
 //!   that the callee counts. One that is passed with length 0 is never dereferenced. An [`Answer`] has as many numbers as the
 //!   header names for it.
@@ -17,14 +16,8 @@
 //!   passed. What is only read may be passed twice: two trays may be one.
 //! - **The callee** is proved for every content and every length. It reads and writes within the lengths, keeps no pointer and
 //!   does not unwind. It has no state of its own, so calls may be made from several threads at once.
-mod archive;
-
 use crate::records::number;
 use crate::{Found, Join, Place, Refusal, RefusalKind, TrayRef, FOUND_CELLS, JOIN_CELLS, MAX_SHORTEST, PLACE_CELLS};
-use archive::{
-    kotsghane_beginning, kotsghane_compose, kotsghane_find, kotsghane_index, kotsghane_merge, kotsghane_pair,
-    kotsghane_read_tray, kotsghane_shortest, kotsghane_slip,
-};
 
 /// An answer: number and detail of the refusal, 0 and 0 if there is none, and the counts, all 0 if the call is refused. It
 /// is laid out as the header's array of 2 + N numbers.
@@ -62,6 +55,108 @@ impl<const N: usize> Answer<N> {
             ),
         }
     }
+}
+
+extern "C" {
+    fn kotsghane_compose(
+        letters: *const u8,
+        letters_len: usize,
+        ends: *const u16,
+        ends_len: usize,
+        sides: *const u8,
+        sides_len: usize,
+        least: u32,
+        side: u8,
+        work: *mut u16,
+        work_len: usize,
+        legend: *mut u8,
+        legend_len: usize,
+        joins: *mut u16,
+        joins_len: usize,
+        places: *mut u16,
+        places_len: usize,
+        answer: *mut Answer<6>,
+    );
+    fn kotsghane_shortest(
+        letters: *const u8,
+        letters_len: usize,
+        ends: *const u16,
+        ends_len: usize,
+        sides: *const u8,
+        sides_len: usize,
+        least: u32,
+        side: u8,
+        work: *mut u16,
+        work_len: usize,
+        legend: *mut u8,
+        legend_len: usize,
+        answer: *mut Answer<{ 2 + MAX_SHORTEST }>,
+    );
+    fn kotsghane_find(
+        letters: *const u8,
+        letters_len: usize,
+        ends: *const u16,
+        ends_len: usize,
+        text: *const u8,
+        text_len: usize,
+        work: *mut u16,
+        work_len: usize,
+        found: *mut u32,
+        found_len: usize,
+        answer: *mut Answer<2>,
+    );
+    fn kotsghane_slip(
+        letters: *const u8,
+        letters_len: usize,
+        ends: *const u16,
+        ends_len: usize,
+        slip: u32,
+        answer: *mut Answer<2>,
+    );
+    fn kotsghane_pair(
+        letters: *const u8,
+        letters_len: usize,
+        ends: *const u16,
+        ends_len: usize,
+        sides: *const u8,
+        sides_len: usize,
+        left: u32,
+        right: u32,
+        least: u32,
+        answer: *mut Answer<1>,
+    );
+    fn kotsghane_read_tray(
+        file: *const u8,
+        file_len: usize,
+        letters: *mut u8,
+        letters_len: usize,
+        ends: *mut u16,
+        ends_len: usize,
+        sides: *mut u8,
+        sides_len: usize,
+        answer: *mut Answer<2>,
+    );
+    fn kotsghane_merge(
+        letters1: *const u8,
+        letters1_len: usize,
+        ends1: *const u16,
+        ends1_len: usize,
+        sides1: *const u8,
+        sides1_len: usize,
+        letters2: *const u8,
+        letters2_len: usize,
+        ends2: *const u16,
+        ends2_len: usize,
+        sides2: *const u8,
+        sides2_len: usize,
+        letters: *mut u8,
+        letters_len: usize,
+        ends: *mut u16,
+        ends_len: usize,
+        sides: *mut u8,
+        sides_len: usize,
+        answer: *mut Answer<2>,
+    );
 }
 
 /// Composes with a least overlap and a side: its slips, kept slips, their letters, letters saved, letters of the legend, joins.
@@ -249,48 +344,6 @@ pub(crate) fn merge(
             ends.len(),
             sides.as_mut_ptr(),
             sides.len(),
-            &mut answer,
-        );
-    }
-    answer.told()
-}
-
-/// Writes the index of a tray.
-pub(crate) fn index(tray: TrayRef<'_>, index: &mut [u16]) -> Result<(), Refusal> {
-    let mut answer = Answer::new();
-    // SAFETY: see the head of this module.
-    unsafe {
-        kotsghane_index(
-            tray.letters.as_ptr(),
-            tray.letters.len(),
-            tray.ends.as_ptr(),
-            tray.ends.len(),
-            tray.sides.as_ptr(),
-            tray.sides.len(),
-            index.as_mut_ptr(),
-            index.len(),
-            &mut answer,
-        );
-    }
-    answer.told().map(|[]| ())
-}
-
-/// Where the slips that start with the typed letters start and end in the index.
-pub(crate) fn beginning(tray: TrayRef<'_>, index: &[u16], typed: &[u8]) -> Result<[usize; 2], Refusal> {
-    let mut answer = Answer::new();
-    // SAFETY: see the head of this module.
-    unsafe {
-        kotsghane_beginning(
-            tray.letters.as_ptr(),
-            tray.letters.len(),
-            tray.ends.as_ptr(),
-            tray.ends.len(),
-            tray.sides.as_ptr(),
-            tray.sides.len(),
-            index.as_ptr(),
-            index.len(),
-            typed.as_ptr(),
-            typed.len(),
             &mut answer,
         );
     }

@@ -1,7 +1,6 @@
 //! The least overlap: what was worked out by hand, what is refused, and made-up trays against the plain program.
 mod buffers;
 mod lending;
-mod naming;
 mod owned;
 mod sought;
 mod tally;

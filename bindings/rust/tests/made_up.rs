@@ -1,7 +1,6 @@
 //! Thousands of made-up trays, long and short, valid and damaged, in buffers of many lengths, against the plain program.
 mod buffers;
 mod lending;
-mod naming;
 mod tally;
 mod told;
 

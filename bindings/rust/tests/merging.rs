@@ -1,12 +1,12 @@
 //! Two trays merged: what was worked out by hand, and made-up trays against the plain program.
-mod lending;
 mod lent;
 mod owned;
 mod tally;
 mod told;
 
-use kotsghane::{compose_tray, merge_trays, Refusal, Settings, Side, Written, MAX_LEAST, MAX_LETTERS, MAX_SLIPS};
-use lending::lend;
+use kotsghane::{
+    compose_tray, merge_trays, Refusal, Settings, Side, TrayRef, Written, MAX_LEAST, MAX_LETTERS, MAX_SLIPS,
+};
 use lent::Lent;
 use owned::ours;
 use plain::by_hand::{merging, sides_written};
@@ -18,6 +18,11 @@ use plain::merge::{self, long_tray};
 use plain::tray;
 use tally::Tally;
 use told::{plainly, refused};
+
+/// The tray as it is lent, with any sides.
+fn lend(tray: &tray::Tray) -> TrayRef<'_> {
+    TrayRef::new(&tray.letters, &tray.ends, &tray.sides)
+}
 
 /// One trial in the given buffers: what is told and the buffers, to the last element, are what the plain program says.
 fn trial(first: &tray::Tray, second: &tray::Tray, before: &Lent) -> Result<Written, Refusal> {

@@ -1,9 +1,8 @@
 //! Every kind of refusal, provoked by a call: its number, its detail and its sentence.
 use kotsghane::RefusalKind as Kind;
 use kotsghane::{
-    beginning, build_index, compose, compose_tray, find, read_tray, shortest_legend, Found, Join, Place, Refusal,
-    Settings, Side, Tray, TrayRef, FILE_ENDS, MAX_FILE, MAX_LEAST, MAX_LETTERS, MAX_SHORTEST, MAX_SLIP, MAX_SLIPS,
-    MAX_TEXT, WORK_CELLS,
+    compose, compose_tray, find, read_tray, shortest_legend, Found, Join, Place, Refusal, Settings, Side, Tray,
+    TrayRef, FILE_ENDS, MAX_FILE, MAX_LEAST, MAX_LETTERS, MAX_SHORTEST, MAX_SLIP, MAX_SLIPS, MAX_TEXT, WORK_CELLS,
 };
 use std::collections::{BTreeMap, HashSet};
 use std::error::Error;
@@ -34,7 +33,7 @@ const fn row(kind: Kind, (number, detail): (u32, usize), limits: &'static [usize
 
 /// What [`told`] tells of each kind.
 #[rustfmt::skip]
-const ROWS: [Row; 23] = [
+const ROWS: [Row; 22] = [
     row(Kind::TooManySlips, (1, 0), &[MAX_SLIPS], "the tray has over 200 slips"),
     row(Kind::EmptySlip, (2, 2), &[], "slip 2 has no letters"),
     row(Kind::SlipTooLong, (3, 2), &[MAX_SLIP], "slip 2 has over 32 letters"),
@@ -43,12 +42,11 @@ const ROWS: [Row; 23] = [
     row(Kind::BadSlipByte, (6, 2), &[], "slip 2 has a byte that is neither a capital A to Z nor a full stop"),
     row(Kind::WorkAreaTooSmall, (7, 0), &[WORK_CELLS], "the work area has under 32000 cells"),
     row(Kind::LegendBufferTooSmall, (8, 15), &[], "the legend has 15 letters, more than its buffer takes"),
-    row(Kind::JoinOrPlaceListTooSmall, (9, 3), &[],
-        "the lists are too short for 3 joins and one place for each slip of the side, or the index for 3 slips"),
+    row(Kind::JoinOrPlaceListTooSmall, (9, 3), &[], "the lists are too short for 3 joins and one place for each slip of the side"),
     row(Kind::NoSuchSlip, (10, 77), &[], "the tray has no slip 77"),
     row(Kind::SameSlipTwice, (11, 3), &[], "the pair names slip 3 twice"),
-    row(Kind::TextTooLong, (12, 0), &[MAX_TEXT], "the text, or what was typed, has over 2000 bytes"),
-    row(Kind::BadTextByte, (13, 4), &[], "place 4 of the text, or of what was typed, is neither a capital A to Z nor a full stop"),
+    row(Kind::TextTooLong, (12, 0), &[MAX_TEXT], "the text has over 2000 bytes"),
+    row(Kind::BadTextByte, (13, 4), &[], "place 4 of the text is neither a capital A to Z nor a full stop"),
     row(Kind::FoundListTooSmall, (14, 3), &[], "there are 3 occurrences, more than their list takes"),
     row(Kind::TrayBuffersTooSmall, (15, 0), &[MAX_FILE, FILE_ENDS, MAX_LETTERS, MAX_SLIPS],
         "fewer letters, ends or sides are lent than 16384, 1700 and 1700 for a tray file, or 2000, 200 and 200 for two trays merged"),
@@ -60,7 +58,6 @@ const ROWS: [Row; 23] = [
     row(Kind::LeastOverlapOutOfRange, (21, 0), &[MAX_LEAST], "the least overlap is zero or over 32"),
     row(Kind::BadSide, (22, 0), &[],
         "a side is missing, one too many or none of the three: give each slip a blank, O or R, and name one of these"),
-    row(Kind::WrongIndex, (23, 0), &[], "the list handed in is not the index of the tray, which has one entry for each slip"),
 ];
 
 fn sample() -> Tray {
@@ -113,7 +110,6 @@ fn told(kind: Kind) -> Result<(), Refusal> {
         }
         Kind::LeastOverlapOutOfRange => compose_tray(&sample(), Settings::least(33)).map(|_| ()),
         Kind::BadSide => composed(TrayRef::new(b"AVG", &[3], b"o"), 32_000, 3, 0),
-        Kind::WrongIndex => beginning(sample().lend(), &[2, 3, 1, 4, 5], b"AVG").map(|_| ()),
         _ => panic!("no call for {kind:?}"),
     }
 }
@@ -148,24 +144,6 @@ fn every_kind_has_a_sentence() {
     }
 }
 
-/// 9, 12 and 13 also have a meaning where an index is built or looked up. The sentence has both.
-#[test]
-fn sentences_with_two_meanings() {
-    let (tray, many) = (sample(), "A".repeat(2_001));
-    let index = tray.index().expect("the index of a valid tray");
-    let told = [
-        build_index(tray.lend(), &mut [0; 4]).map(|_| ()),
-        index.starting_with(&many).map(|_| ()),
-        index.starting_with("CAEs").map(|_| ()),
-    ];
-    let sentences = [
-        "the lists are too short for 5 joins and one place for each slip of the side, or the index for 5 slips",
-        "the text, or what was typed, has over 2000 bytes",
-        "place 4 of the text, or of what was typed, is neither a capital A to Z nor a full stop",
-    ];
-    assert_eq!(told.map(|told| told.unwrap_err().to_string()), sentences);
-}
-
 /// The sentence follows the detail.
 #[test]
 fn sentences_with_other_details() {
@@ -189,7 +167,6 @@ fn sides_that_are_refused() {
             tray.merge(&sample()).map(|_| ()),
             sample().merge(&tray).map(|_| ()),
             tray.to_file().map(|_| ()),
-            tray.index().map(|_| ()),
             tray.check(),
         ];
         assert!(
@@ -207,13 +184,13 @@ fn sides_that_are_refused() {
 
 #[test]
 fn numbers_and_kinds() {
-    assert_eq!(Kind::ALL.len(), 23);
-    for number in 1..=23 {
+    assert_eq!(Kind::ALL.len(), 22);
+    for number in 1..=22 {
         let kind = Kind::from_number(number).expect("a kind of the table");
         assert_eq!((kind.number(), kind as u32), (number, number));
         assert_eq!(Kind::ALL[number as usize - 1], kind);
     }
-    for number in [0, 24, 25, 257, 65_537, u32::MAX] {
+    for number in [0, 23, 24, 257, 65_537, u32::MAX] {
         assert_eq!(Kind::from_number(number), None);
     }
 }

@@ -1,6 +1,5 @@
 //! The shortest legend: what was worked out by hand, made-up trays against the plain program, and what is claimed of it.
 mod lending;
-mod naming;
 mod sought;
 mod tally;
 mod told;

@@ -2,7 +2,6 @@
 //! tray composes exactly as a tray that holds that side only.
 mod buffers;
 mod lending;
-mod naming;
 mod owned;
 mod sought;
 mod tally;

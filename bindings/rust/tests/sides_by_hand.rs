@@ -1,7 +1,6 @@
 //! Sides: what was worked out by hand of trays composed, of shortest legends and pairs, and of what is refused.
 mod buffers;
 mod lending;
-mod naming;
 mod owned;
 mod sought;
 mod told;

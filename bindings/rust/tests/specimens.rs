@@ -1,7 +1,6 @@
 //! The specimen trays of the rules, as tables of named cases.
 mod buffers;
 mod lending;
-mod naming;
 mod told;
 
 use buffers::{trial, Buffers, AMPLE};

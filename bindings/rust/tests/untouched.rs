@@ -1,8 +1,7 @@
 //! A refusal leaves every lent buffer as it was: each row, in each call that has it. Only the work area may differ, and only
 //! after 8, 9, 14 and 20.
 use kotsghane::{
-    beginning, build_index, compose, find, merge_trays, read_tray, shortest, Found, Join, Place, Refusal, Settings,
-    Side, Tray, TrayRef,
+    compose, find, merge_trays, read_tray, shortest, Found, Join, Place, Refusal, Settings, Side, Tray, TrayRef,
 };
 use plain::made::Chance;
 
@@ -19,7 +18,6 @@ struct Lent {
     joins: Vec<Join>,
     places: Vec<Place>,
     found: Vec<Found>,
-    index: Vec<u16>,
 }
 
 impl Lent {
@@ -28,7 +26,7 @@ impl Lent {
         let mut chance = Chance::new(91);
         let mut number = || chance.below(65_536);
         let mut cells = |n: usize| -> Vec<u16> { (0..n).map(|_| number() as u16).collect() };
-        let (work, ends, index) = (cells(32_000), cells(1_700), cells(201));
+        let (work, ends) = (cells(32_000), cells(1_700));
         let [letters, sides] = [16_384, 1_700].map(|n| cells(n).iter().map(|&cell| cell as u8).collect());
         let mut place = |_| Place::new(number(), number(), true, number(), Side::ALL[number() % 3]);
         let places = (0..200).map(&mut place).collect();
@@ -40,7 +38,6 @@ impl Lent {
             joins: (0..200).map(|_| Join::new(number(), number(), number())).collect(),
             places,
             found: (0..8_000).map(|_| Found::new(number(), number())).collect(),
-            index,
         }
     }
 
@@ -88,14 +85,6 @@ impl Lent {
         let (letters, ends) = (&mut self.letters[..rooms[0]], &mut self.ends[..rooms[1]]);
         read_tray(file, letters, ends, &mut self.sides[..rooms[2]]).map(|_| ())
     }
-
-    fn index(&mut self, tray: TrayRef, room: usize) -> Result<(), Refusal> {
-        build_index(tray, &mut self.index[..room]).map(|_| ())
-    }
-
-    fn beginning(&mut self, tray: TrayRef, entries: usize, typed: &[u8]) -> Result<(), Refusal> {
-        beginning(tray, &self.index[..entries], typed).map(|_| ())
-    }
 }
 
 fn sample() -> Tray {
@@ -134,10 +123,6 @@ fn faults_of_a_tray() {
             lent.refuse(fault, |lent| lent.find(tray, b"IMPCAESAVG", [32_000, 8_000]));
             lent.refuse(fault, |lent| lent.merge(tray, sample, [2_000, 200, 200]));
             lent.refuse(fault, |lent| lent.merge(sample, tray, [2_000, 200, 200]));
-            for room in [201, 1, 0] {
-                lent.refuse(fault, |lent| lent.index(tray, room));
-                lent.refuse(fault, |lent| lent.beginning(tray, room, b"a"));
-            }
         }
     }
 }
@@ -175,10 +160,6 @@ fn faults_of_sides() {
         lent.refuse((22, 0), |lent| lent.merge(sample, tray, [2_000, 200, 200]));
         lent.refuse((22, 0), |lent| lent.merge(tray, tray, [2_000, 200, 200]));
         lent.refuse((15, 0), |lent| lent.merge(tray, tray, [2_000, 200, 199]));
-        for room in [5, 4, 0] {
-            lent.refuse((22, 0), |lent| lent.index(tray, room));
-            lent.refuse((22, 0), |lent| lent.beginning(tray, room, b"a"));
-        }
     }
 }
 
@@ -249,37 +230,6 @@ fn texts() {
     lent.refuse((13, 4), |lent| lent.find(tray, b"IMP CAES", [32_000, 8_000]));
     lent.refuse((7, 0), |lent| lent.find(tray, text, [31_999, 3]));
     lent.refuse((14, 3), |lent| lent.find(tray, text, [32_000, 2]));
-}
-
-/// 9.
-#[test]
-fn rooms_of_an_index() {
-    let (mut lent, sample, most) = (Lent::new(), sample(), Tray::of(&["A"; 200]));
-    for room in 0..5 {
-        lent.refuse((9, 5), |lent| lent.index(sample.lend(), room));
-    }
-    for room in [199, 198, 0] {
-        lent.refuse((9, 200), |lent| lent.index(most.lend(), room));
-    }
-    assert_eq!(lent.index(TrayRef::default(), 0), Ok(()));
-}
-
-/// 23, 12 and 13.
-#[test]
-fn typed_letters() {
-    let (mut lent, sample) = (Lent::new(), sample());
-    let tray = sample.lend();
-    // What the list holds at first is no index.
-    for typed in [&b"CA"[..], b"", b"a", &[b'A'; 2_001]] {
-        lent.refuse((23, 0), |lent| lent.beginning(tray, 5, typed));
-    }
-    assert_eq!(lent.index(tray, 201), Ok(()));
-    assert_eq!(lent.beginning(tray, 5, b"CA"), Ok(()));
-    for entries in [0, 4, 6, 201] {
-        lent.refuse((23, 0), |lent| lent.beginning(tray, entries, b"CA"));
-    }
-    lent.refuse((12, 0), |lent| lent.beginning(tray, 5, &[b'a'; 2_001]));
-    lent.refuse((13, 3), |lent| lent.beginning(tray, 5, b"CAe "));
 }
 
 /// 15 to 19.

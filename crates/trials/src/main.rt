@@ -6,16 +6,14 @@
 //     A LEAST LEFT RIGHT LETTERS END END ..                the check of a tray, one slip, one pair with a least overlap
 //     T LETTERS ENDS SIDES FILE                            reading a tray file, with so much lent
 //     M LETTERS ENDS LETTERS END ..;LETTERS END ..         two trays merged, with so much lent, and 200 sides
-//     I ENTRIES TYPED INDEX LETTERS END END ..             the index, with this many entries lent; of the list INDEX the slips that start with typed letters
 //     S                                                    the bytes that are letters
 // In these all slips are blank, and the blank side is named. With other sides the tag is a small letter, and the sides come first:
 //     c SIDE LIST LEAST WORK ..                            composing: the side named, and the list of sides
 //     l SIDE LIST LEAST WORK ..                            the shortest legend: the same
 //     a LIST LEAST LEFT ..                                 one pair: the list of sides
 //     m LIST LIST SIDES LETTERS ENDS ..                    two trays: both lists, and how many sides are lent
-//     i LIST ENTRIES TYPED ..                              the index: the list of sides
 // Letters, texts, files and sides are coded: 12A is twelve times A, _ a blank, %0A the byte 10, and a comma an end. 12x3 among the ends is the twelve
-// ends 3, 6, .. 36. INDEX is a list of numbers with commas between them.
+// ends 3, 6, .. 36.
 // What was lent is filled with marks before a call, and its sum after it is written.
 #![tactic(auto)]
 
@@ -39,8 +37,6 @@ fn row(line: &[u8]) {
         b'T' => trials_trays::read::row(line),
         b'M' => trials_trays::merge::row(line),
         b'm' => trials_trays::merge::side_row(line),
-        b'I' => trials_index::row(line),
-        b'i' => trials_index::side_row(line),
         b'S' => trials_ask::ask::signs(),
         b'-' => {
             io::write_all(1, line);

@@ -60,8 +60,8 @@ pub fn walk<'a>(slips: &[&[u8]], text: &'a [u8]) -> (&'a [u8], usize) {
     (state, text.len() + drops)
 }
 
-/// Rows 12 and 13, of a text or of typed letters.
-pub fn text_fault(text: &[u8]) -> Option<Refusal> {
+/// Rows 12 and 13.
+fn text_fault(text: &[u8]) -> Option<Refusal> {
     let outside = || text.iter().position(|byte| !SIGNS.contains(byte));
     row(12, text.len() > MAX_TEXT).or_else(|| outside().map(|at| refusal(13, at + 1)))
 }

@@ -2,7 +2,7 @@
 //! slips, written only from the sentences of the rules. It shares no table, no loop, no order of work and no number with the
 //! library: the limits are its own.
 //!
-//! - [`tray`], [`fold`], [`mod@file`], [`compose`], [`shortest`], [`find`], [`merge`], [`index`], [`sheet`]: the plain program.
+//! - [`tray`], [`fold`], [`mod@file`], [`compose`], [`shortest`], [`find`], [`merge`], [`sheet`]: the plain program.
 //! - [`by_hand`]: what was worked out by hand.
 //! - [`made`]: made-up trays, texts and files, whole and damaged.
 //! - [`cases`]: the cases of the program `trials`, and what it must answer to each.
@@ -14,7 +14,6 @@ pub mod compose;
 pub mod file;
 pub mod find;
 pub mod fold;
-pub mod index;
 mod limits;
 pub mod made;
 pub mod merge;

@@ -13,7 +13,7 @@ pub const MAX_SLIP: usize = 32;
 /// The most letters that a tray has (row 4), and how many are lent for two trays merged (row 15).
 pub const MAX_LETTERS: usize = 2_000;
 
-/// The most letters that a text has, and that are typed for a beginning (row 12).
+/// The most letters that a text has (row 12).
 pub const MAX_TEXT: usize = 2_000;
 
 /// The most bytes that a tray file has (row 16), and how many letters are lent for one (row 15).

@@ -1,6 +1,5 @@
 //! Lent buffers, and one trial: the library and the plain program on the same tray and the same state of buffers.
-use crate::lending::lend;
-use crate::naming::named;
+use crate::lending::{lend, named};
 use crate::told::plainly;
 use kotsghane::{compose, Composed, Join, Place, Refusal, Settings, Side};
 use plain::compose::{compose_tray, fault_before_c, Composition, Rooms};

@@ -1,7 +1,6 @@
 //! What is lent for a shortest legend, and one trial: the library and the plain program on the same tray and the same state of
 //! buffers.
-use crate::lending::lend;
-use crate::naming::named;
+use crate::lending::{lend, named};
 use crate::told::plainly;
 use kotsghane::{shortest, Refusal, Settings, Shortest, MAX_SHORTEST};
 use plain::compose::fault_before_c;

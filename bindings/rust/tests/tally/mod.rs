@@ -3,7 +3,7 @@ use kotsghane::Refusal;
 
 /// By number; 0 for none.
 #[derive(Default)]
-pub struct Tally([usize; 24]);
+pub struct Tally([usize; 23]);
 
 impl Tally {
     pub fn count<T>(&mut self, told: &Result<T, Refusal>) {

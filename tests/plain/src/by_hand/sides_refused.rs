@@ -65,7 +65,7 @@ pub struct Refused {
 }
 
 /// Letters, ends and sides.
-pub(super) fn parts(letters: &str, ends: &[u16], sides: &[u8]) -> Tray {
+fn parts(letters: &str, ends: &[u16], sides: &[u8]) -> Tray {
     Tray {
         letters: letters.into(),
         ends: ends.to_vec(),

@@ -3,7 +3,6 @@ use super::{Lending, TrayRoom, MARK_BYTE, MARK_CELL, MARK_NUMBER, WHOLE_LIST};
 use crate::compose::{self, compose_tray, Composition, Place, Rooms};
 use crate::file::read_tray;
 use crate::find::{self, find_slips, Finding};
-use crate::index::{beginning, build_index};
 use crate::merge::merge_trays;
 use crate::shortest::shortest_legend;
 use crate::tray::Tray;
@@ -37,14 +36,6 @@ impl Sum {
 /// Numbers, each after a blank.
 fn line(numbers: &[usize]) -> String {
     numbers.iter().map(|n| format!(" {n}")).collect()
-}
-
-/// Number and detail of a refusal, 0 and 0 for none.
-fn refused<T>(outcome: &Result<T, Refusal>) -> [usize; 2] {
-    match outcome {
-        Ok(_) => [0, 0],
-        Err(refusal) => [refusal.number, refusal.detail],
-    }
 }
 
 /// The sum of the work area where the call was turned back before place C: there it is unchanged.
@@ -112,7 +103,10 @@ pub fn compose(tray: &Tray, settings: Settings, lent: &Lending) -> String {
 pub fn shortest(tray: &Tray, settings: Settings, work: usize, room: usize) -> String {
     let fault = work_sum(compose::fault_before_c(tray, settings, work), work);
     let outcome = shortest_legend(tray, settings, work, room);
-    let refused = refused(&outcome);
+    let refused = match &outcome {
+        Err(refusal) => [refusal.number, refusal.detail],
+        Ok(_) => [0, 0],
+    };
     let made = outcome.unwrap_or_default();
     let counts = [made.legend.len(), made.order.len()];
     let mut order = [0; MAX_SHORTEST];
@@ -207,20 +201,6 @@ pub fn read(file: &[u8], room: TrayRoom) -> String {
 pub fn merge(first: &Tray, second: &Tray, room: TrayRoom) -> String {
     let outcome = merge_trays(first, second, room.letters, room.ends, room.sides);
     format!("M{}", written(outcome, room))
-}
-
-/// The index built in a lent list, which is summed; then for typed letters the stretch of the list that is handed in, first its
-/// entries and then where it starts and ends, each after the refusal.
-pub fn index(tray: &Tray, entries: usize, typed: &[u8], list: &[u16]) -> String {
-    let mut lent = vec![MARK_CELL as u16; entries];
-    let built = line(&refused(&build_index(tray, &mut lent)));
-    let sum = Sum::of(lent.into_iter().map(usize::from)).0;
-    let found = beginning(tray, list, typed);
-    let answer = line(&refused(&found));
-    let stretch = found.unwrap_or_default();
-    let slips: Vec<usize> = stretch.slips.iter().map(|&slip| usize::from(slip)).collect();
-    let (slips, place) = (line(&slips), line(&[stretch.start, stretch.end()]));
-    format!("I{built} {sum};{answer} [{slips}];{answer}{place}")
 }
 
 /// The bytes that are accepted as the one letter of a tray.

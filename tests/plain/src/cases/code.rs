@@ -1,6 +1,5 @@
 //! How bytes and trays stand in a line of cases: a sign as itself, a blank as `_`, so that fields stay apart, any other byte as
-//! `%` and two hex digits, three or more equal ones with their count before, and a comma where a slip ends. The entries of a list
-//! have commas between them.
+//! `%` and two hex digits, three or more equal ones with their count before, and a comma where a slip ends.
 use crate::tray::Tray;
 use crate::SIGNS;
 
@@ -39,10 +38,4 @@ pub fn tray(tray: &Tray) -> String {
         .zip(&ends)
         .map(|(start, &end)| bytes(&tray.letters[start..end]) + ",");
     slips.collect::<String>() + &bytes(&tray.letters[last..])
-}
-
-/// A list of numbers.
-pub fn list(entries: &[u16]) -> String {
-    let numbers: Vec<String> = entries.iter().map(u16::to_string).collect();
-    numbers.join(",")
 }

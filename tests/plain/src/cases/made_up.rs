@@ -1,6 +1,6 @@
 //! Made-up cases. Each kind has a seed of its own: later kinds are added at the end, and old ones stay as they are.
 use super::makers::{full_tray, many_aside, small_list, small_rooms, typed_file, whole, with_stops};
-use super::{index, least, lending, merging, shortest, sided, sided_trays, tray_room, Case, FILE_ROOM, WHOLE_LIST};
+use super::{least, lending, merging, shortest, sided, sided_trays, tray_room, Case, FILE_ROOM, WHOLE_LIST};
 use crate::made::damage::{damaged, stored, DAMAGES};
 use crate::made::files::{damaged_file, tray_file, BLOTS};
 use crate::made::leasts::{any_least, LEASTS};
@@ -242,19 +242,6 @@ const KINDS: &[Kind] = &[
         sided_trays::file,
     ),
     kind("Damaged tray files with sides", 166, 200, sided_trays::damaged_file),
-    kind("Indexes of slips that begin others", 167, 580, index::small),
-    kind("Indexes of slips of other shapes", 168, 250, index::other_shapes),
-    kind("Indexes of slips on two sides", 169, 250, index::on_two_sides),
-    kind("Lists that are not the index", 170, 450, index::other_list),
-    kind(
-        "Typed letters that are refused, or long",
-        171,
-        200,
-        index::refused_typed,
-    ),
-    kind("Indexes of trays that are refused", 172, 280, index::refused_tray),
-    kind("Indexes of trays of any size", 173, 16, index::any_size),
-    kind("Indexes of full trays", 174, 5, index::full_tray),
 ];
 
 pub fn all() -> Vec<Case> {

@@ -9,7 +9,6 @@
 //! | `A LEAST LEFT RIGHT TRAY` | the tray check, the letters of slip LEFT, the overlap of LEFT and RIGHT |
 //! | `T LETTERS ENDS SIDES FILE` | reading a tray file, with this many letters, ends and sides lent |
 //! | `M LETTERS ENDS TRAY;TRAY` | two trays merged, with this many letters and ends lent, and 200 sides |
-//! | `I ENTRIES TYPED INDEX TRAY` | the index with this many entries lent, and the stretch of INDEX for typed letters |
 //! | `S` | which bytes are signs |
 //!
 //! In these all slips are blank, and the blank side is named. With any other sides the tag is a small letter, and the sides come
@@ -21,7 +20,6 @@
 //! | `l SIDE LIST LEAST ..` | the same |
 //! | `a LIST LEAST ..` | the list of sides |
 //! | `m LIST LIST SIDES LETTERS ..` | the lists of both trays, and how many sides are lent |
-//! | `i LIST ENTRIES ..` | the list of sides |
 //!
 //! LEAST is the least overlap. Every lent buffer is filled with a mark before the call, and after it a sum over all its
 //! cells is told.
@@ -31,7 +29,6 @@ use crate::{Settings, BLANK, FOUND_CELLS, JOIN_CELLS, MAX_SLIPS, ONE_LETTER, PLA
 mod answers;
 mod code;
 pub mod edges;
-mod index;
 mod least;
 mod made_up;
 mod makers;
@@ -122,8 +119,6 @@ pub enum Case {
     Read(Vec<u8>, TrayRoom),
     /// Two trays, and how much is lent.
     Merge(Tray, Tray, TrayRoom),
-    /// A tray, how many entries are lent for its index, typed letters, and the list that is handed in with them as the index.
-    Index(Tray, usize, Vec<u8>, Vec<u16>),
     /// All bytes.
     Signs,
 }
@@ -145,15 +140,6 @@ fn side_tag(tag: char, tray: &Tray, side: u8) -> String {
     }
 }
 
-/// The tag of a case about a tray where no side is named: the capital where all slips are blank, else the small letter with the
-/// list of sides.
-fn list_tag(tag: char, tray: &Tray) -> String {
-    match is_blank(tray) {
-        true => tag.to_string(),
-        false => format!("{} {}", tag.to_ascii_lowercase(), code::bytes(&tray.sides)),
-    }
-}
-
 impl Case {
     fn line(&self) -> String {
         match self {
@@ -171,7 +157,10 @@ impl Case {
                 format!("F {work} {list} {} {}", code::bytes(text), code::tray(tray))
             }
             Case::Ask(tray, least, left, right) => {
-                let tag = list_tag('A', tray);
+                let tag = match is_blank(tray) {
+                    true => "A".to_string(),
+                    false => format!("a {}", code::bytes(&tray.sides)),
+                };
                 format!("{tag} {least} {left} {right} {}", code::tray(tray))
             }
             Case::Read(file, room) => {
@@ -182,10 +171,6 @@ impl Case {
                 let tag = merge_tag(first, second, room.sides);
                 let trays = [first, second].map(code::tray).join(";");
                 format!("{tag} {} {} {trays}", room.letters, room.ends)
-            }
-            Case::Index(tray, entries, typed, list) => {
-                let (tag, tray) = (list_tag('I', tray), code::tray(tray));
-                format!("{tag} {entries} {} {} {tray}", code::bytes(typed), code::list(list))
             }
             Case::Signs => "S".to_string(),
         }
@@ -201,7 +186,6 @@ impl Case {
             Case::Ask(tray, least, left, right) => answers::ask(tray, *least, *left, *right),
             Case::Read(file, room) => answers::read(file, *room),
             Case::Merge(first, second, room) => answers::merge(first, second, *room),
-            Case::Index(tray, entries, typed, list) => answers::index(tray, *entries, typed, list),
             Case::Signs => answers::signs(),
         }
     }
@@ -219,8 +203,7 @@ fn merge_tag(first: &Tray, second: &Tray, sides: usize) -> String {
     }
 }
 
-/// All cases: the edge trays, the specimens, the made-up ones, and after these, so that no line before them moves, what was worked
-/// out by hand of the index.
+/// All cases: the edge trays, the specimens, and the made-up ones.
 pub fn all() -> Vec<Case> {
     let specimens = [
         specimens::all(),
@@ -229,7 +212,7 @@ pub fn all() -> Vec<Case> {
         merging::specimens(),
         sides::specimens(),
     ];
-    [edge_trays(), specimens.concat(), made_up::all(), index::specimens()].concat()
+    [edge_trays(), specimens.concat(), made_up::all()].concat()
 }
 
 fn edge_trays() -> Vec<Case> {

@@ -2,7 +2,6 @@
 //! new kinds leave the old ones as they are.
 use crate::{MAX_LETTERS, SIGNS};
 
-pub mod beginnings;
 pub mod campaigns;
 pub mod damage;
 pub mod files;
