@@ -22,7 +22,7 @@ add_sheet-second-requires c =
 pub add_sheet-requires : goal.add_sheet-requires
 add_sheet-requires c =
     let r = third_room _ _ _ _ c.check_sided_tray-fault.ensures _ _ _ c.requires c.if-fault-ne0.false _ _ _ _ c.add_sheet-first.ensures
-        _ _ _ _ c.add_sheet-second.ensures in
+    _ _ _ _ c.add_sheet-second.ensures in
     record { side_room = r.0; sheet_room_in_bounds = r.1 }
 
 pub returns : goal.returns
