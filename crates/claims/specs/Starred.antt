@@ -57,7 +57,7 @@ sheet_of ss =
 
 pub data Asked : Type 0 where
   composing : Asked
-  overlap_of_lem : ℕ → ℕ → Asked
+  overlap_between : ℕ → ℕ → Asked
   finding_in : String → Asked
 
 pub data Told : Type 0 where
@@ -68,7 +68,7 @@ pub data Told : Type 0 where
 
 abbrev pub answer : List ℕ → List ℕ → Asked → Told
 answer s es composing = sheet (sheet_of (slips_of s es))
-answer s es (overlap_of_lem i j) = pair (pair_of 1 s es (replicate (length es) blank_side) i j)
+answer s es (overlap_between i j) = pair (pair_of 1 s es (replicate (length es) blank_side) i j)
 answer s es (finding_in t) = finds (moves (slips_of s es) (word t)) (occurrences (slips_of s es) (word t))
 
 pub record Specimen : Type 0 where
@@ -109,7 +109,7 @@ starred =
     composes "" [] (0 ∷ 0 ∷ 0 ∷ 0 ∷ 0 ∷ []) [] [] ""
     ∷ composes "AVG" (3 ∷ []) (1 ∷ 1 ∷ 3 ∷ 0 ∷ 3 ∷ []) (line 1 3 1 K ∷ []) [] "AVG"
     ∷ composes "AVGAVG" (3 ∷ 6 ∷ []) (2 ∷ 1 ∷ 3 ∷ 0 ∷ 3 ∷ []) (line 1 3 1 K ∷ line 2 3 1 S ∷ []) [] "AVG"
-    ∷ specimen "AVGAVG" (3 ∷ 6 ∷ []) (overlap_of_lem 1 2) (pair (record { number = 0; detail = 0; letters = 3 }))
+    ∷ specimen "AVGAVG" (3 ∷ 6 ∷ []) (overlap_between 1 2) (pair (record { number = 0; detail = 0; letters = 3 }))
     ∷ composes "AVGCAESAVG" (3 ∷ 10 ∷ []) (2 ∷ 1 ∷ 7 ∷ 0 ∷ 7 ∷ []) (line 1 3 5 S ∷ line 2 7 1 K ∷ []) [] "CAESAVG"
     ∷ composes "ANNA" (4 ∷ []) (1 ∷ 1 ∷ 4 ∷ 0 ∷ 4 ∷ []) (line 1 4 1 K ∷ []) [] "ANNA"
     ∷ composes "ABBA" (2 ∷ 4 ∷ []) (2 ∷ 2 ∷ 4 ∷ 1 ∷ 3 ∷ []) (line 1 2 2 K ∷ line 2 2 1 K ∷ []) (join 2 1 1 ∷ []) "BAB"
