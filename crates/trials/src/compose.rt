@@ -1,7 +1,7 @@
 // Composing a tray: over lent numbers, over records, and its slips and pairs by themselves.
 ghost use Rattle.std.specs.Prelude.{◌≤◌, length};
 
-use crate::shortest;
+use crate::seek;
 use answers::{Composed, Join, Place, RECORD_CELLS};
 use trays::{BLANK_SIDE, Settings};
 use trials_lines::writing::put;
@@ -30,7 +30,7 @@ fn read_rooms(line: &[u8], from: usize, side: u8) -> Rooms
     requires { from ≤ length line.now }
     ensures { result.at ≤ length line.now }
 {
-    let first = shortest::read_rooms(line, from, side);
+    let first = seek::read_rooms(line, from, side);
     let joins_at = first.at;
     let joins = table::field(line, joins_at);
     let places_at = joins.at;

@@ -23,14 +23,14 @@ use trials_lines::table;
 
 mod compose;
 mod find;
-mod shortest;
+mod seek;
 
 fn row(line: &[u8]) {
     match table::byte_at(line, 0) {
         b'C' => compose::row(line),
         b'c' => compose::side_row(line),
-        b'L' => shortest::row(line),
-        b'l' => shortest::side_row(line),
+        b'L' => seek::row(line),
+        b'l' => seek::side_row(line),
         b'F' => find::row(line),
         b'A' => trials_ask::ask::row(line),
         b'a' => trials_ask::ask::side_row(line),
