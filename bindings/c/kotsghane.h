@@ -1,7 +1,8 @@
 /* Coin legends composed from worn readings: the calls of the proved library, for C and C++.
  *
  * `rt lib` in the folder crates/kotsghane writes out/libkotsghane.a there, for x86-64 programs; link it. This file declares what the archive has: functions
- * over pointers, lengths and numbers. kotsghane_structs.h has the same calls with structs; most callers will want that one.
+ * over pointers, lengths and numbers (but two on the index of beginnings, which callers in C do not have yet). kotsghane_structs.h has the same calls with
+ * structs; most callers will want that one.
  *
  * A tray is letters, ends and sides: slip 1 is letters[0] up to, but not including, letters[ends[0]], and each later slip i begins where the one before
  * ends, at letters[ends[i - 2]], and ends before letters[ends[i - 1]]. Slips are numbered from 1. A letter is a capital A to Z or the full stop. The side of

@@ -1,25 +1,37 @@
 -- The rows before place C, one after another.
+--   place-most      == the place of the first bad byte is within the text
 --   before-..       == the ways through check_find
 --   silent-..       == what holds where none of them turns the call back
 --   fault_is        == then only 14 is left
 use mathlib.Core.Path.{◌≡◌, sym, ◌∙◌}
 use mathlib.Core.List.{List, [], ◌∷◌, ◌++◌}
-use Prim.Native.Nat.{ℕ, ◌≤◌, ◌<◌}
-use borrow.Author.Tests.{ltb-false, lt-ltb, le-ltb}
+use Prim.Native.Nat.{ℕ, suc, ◌+◌, ◌≤◌, ◌<◌}
+use borrow.Author.Tests.{ltb-false, lt-ltb, le-ltb, le-leb}
 use native.Mathlib.Omega.{arith}
 use lib.Dec.{ltb, leb}
 use lib.ListN.{length}
+use Rattle.words.proofs.Tests.{by_test}
 use Rattle.trays.specs.declared.Refusal.{Refusal}
 use Rattle.trays.specs.Limits.{max_text, work_need}
-use Rattle.trays.specs.Slips.{slips_of}
-use Rattle.trays.specs.Faults.{refusal, accepted, row, or_else, first_row, bad_place, tray_rows, tray_fault, text_rows}
+use Rattle.trays.specs.Slips.{slips_of, is_letter}
+use Rattle.trays.specs.Faults.{refusal, accepted, row, or_else, first_row, bad_place, tray_rows, tray_fault}
 use Rattle.trays.proofs.Rows.{or_zero, or_some, both_silent, rows_append}
 use Rattle.trays.proofs.Accepted.{row_silent}
 use Rattle.matching.specs.Occurrences.{occurrences}
 use Rattle.answers.specs.WorkArea.{work_row}
 use Rattle.trie_build.specs.Steps.Built.{Buildable}
-use Rattle.answers.specs.Finding.{find_rows, find_before, list_row, find_fault}
+use Rattle.answers.specs.Finding.{text_rows, find_rows, find_before, list_row, find_fault}
 use Rattle.find_core.specs.Steps.Searching.{Clear}
+
+place-from : (i : ℕ) (t : List ℕ) → bad_place i t ≤ i + length t
+place-from i [] = omega arith
+place-from i (b ∷ bs) =
+    by_test (is_letter b)
+    (λ e. rw (e, bad_place) (omega (arith, place-from (suc i) bs)))
+    (λ e. rw (e, bad_place) (omega arith))
+
+pub place-most : (t : List ℕ) → bad_place 1 t ≤ 1 + length t
+place-most t = place-from 1 t
 
 module _ (s es t : List ℕ) (cells : ℕ) (f : Refusal) (e : f ≡ tray_fault s es) where
   pub before_tray : (f.number ≡ 0 → ⊥) → f ≡ find_before s es t cells
@@ -28,20 +40,23 @@ module _ (s es t : List ℕ) (cells : ℕ) (f : Refusal) (e : f ≡ tray_fault s
       ∙ rw (← e) (or_some f (first_row (text_rows t ++ (work_row cells ∷ []))) (omega arith)))
 
   module _ (z : f.number ≡ 0) where
-    behind_tray : find_before s es t cells ≡ or_else (first_row (text_rows t)) (or_else (work_row cells) accepted)
+    behind_tray : find_before s es t cells ≡ first_row (text_rows t ++ (work_row cells ∷ []))
     unfolding find_before tray_fault
-    behind_tray =
-        rows_append (tray_rows s es) (text_rows t ++ (work_row cells ∷ []))
-        ∙ rw (← e) (or_zero f (first_row (text_rows t ++ (work_row cells ∷ []))) z)
-        ∙ rows_append (text_rows t) (work_row cells ∷ [])
+    behind_tray = rows_append (tray_rows s es) (text_rows t ++ (work_row cells ∷ [])) ∙ rw (← e) (or_zero f (first_row (text_rows t ++ (work_row cells ∷ []))) z)
 
-    module _ (g : Refusal) (h : g ≡ first_row (text_rows t)) where
-      pub before_text : (g.number ≡ 0 → ⊥) → g ≡ find_before s es t cells
-      before_text q = sym (behind_tray ∙ rw (← h) (or_some g (or_else (work_row cells) accepted) (omega arith)))
+    pub before_long : (r : Refusal) → r ≡ refusal 12 0 → max_text < length t → r ≡ find_before s es t cells
+    before_long r e h = e ∙ sym (behind_tray ∙ rw (lt-ltb max_text (length t) h))
 
-      module _ (q : g.number ≡ 0) where
+    module _ (h : length t ≤ max_text) {b : ℕ} (p : b ≡ bad_place 1 t) where
+      pub place_fits : b < 4294967296
+      place_fits = omega (arith, place-most t)
+
+      pub before_bad : (r : Refusal) → r ≡ refusal 13 b → (b ≡ 0 → ⊥) → r ≡ find_before s es t cells
+      before_bad r e q = e ∙ sym (behind_tray ∙ rw (le-ltb max_text (length t) h, ← p, le-leb 1 b (omega arith)))
+
+      module _ (q : b ≡ 0) where
         behind_text : find_before s es t cells ≡ or_else (work_row cells) accepted
-        behind_text = behind_tray ∙ rw (← h) (or_zero g (or_else (work_row cells) accepted) q)
+        behind_text = behind_tray ∙ rw (le-ltb max_text (length t) h, ← p, q)
 
         pub before-room : (r : Refusal) → r ≡ refusal 7 0 → cells < work_need → r ≡ find_before s es t cells
         before-room r e l = e ∙ sym (behind_text ∙ rw (lt-ltb cells work_need l))

@@ -7,7 +7,7 @@ ghost use Rattle.trie_build.specs.Steps.Built.{Buildable};
 ghost use Rattle.answers.specs.Finding as F;
 ghost use Rattle.find_core.specs.Steps.Searching as T;
 
-use answers::{Found, Search};
+use answers::{Found, MAX_TEXT, Search};
 use layout::{SCAN, WORK_NEED};
 use trays::{Refusal, refuse};
 
@@ -26,9 +26,12 @@ fn check_find(letters: &[u8], ends: &[u16], text: &[u8], cells: usize) -> Refusa
     if tray.number != 0 {
         return tray;
     }
-    let read = tray_check::check_text(text);
-    if read.number != 0 {
-        return read;
+    if MAX_TEXT < text.len() {
+        return refuse(12, 0);
+    }
+    let bad = tray_check::first_bad(text);
+    if bad != 0 {
+        return refuse(13, bad as u32);
     }
     if cells < WORK_NEED {
         return refuse(7, 0);
