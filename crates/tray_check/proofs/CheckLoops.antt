@@ -5,7 +5,7 @@
 --   holding-..  == the slip that holds a place
 --   last-..     == the last end
 use mathlib.Core.Path.{◌≡◌, refl, sym, ◌∙◌, ap}
-use mathlib.Core.Bool.{Bool, true, false, cond}
+use mathlib.Core.Bool.{Bool, true, false, not, cond}
 use mathlib.Core.List.{List, [], ◌∷◌}
 use Prim.Native.Nat.{ℕ, zero, suc, ◌+◌, ◌-◌, ◌≤◌, ◌<◌}
 use borrow.Author.Tests.{lt-ltb, le-ltb, le-leb, lt-leb, eq-eqb, ne_eqb}
@@ -14,33 +14,39 @@ use native.Mathlib.Omega.{arith}
 use lib.Dec.{leb, ltb}
 use lib.ListN.{length, get_or, drop, drop_of_length-le}
 use lib.Seq.{drop-cons}
+use Rattle.std.proofs.Common.{Option, None, Some, slice_get}
+use Rattle.std.proofs.lemmas.Option.{get_or_from_slice_get}
+use Rattle.std.specs.Option.{option_or}
+use Rattle.std.specs.Bool.{then_some}
+use Rattle.std.specs.List.{position_or_len}
 use Rattle.words.specs.Lists.{last_or}
 use Rattle.words.proofs.Tests.{by_test}
 use Rattle.trays.specs.declared.Refusal.{Refusal}
+use Rattle.trays.specs.Told.{place_of}
+use Rattle.trays.proofs.Found.{first_found}
 use Rattle.trays.specs.Limits.{max_slip}
 use Rattle.trays.specs.Slips.{stop, is_letter}
 use Rattle.trays.specs.Faults.{refusal, not_above, too_long, bad_place}
 use Rattle.tray_check.specs.Steps.Checks.{first_of, note_long, ends_fault, slip_holding}
 
-pub letter_stop : (b : ℕ) → b ≡ stop → true ≡ is_letter b
-letter_stop b e = rw (eq-eqb b stop e)
+not-true : (b : Bool) → not b ≡ true → b ≡ false
+not-true true t = sym t
+not-true false t = refl
 
-pub letter_low : (b : ℕ) → (b ≡ stop → ⊥) → b < 65 → false ≡ is_letter b
-letter_low b e h = rw (ne_eqb b stop e, lt-leb 65 b h)
+not-false : (b : Bool) → not b ≡ false → b ≡ true
+not-false true t = refl
+not-false false t = sym t
 
-pub letter_high : (b : ℕ) → (b ≡ stop → ⊥) → 65 ≤ b → leb b 90 ≡ is_letter b
-letter_high b e h = rw (ne_eqb b stop e, le-leb 65 b h)
+pub bad_found : (r : Option ℕ) (s : List ℕ) →
+    r ≡ cond (ltb (position_or_len (λ b. not (is_letter b)) s) (length s)) (Some (position_or_len (λ b. not (is_letter b)) s)) None → place_of r ≡ bad_place 1 s
+bad_found r s e =
+    first_found (λ b. not (is_letter b)) bad_place (λ i. refl)
+    (λ i b bs t. rw (not-true (is_letter b) t, bad_place)) (λ i b bs t. rw (not-false (is_letter b) t, bad_place)) r s e
 
-module _ (s : List ℕ) (i : ℕ) (r : Bool) (h : i < length s) (e : r ≡ is_letter (get_or s i 0)) (k : bad_place 1 s ≡ bad_place (i + 1) (drop i s)) where
-  pub bad_here : r ≡ false → i + 1 ≡ bad_place 1 s
-  bad_here f = rw (k, drop-cons s i 0, sym e ∙ f, bad_place)
-
-  pub bad_next : r ≡ true → bad_place 1 s ≡ bad_place (i + 1 + 1) (drop (i + 1) s)
-  bad_next f = let g : bad_place (i + 1) (drop i s) ≡ bad_place (suc (i + 1)) (drop (suc i) s) =
-      rw (drop-cons s i 0, sym e ∙ f, bad_place) in rw (add-one (i + 1)) (k ∙ g ∙ ap (λ (n : ℕ). bad_place (suc (i + 1)) (drop n s)) (sym (add-one i)))
-
-pub bad_none : (s : List ℕ) (i : ℕ) → length s ≤ i → bad_place 1 s ≡ bad_place (i + 1) (drop i s) → 0 ≡ bad_place 1 s
-bad_none s i h k = rw (k, drop_of_length-le s h)
+pub holding_found : (p : ℕ) (r : Option ℕ) (es : List ℕ) →
+    r ≡ cond (ltb (position_or_len (leb p) es) (length es)) (Some (position_or_len (leb p) es)) None → place_of r ≡ slip_holding 1 p es
+holding_found p r es e =
+    first_found (leb p) (λ i. slip_holding i p) (λ i. refl) (λ i x xs t. rw (t, slip_holding)) (λ i x xs t. rw (t, slip_holding)) r es e
 
 first_none : (a : ℕ) → a ≡ 0 → (b : ℕ) → first_of a b ≡ b
 first_none zero e b = refl
@@ -50,15 +56,24 @@ first_some : (a : ℕ) → 1 ≤ a → (b : ℕ) → first_of a b ≡ a
 first_some zero h b = absurd (omega arith)
 first_some (suc a) h b = refl
 
-pub note_found : (long i here e : ℕ) → (long ≡ 0 → ⊥) → long ≡ note_long long i here e
-note_found zero i here e h = absurd (h refl)
-note_found (suc long) i here e h = refl
+-- the first slip that is too long, as an Option
+abbrev pub number : Option ℕ → ℕ
+number None = 0
+number (Some d) = d
 
-pub note_this : (long i here e : ℕ) → long ≡ 0 → here + max_slip < e → i ≡ note_long long i here e
-note_this long i here e z h = rw (first_none long z, lt-ltb (here + max_slip) e h)
+abbrev pub Noted : Option ℕ → Type 0
+Noted None = Unit {0}
+Noted (Some d) = 1 ≤ d
 
-pub note_none : (long i here e : ℕ) → long ≡ 0 → e ≤ here + max_slip → 0 ≡ note_long long i here e
-note_none long i here e z h = rw (first_none long z, le-ltb (here + max_slip) e h)
+pub noted : (long : Option ℕ) (b : Bool) (k : ℕ) → Noted long → number (option_or long (then_some b k)) ≡ first_of (number long) (cond b k 0)
+noted None true k g = refl
+noted None false k g = refl
+noted (Some d) b k g = sym (first_some d g _)
+
+pub noted_more : (long : Option ℕ) (b : Bool) (k : ℕ) → Noted long → 1 ≤ k → Noted (option_or long (then_some b k))
+noted_more None true k g h = h
+noted_more None false k g h = tt
+noted_more (Some d) b k g h = g
 
 -- one end more: e stands at i, and the pass is at slip k, behind the end `here`
 module _ (es : List ℕ) (i k here e : ℕ) (h : i < length es) (v : e ≡ get_or es i 0) (n : not_above 1 0 es ≡ not_above k here (drop i es)) where
@@ -99,26 +114,13 @@ module _ (es : List ℕ) (i k here long : ℕ) (h : length es ≤ i) (n : not_ab
   pub ends_good : (r : Refusal) → r ≡ refusal 0 0 → long ≡ 0 → r ≡ ends_fault es
   ends_good r q z = q ∙ rw (no_fall, first_long, z)
 
-module _ (es : List ℕ) (p i k e : ℕ) (h : i < length es) (v : e ≡ get_or es i 0) (n : slip_holding 1 p es ≡ slip_holding k p (drop i es)) where
-  pub holding_here : p ≤ e → k ≡ slip_holding 1 p es
-  holding_here t = sym (n ∙ rw (drop-cons es i 0, rw v at (le-leb p e t), slip_holding))
-
-  pub holding_next : e < p → slip_holding 1 p es ≡ slip_holding (k + 1) p (drop (i + 1) es)
-  holding_next t =
-      let g : slip_holding k p (drop i es) ≡ slip_holding (suc k) p (drop (suc i) es) = rw (drop-cons es i 0, rw v at (lt-leb p e t), slip_holding) in
-      rw (add-one k, add-one i) (n ∙ g)
-
-pub holding_none : (es : List ℕ) (p i k : ℕ) → length es ≤ i → slip_holding 1 p es ≡ slip_holding k p (drop i es) → 0 ≡ slip_holding 1 p es
-holding_none es p i k h n = rw (n, drop_of_length-le es h)
-
-pub last_none : (es : List ℕ) → length es ≡ 0 → 0 ≡ last_or 0 es
-last_none [] e = refl
-last_none (x ∷ es) e = absurd (omega arith)
-
 last_at : (d : ℕ) (es : List ℕ) → last_or d es ≡ get_or (d ∷ es) (length es) 0
 last_at d [] = refl
 last_at d (e ∷ es) = last_at e es
 
-pub last_some : (es : List ℕ) (e : ℕ) → (length es ≡ 0 → ⊥) → e ≡ get_or es (length es - 1) 0 → e ≡ last_or 0 es
-last_some [] e z v = absurd (z refl)
-last_some (x ∷ es) e z v = v ∙ rw sub-one (sym (last_at x es))
+pub last_told : (es : List ℕ) (x e : ℕ) → slice_get es (length es - 1) ≡ Some x → e ≡ x → e ≡ last_or 0 es
+last_told [] x e g h = absurd (none (length {A = ℕ} [] - 1) g)
+  where
+    none : (k : ℕ) → slice_get [] k ≡ Some x → ⊥
+    none k q = cc
+last_told (y ∷ es) x e g h = h ∙ sym (get_or_from_slice_get (y ∷ es) (length (y ∷ es) - 1) x 0 g) ∙ rw sub-one (sym (last_at y es))

@@ -5,13 +5,14 @@ pub mod Kept
 pub mod LeftOut
 pub mod Rising
 pub mod Rows
+pub mod Told
+pub mod Found
 pub mod Accepted
 pub mod SetTrays
 pub mod SidedTrays
 pub mod Spans
 pub mod Stored
 pub mod Stops
-pub mod NotStopsLoop
 pub mod WrittenSlips
 pub mod WrittenTrays
 pub mod Specimens

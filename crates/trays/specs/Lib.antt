@@ -3,6 +3,7 @@ pub mod Limits
 pub mod Slips
 pub mod Aside
 pub mod Faults
+pub mod Told
 pub mod Sides
 pub mod Written
 pub mod Answers

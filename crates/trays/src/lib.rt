@@ -3,7 +3,12 @@
 
 ghost use Rattle.std.specs.Prelude.{◌≡◌};
 ghost use Rattle.trays.specs.Aside.{not_stops};
-ghost use Rattle.trays.specs.Faults.{refusal};
+
+pub use fault::Fault;
+pub use tray::Tray;
+
+mod fault;
+mod tray;
 
 pub const MAX_SLIPS: usize = 200;
 
@@ -74,24 +79,10 @@ pub struct Span {
     pub end: usize,
 }
 
-// The refusal with this number and detail; 0 and 0 for none.
-pub fn refuse(number: u8, detail: u32) -> Refusal
-    ensures { result ≡ refusal number detail }
-{
-    Refusal { number, detail }
-}
-
 // Whether some letter of a string is no stop, so that it counts as an overlap where it is long enough. It looks from the last letter on; neither end is
 // better in itself, but the other one moved code elsewhere (docs/DECISIONS.md, *Code*).
 pub fn not_stops(x: &[u8]) -> bool
     ensures { result ≡ not_stops x.now }
 {
-    let mut i = x.len();
-    while 0 < i {
-        i -= 1;
-        if x[i] != STOP {
-            return true;
-        }
-    }
-    false
+    x.iter().any(|b| *b != STOP)
 }

@@ -1,15 +1,15 @@
 -- One turn of the loop that counts common letters.
 use mathlib.Core.Path.{◌≡◌, refl, sym}
 use mathlib.Core.List.{List, [], ◌∷◌}
-use Prim.Native.Nat.{ℕ, suc, ◌+◌, ◌≤◌, ◌<◌}
-use borrow.Author.Tests.{eq-eqb, ne_eqb}
+use Prim.Native.Nat.{ℕ, suc, ◌+◌, ◌≤◌, ◌<◌, min}
+use borrow.Author.Tests.{eq-eqb, ne_eqb, leb-true, leb-false}
+use lib.Dec.{leb}
+use Rattle.words.proofs.Tests.{by_test}
 use native.Mathlib.Numerals.{add-one}
 use native.Mathlib.Omega.{arith}
 use lib.ListN.{length, get_or, drop, drop_of_length-le}
 use lib.Seq.{drop-cons}
-use lib.Dec.{eqb}
-use Rattle.words.specs.Words.{common, begins}
-use Rattle.words.proofs.CommonPrefix.{begins-common}
+use Rattle.words.specs.Words.{common}
 
 common_nil : (xs : List ℕ) → common xs [] ≡ 0
 common_nil [] = refl
@@ -31,15 +31,11 @@ common-differs a b n ha hb e h =
     omega arith
 
 -- one of the strings ends at n
-pub common-ends : (a b : List ℕ) (n : ℕ) → length b ≤ n → common a b ≡ n + common (drop n a) (drop n b) → n ≡ common a b
-common-ends a b n hb h =
-    let g : common (drop n a) (drop n b) ≡ 0 = rw (drop_of_length-le b hb, common_nil) in
-    omega arith
-
-pub common-whole : (a b : List ℕ) (n : ℕ) → length a ≤ n → common a b ≡ n + common (drop n a) (drop n b) → n ≡ common a b
-common-whole a b n ha h =
-    let g : common (drop n a) (drop n b) ≡ 0 = rw (drop_of_length-le a ha) in
-    omega arith
-
-pub begins-is : (n : ℕ) (x y : List ℕ) → n ≡ common x y → eqb n (length x) ≡ begins x y
-begins-is n x y e = rw e (sym (begins-common x y))
+pub common_all : (a b : List ℕ) (m n : ℕ) → m ≡ min (length a) (length b) → m ≤ n → common a b ≡ n + common (drop n a) (drop n b) → n ≤ m → m ≡ common a b
+common_all a b m n e l h u =
+    by_test (leb (length a) n)
+    (λ t. at_end (rw (drop_of_length-le a (leb-true (length a) n t))))
+    (λ t. let f = leb-false (length a) n t in let g : length b ≤ n = omega arith in at_end (rw (drop_of_length-le b g, common_nil)))
+  where
+    at_end : common (drop n a) (drop n b) ≡ 0 → m ≡ common a b
+    at_end g = omega arith

@@ -6,9 +6,13 @@
 --   one_of           == what a false && tells
 --   and_intro, or_left, or_right == the other way
 --   same_test        == two tests that imply each other are equal
-use mathlib.Core.Path.{◌≡◌, refl, sym}
+--   any-is           == the library's word for any
+use mathlib.Core.Path.{◌≡◌, refl, sym, ap}
 use mathlib.Core.Bool.{Bool, true, false, true≢false, false≢true, ◌&&◌, ◌||◌}
 use mathlib.Core.Logic.{◌⊎◌, inl, inr}
+use mathlib.Core.List.{List, [], ◌∷◌}
+use Rattle.std.specs.List.{list_any}
+use Rattle.words.specs.Lists.{any}
 
 pub by_test : {P : Type 0} (b : Bool) → (b ≡ true → P) → (b ≡ false → P) → P
 by_test true t f = t refl
@@ -54,3 +58,8 @@ pub same_test : (a b : Bool) → (a ≡ true → b ≡ true) → (b ≡ true →
 same_test true b t f = sym (t refl)
 same_test false true t f = f refl
 same_test false false t f = refl
+
+-- the library's word for a test that some member passes
+pub any-is : {A : Type 0} (p : A → Bool) (xs : List A) → list_any p xs ≡ any p xs
+any-is p [] = refl
+any-is p (x ∷ xs) = ap (λ b. p x || b) (any-is p xs)

@@ -1,12 +1,11 @@
-use Rattle.tray_check.proofs.CheckLoops.{bad_here, bad_next, bad_none}
-use borrow.Author.Rules.{rules}
+use Rattle.std.proofs.Common.{ℕ, Bool, not, rules, tests}
+use Rattle.std.proofs.lemmas.Iterator.{YieldsList-from_slice}
+use Rattle.std.proofs.lemmas.Iterator.Search.{position_from_yields_List}
+use Rattle.trays.specs.Slips.{is_letter}
+use Rattle.tray_check.proofs.CheckLoops.{bad_found}
 use Rattle.tray_check.proofs.first_bad.Goals as goal
 
-pub loop-i-preserved : goal.loop-i-preserved
-loop-i-preserved c = (search rules, search bad_next)
-
-pub returns-else-good : goal.returns-else-good
-returns-else-good c = search bad_here
-
 pub returns : goal.returns
-returns c = search bad_none
+returns c =
+    let test : ℕ → Bool = λ b. not (is_letter b) in
+    bad_found _ c.args.s.now (position_from_yields_List test _ _ c.position.result c.position.ensures.ran (YieldsList-from_slice c.args.s.now cc) (λ x b q k. search (rules, tests)))

@@ -1,8 +1,6 @@
-use Rattle.tray_check.proofs.CheckLoops.{last_none, last_some}
+use Rattle.std.proofs.Common.{sym}
+use Rattle.tray_check.proofs.CheckLoops.{last_told}
 use Rattle.tray_check.proofs.last_end.Goals as goal
 
-pub returns-then-ends-eq0 : goal.returns-then-ends-eq0
-returns-then-ends-eq0 c = search last_none
-
-pub returns : goal.returns
-returns c = search last_some
+pub returns-in-Some : goal.returns-in-Some
+returns-in-Some c = let h = c.in-Some.ensures.value in last_told c.args.ends.now c.in-Some.end.now _ (sym h) c.from.ensures

@@ -1,17 +1,18 @@
-use Rattle.tray_check.proofs.CheckLoops.{holding_here, holding_next, holding_none}
-use borrow.Author.Rules.{rules}
+use Rattle.std.proofs.Common.{◌≡◌, refl, rules, tests}
+use Rattle.std.proofs.lemmas.Iterator.{YieldsList-from_slice}
+use Rattle.std.proofs.lemmas.Iterator.Search.{position_from_yields_List}
+use lib.Dec.{leb}
+use Rattle.trays.specs.Told.{place_of}
+use Rattle.tray_check.specs.Steps.Checks.{slip_holding}
+use Rattle.tray_check.proofs.CheckLoops.{holding_found}
+use Rattle.tray_check.proofs.slip_holding.Goals.{After-position}
 use Rattle.tray_check.proofs.slip_holding.Goals as goal
 
-pub returns-then-place-wide : goal.returns-then-place-wide
-returns-then-place-wide c = search holding_here
+found : (c : After-position) → place_of c.position.result ≡ slip_holding 1 c.args.place c.args.ends.now
+found c = holding_found c.args.place _ _ (position_from_yields_List (leb c.args.place) _ _ c.position.result c.position.ensures.ran (YieldsList-from_slice c.args.ends.now cc) (λ x b q k. search (rules, tests)))
 
-pub loop-i-preserved : goal.loop-i-preserved
-loop-i-preserved c =
-    let l = c.loop-i in (
-      search rules,
-      search rules,
-      holding_next _ _ l.i l.slip c.wide.result (search rules) (search rules) l.invariant.2 (search rules),
-    )
+pub returns-in-Some : goal.returns-in-Some
+returns-in-Some c = rw (← found (goal.at.returns-in-Some c).After-position, c.in-Some.is) refl
 
-pub returns : goal.returns
-returns c = search holding_none
+pub returns-in-None : goal.returns-in-None
+returns-in-None c = rw (← found (goal.at.returns-in-None c).After-position, c.in-None.is) refl

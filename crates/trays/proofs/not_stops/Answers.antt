@@ -1,15 +1,14 @@
-use Rattle.trays.proofs.NotStopsLoop.{not_stops_start, not_stops_here, not_stops_next, not_stops_none}
-use borrow.Author.Rules.{rules}
+use Rattle.std.proofs.Common.{◌≡◌, ◌∙◌, ℕ, Bool, not, rules, tests}
+use Rattle.std.specs.List.{list_any}
+use Rattle.std.proofs.lemmas.Iterator.{YieldsList-from_slice}
+use Rattle.std.proofs.lemmas.Iterator.Search.{any_from_yields_List}
+use lib.Dec.{eqb}
+use Rattle.words.proofs.Tests.{any-is}
+use Rattle.trays.specs.Slips.{stop}
 use Rattle.trays.proofs.not_stops.Goals as goal
 
-pub loop-i-init : goal.loop-i-init
-loop-i-init c = (search rules, search not_stops_start)
-
-pub returns-then-x-i-ne-STOP : goal.returns-then-x-i-ne-STOP
-returns-then-x-i-ne-STOP c = search not_stops_here
-
-pub loop-i-preserved : goal.loop-i-preserved
-loop-i-preserved c = (search rules, search not_stops_next)
-
 pub returns : goal.returns
-returns c = search not_stops_none
+returns c =
+    let test : ℕ → Bool = λ b. not (eqb b stop) in
+    any_from_yields_List test _ _ _ c.any.ensures.ran (YieldsList-from_slice c.args.x.now cc) (λ x b q k. search (rules, tests))
+    ∙ any-is test c.args.x.now

@@ -7,6 +7,3 @@ use Rattle.words.proofs.common.Given as goal
 
 abbrev pub invariant-loop-n : goal.invariant-loop-n
 invariant-loop-n l = (l.n ≤ length l.a) × (common l.a l.b ≡ l.n + common (drop l.n l.a) (drop l.n l.b))
-
-abbrev pub decreases-loop-n : goal.decreases-loop-n
-decreases-loop-n l = length l.a - l.n

@@ -7,6 +7,3 @@ use Rattle.words.proofs.overlap.Given as goal
 
 abbrev pub invariant-loop-i : goal.invariant-loop-i
 invariant-loop-i l = (l.i ≤ length l.a) × (overlap l.a l.b ≡ overlap (drop l.i l.a) l.b)
-
-abbrev pub decreases-loop-i : goal.decreases-loop-i
-decreases-loop-i l = length l.a - l.i
