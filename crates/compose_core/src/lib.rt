@@ -8,12 +8,11 @@ ghost use Rattle.trie_build.specs.Steps.Built.{Buildable};
 ghost use Rattle.compose_finish.specs.Steps.Finishing.{Finished};
 
 use answers::Composed;
-use trays::{MAX_SLIPS, Settings};
+use trays::{MAX_SLIPS, Settings, Tray};
 
 // An accepted tray, composed in a work area that is large enough: the automaton, the lists at its nodes, the walk, and what comes after it.
 pub fn compose_accepted(
-    letters: &[u8],
-    ends: &[u16],
+    tray: Tray<'_>,
     settings: Settings,
     work: &mut [u16],
     legend: &mut [u8],
@@ -21,26 +20,25 @@ pub fn compose_accepted(
     places_room: usize,
 ) -> Composed
     requires le_least { 1 ≤ settings.least }
-    requires buildable { Buildable letters.now ends.now work.old }
-    ensures { Finished (whole settings (slips_of letters.now ends.now)) work.old work.new
+    requires buildable { Buildable tray.letters.now tray.ends.now work.old }
+    ensures { Finished (whole settings (slips_of tray.entry.letters.now tray.entry.ends.now)) work.old work.new
         legend.old legend.new joins_room places_room result }
 {
     let least = settings.least as usize;
-    let n = ends.len();
-    let nodes = trie_build::build(letters, ends, work);
-    let k = kept_lists::fill_lists(letters, ends, work, n, nodes);
+    let n = tray.ends.len();
+    let nodes = trie_build::build(tray, work);
+    let k = kept_lists::fill_lists(tray, work, n, nodes);
     let mut left = [0u16; 200];
     let mut right = [0u16; 200];
     let mut overs = [0u16; MAX_SLIPS];
     let mut first = [0u16; MAX_SLIPS];
     let mut last = [0u16; MAX_SLIPS];
     let joins = walk::walk(
-        letters, ends, work, n, k, nodes, least, &mut left, &mut right, &mut overs, &mut first,
+        tray, work, n, k, nodes, least, &mut left, &mut right, &mut overs, &mut first,
         &mut last,
     );
     compose_finish::finish(
-        letters,
-        ends,
+        tray,
         work,
         legend,
         &left,

@@ -8,6 +8,7 @@ ghost use Rattle.compose_finish.specs.Steps.Finishing.{SomeJoined, FinishedAs, O
 
 use answers::Composed;
 use legend_counts::LetterCounts;
+use trays::Tray;
 
 // The answer to a tray that is refused.
 pub fn refused(number: u8, detail: u32) -> Composed
@@ -44,8 +45,7 @@ fn outcome(slips: usize, kept: usize, counts: LetterCounts, joins: usize) -> Com
 
 // Behind the walk: 8 and 9 are decided before anything is written, then the legend and the places are.
 pub fn finish(
-    letters: &[u8],
-    ends: &[u16],
+    tray: Tray<'_>,
     work: &mut [u16],
     legend: &mut [u8],
     left: &[u16],
@@ -56,11 +56,11 @@ pub fn finish(
     joins_room: usize,
     places_room: usize,
 ) -> Composed
-    requires { SomeJoined letters.now ends.now work.old k joins left.now right.now overs.now }
-    ensures { FinishedAs letters.now ends.now work.old work.new
+    requires { SomeJoined tray.letters.now tray.ends.now work.old k joins left.now right.now overs.now }
+    ensures { FinishedAs tray.entry.letters.now tray.entry.ends.now work.old work.new
         legend.old legend.new k joins left.now right.now overs.now joins_room places_room result }
 {
-    let counts = legend_counts::count_letters(letters, ends, work, k, joins);
+    let counts = legend_counts::count_letters(tray, work, k, joins);
     let need = counts.need;
     if legend.len() < need {
         return refused(8, need as u32);
@@ -68,10 +68,10 @@ pub fn finish(
     if joins_room < joins {
         return refused(9, joins as u32);
     }
-    if places_room < ends.len() {
+    if places_room < tray.ends.len() {
         return refused(9, joins as u32);
     }
     let pieces = legend_write::pieces_of(work, left, right, overs, k, joins);
-    legend_write::write_out(letters, ends, work, legend, &pieces, k, need);
-    outcome(ends.len(), k, counts, joins)
+    legend_write::write_out(tray, work, legend, &pieces, k, need);
+    outcome(tray.ends.len(), k, counts, joins)
 }

@@ -14,12 +14,11 @@ ghost use Rattle.compose_side.specs.Steps.Sides as S;
 use answers::Composed;
 use layout::WORK_NEED;
 use tables::whole;
-use trays::{MAX_LETTERS, MAX_SLIPS, Settings};
+use trays::{MAX_LETTERS, MAX_SLIPS, Settings, Tray};
 
 // The slips with these numbers of an accepted tray, composed as a tray of their own.
 fn compose_cut(
-    letters: &[u8],
-    ends: &[u16],
+    tray: Tray<'_>,
     slips: &[u16],
     settings: Settings,
     work: &mut [u16],
@@ -28,14 +27,14 @@ fn compose_cut(
     places_room: usize,
 ) -> Composed
     requires le_least { 1 ≤ settings.least }
-    requires can_cut { CanCut letters.now ends.now slips.now }
+    requires can_cut { CanCut tray.letters.now tray.ends.now slips.now }
     requires work_need_in_bounds { work_need ≤ length work.old }
-    ensures { Finished (whole settings (only (slips_of letters.now ends.now) slips.now)) work.old
+    ensures { Finished (whole settings (only (slips_of tray.entry.letters.now tray.entry.ends.now) slips.now)) work.old
         work.new legend.old legend.new joins_room places_room result }
 {
     let mut text = [0u8; MAX_LETTERS];
     let mut bounds = [0u16; MAX_SLIPS];
-    let n = tray_cut::write_slips(letters, ends, slips, 0, &mut text, &mut bounds);
+    let n = tray_cut::write_slips(tray, slips, 0, &mut text, &mut bounds);
     let count = slips.len();
     compose_core::compose_accepted(
         &text[..n],
@@ -50,8 +49,7 @@ fn compose_cut(
 
 // The side that the settings name of an accepted tray, composed in a work area that is large enough. Where it is refused, no join and no record is told.
 fn compose_side(
-    letters: &[u8],
-    ends: &[u16],
+    tray: Tray<'_>,
     sides: &[u8],
     settings: Settings,
     work: &mut [u16],
@@ -60,8 +58,8 @@ fn compose_side(
     places_room: usize,
 ) -> Composed
     requires le_least { 1 ≤ settings.least }
-    requires side_asks { SideAsks letters.now ends.now sides.now work.old }
-    ensures { S.SideFinished (sided settings sides.now (slips_of letters.now ends.now)) settings.side
+    requires side_asks { SideAsks tray.letters.now tray.ends.now sides.now work.old }
+    ensures { S.SideFinished (sided settings sides.now (slips_of tray.entry.letters.now tray.entry.ends.now)) settings.side
         work.old work.new legend.old legend.new joins_room places_room result }
 {
     let side = settings.side;
@@ -69,8 +67,7 @@ fn compose_side(
     let slips = own.slips;
     let count = own.count;
     let answer = compose_cut(
-        letters,
-        ends,
+        tray,
         &slips[..count],
         settings,
         work,

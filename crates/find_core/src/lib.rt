@@ -9,7 +9,7 @@ ghost use Rattle.find_core.specs.Steps.Searching as T;
 
 use answers::{Found, MAX_TEXT, Search};
 use layout::{SCAN, WORK_NEED};
-use trays::{Refusal, refuse};
+use trays::{Refusal, Tray, refuse};
 
 // The answer, and how many occurrences are to be stored.
 #[derive(Clone, Copy)]
@@ -40,14 +40,14 @@ fn check_find(letters: &[u8], ends: &[u16], text: &[u8], cells: usize) -> Refusa
 }
 
 // The automaton of all slips with the members of each node, output links and tallies. Answers how many nodes have a letter.
-fn prepare(letters: &[u8], ends: &[u16], work: &mut [u16]) -> usize
-    requires { Buildable letters.now ends.now work.old }
-    ensures { T.Prepared letters.now ends.now work.old result work.new }
+fn prepare(tray: Tray<'_>, work: &mut [u16]) -> usize
+    requires { Buildable tray.letters.now tray.ends.now work.old }
+    ensures { T.Prepared tray.entry.letters.now tray.entry.ends.now work.old result work.new }
 {
-    let n = ends.len();
-    let nodes = trie_build::build(letters, ends, work);
-    trie_heads::fill_heads(letters, ends, work, n, nodes);
-    trie_outputs::fill_outputs(letters, ends, work, n, nodes);
+    let n = tray.ends.len();
+    let nodes = trie_build::build(tray, work);
+    trie_heads::fill_heads(tray, work, n, nodes);
+    trie_outputs::fill_outputs(tray, work, n, nodes);
     nodes
 }
 
@@ -65,13 +65,13 @@ fn refused(number: u8, detail: u32) -> Begun
 }
 
 // Counts moves and occurrences and decides 14 before anything is stored; then a scan is kept that has read nothing.
-fn begin(letters: &[u8], ends: &[u16], text: &[u8], work: &mut [u16], room: usize) -> Begun
-    requires { T.Clear letters.now ends.now text.now work.old }
-    ensures { T.CoreSays letters.now ends.now text.now work.old work.new room result }
+fn begin(tray: Tray<'_>, text: &[u8], work: &mut [u16], room: usize) -> Begun
+    requires { T.Clear tray.letters.now tray.ends.now text.now work.old }
+    ensures { T.CoreSays tray.entry.letters.now tray.entry.ends.now text.now work.old work.new room result }
 {
-    let n = ends.len();
-    let nodes = prepare(letters, ends, work);
-    let counts = trie_scan::count_text(letters, ends, text, work, n, nodes);
+    let n = tray.ends.len();
+    let nodes = prepare(tray, work);
+    let counts = trie_scan::count_text(tray, text, work, n, nodes);
     let found = counts.found;
     if room < found {
         return refused(14, found as u32);
@@ -101,15 +101,15 @@ pub fn find_core(letters: &[u8], ends: &[u16], text: &[u8], work: &mut [u16], ro
 }
 
 // Occurrence `i`; the scan that the work area keeps goes past it.
-pub fn next_found(letters: &[u8], ends: &[u16], text: &[u8], work: &mut [u16], i: usize) -> Found
-    requires { T.Ready letters.now ends.now text.now i work.old }
-    ensures { T.Next letters.now ends.now text.now i work.old work.new result }
+pub fn next_found(tray: Tray<'_>, text: &[u8], work: &mut [u16], i: usize) -> Found
+    requires { T.Ready tray.letters.now tray.ends.now text.now i work.old }
+    ensures { T.Next tray.entry.letters.now tray.entry.ends.now text.now i work.old work.new result }
 {
-    let n = ends.len();
+    let n = tray.ends.len();
     let nodes = tables::at(work, SCAN, 0);
     let from = trie_scan::load(work, i);
-    let here = trie_scan::advance(letters, ends, text, work, n, nodes, from);
-    let next = trie_scan::pass(letters, ends, text, work, n, nodes, here);
+    let here = trie_scan::advance(tray, text, work, n, nodes, from);
+    let next = trie_scan::pass(tray, text, work, n, nodes, here);
     trie_scan::keep(work, next);
     Found {
         end: here.read as u32,

@@ -8,23 +8,23 @@ ghost use Rattle.answers.specs.Finding as F;
 ghost use Rattle.find_core.specs.Steps.Searching as T;
 
 use answers::{Found, Search};
+use trays::Tray;
 
 // The first `count` occurrences, stored from the start of the list.
 fn scan_found(
-    letters: &[u8],
-    ends: &[u16],
+    tray: Tray<'_>,
     text: &[u8],
     work: &mut [u16],
     found: &mut [Found],
     count: usize,
 )
-    requires { (count ≤ length found.old) × T.Enough letters.now ends.now text.now count work.old }
-    ensures { (found.new ≡ over (firsts (T.found_at letters.now ends.now text.now) count) found.old)
-        × T.Left letters.now ends.now text.now count work.old work.new }
+    requires { (count ≤ length found.old) × T.Enough tray.letters.now tray.ends.now text.now count work.old }
+    ensures { (found.new ≡ over (firsts (T.found_at tray.entry.letters.now tray.entry.ends.now text.now) count) found.old)
+        × T.Left tray.entry.letters.now tray.entry.ends.now text.now count work.old work.new }
 {
     let mut i = 0;
     while i < count {
-        found[i] = find_core::next_found(letters, ends, text, &mut *work, i);
+        found[i] = find_core::next_found(tray, text, &mut *work, i);
         i += 1;
     }
 }

@@ -9,7 +9,7 @@ ghost use Rattle.flat_calls.specs.Steps.Occurrences as N;
 use answers::{Composed, JOIN_CELLS, RECORD_CELLS, Search};
 use layout::{NAMED, RECORDS};
 use tables::{number, whole};
-use trays::Settings;
+use trays::{Settings, Tray};
 
 // Composes the side that the settings name of any tray, or refuses it. A join is three numbers (left slip, right slip, overlap), a record of places five (the
 // slip, its place, 1 if it is kept, the letters compared to find the place, and the side).
@@ -45,20 +45,19 @@ pub fn compose_flat(
 
 // The first `count` occurrences, two numbers each, stored from the start of the list.
 fn scan_flat(
-    letters: &[u8],
-    ends: &[u16],
+    tray: Tray<'_>,
     text: &[u8],
     work: &mut [u16],
     found: &mut [u32],
     count: usize,
 )
-    requires { N.CanFlat letters.now ends.now text.now count work.old found.old }
-    ensures { N.NumbersStored letters.now ends.now text.now count work.old work.new
+    requires { N.CanFlat tray.letters.now tray.ends.now text.now count work.old found.old }
+    ensures { N.NumbersStored tray.entry.letters.now tray.entry.ends.now text.now count work.old work.new
         found.old found.new }
 {
     let mut i: usize = 0;
     while i < count {
-        let next = find_core::next_found(letters, ends, text, work, i);
+        let next = find_core::next_found(tray, text, work, i);
         let at = 2 * i;
         found[at] = next.end;
         found[at + 1] = number(next.slip);

@@ -7,21 +7,15 @@ ghost use Rattle.layout.specs.Numbered.{Automaton};
 ghost use Rattle.kept_slips.specs.Steps.Kept as K;
 ghost use Rattle.kept_lists.specs.Steps.KeptLists as O;
 
+use trays::Tray;
+
 // Puts the `j`-th kept member into the lists of the nodes that it begins with: letter by letter, before the higher ones.
-fn add_starts(
-    letters: &[u8],
-    ends: &[u16],
-    work: &mut [u16],
-    n: usize,
-    k: usize,
-    nodes: usize,
-    j: usize,
-)
-    requires { O.Listing O.beginnings letters.now ends.now n k nodes work.old (j + 1) }
-    ensures { O.ListedTo O.beginnings letters.now ends.now n k nodes work.old j work.new }
+fn add_starts(tray: Tray<'_>, work: &mut [u16], n: usize, k: usize, nodes: usize, j: usize)
+    requires { O.Listing O.beginnings tray.letters.now tray.ends.now n k nodes work.old (j + 1) }
+    ensures { O.ListedTo O.beginnings tray.entry.letters.now tray.entry.ends.now n k nodes work.old j work.new }
 {
     let i = tables::at(work, layout::KEPT, j);
-    let span = slips::slip_span(ends, i);
+    let span = slips::slip_span(tray.ends, i);
     let end = span.end;
     let mut p = span.start;
     while p < end {
@@ -32,34 +26,26 @@ fn add_starts(
 }
 
 // Fills STARTS and STARTS_NEXT: from the last of the `k` kept members on, so that each list ascends.
-fn fill_starts(letters: &[u8], ends: &[u16], work: &mut [u16], n: usize, k: usize, nodes: usize)
-    requires { K.KeptFound letters.now ends.now n k nodes work.old }
-    ensures { O.AffixFilled O.beginnings letters.now ends.now n k nodes work.old work.new }
+fn fill_starts(tray: Tray<'_>, work: &mut [u16], n: usize, k: usize, nodes: usize)
+    requires { K.KeptFound tray.letters.now tray.ends.now n k nodes work.old }
+    ensures { O.AffixFilled O.beginnings tray.entry.letters.now tray.entry.ends.now n k nodes work.old work.new }
 {
     tables::clear(work, layout::STARTS, nodes + 1);
     let mut j = k;
     while 0 < j {
         j -= 1;
-        add_starts(letters, ends, work, n, k, nodes, j);
+        add_starts(tray, work, n, k, nodes, j);
     }
 }
 
 // Puts the `j`-th kept member into the lists of the nodes that it properly ends with. These are on the failure path of its node, and each is
 // shorter than the one before: lengths go from the longest down.
-fn add_ends(
-    letters: &[u8],
-    ends: &[u16],
-    work: &mut [u16],
-    n: usize,
-    k: usize,
-    nodes: usize,
-    j: usize,
-)
-    requires { O.Listing O.endings letters.now ends.now n k nodes work.old (j + 1) }
-    ensures { O.ListedTo O.endings letters.now ends.now n k nodes work.old j work.new }
+fn add_ends(tray: Tray<'_>, work: &mut [u16], n: usize, k: usize, nodes: usize, j: usize)
+    requires { O.Listing O.endings tray.letters.now tray.ends.now n k nodes work.old (j + 1) }
+    ensures { O.ListedTo O.endings tray.entry.letters.now tray.entry.ends.now n k nodes work.old j work.new }
 {
     let i = tables::at(work, layout::KEPT, j);
-    let span = slips::slip_span(ends, i);
+    let span = slips::slip_span(tray.ends, i);
     let start = span.start;
     let end = span.end;
     let last = end - 1;
@@ -79,25 +65,25 @@ fn add_ends(
 }
 
 // Fills ENDS and ENDS_NEXT in the same way.
-fn fill_ends(letters: &[u8], ends: &[u16], work: &mut [u16], n: usize, k: usize, nodes: usize)
-    requires { K.KeptFound letters.now ends.now n k nodes work.old }
-    ensures { O.AffixFilled O.endings letters.now ends.now n k nodes work.old work.new }
+fn fill_ends(tray: Tray<'_>, work: &mut [u16], n: usize, k: usize, nodes: usize)
+    requires { K.KeptFound tray.letters.now tray.ends.now n k nodes work.old }
+    ensures { O.AffixFilled O.endings tray.entry.letters.now tray.entry.ends.now n k nodes work.old work.new }
 {
     tables::clear(work, layout::ENDS, nodes + 1);
     let mut j = k;
     while 0 < j {
         j -= 1;
-        add_ends(letters, ends, work, n, k, nodes, j);
+        add_ends(tray, work, n, k, nodes, j);
     }
 }
 
 // Fills all of them. Answers how many members are kept.
-pub fn fill_lists(letters: &[u8], ends: &[u16], work: &mut [u16], n: usize, nodes: usize) -> usize
-    requires { Automaton letters.now ends.now n nodes work.old }
-    ensures { O.ListsFilled letters.now ends.now n nodes work.old result work.new }
+pub fn fill_lists(tray: Tray<'_>, work: &mut [u16], n: usize, nodes: usize) -> usize
+    requires { Automaton tray.letters.now tray.ends.now n nodes work.old }
+    ensures { O.ListsFilled tray.entry.letters.now tray.entry.ends.now n nodes work.old result work.new }
 {
-    let k = kept_slips::tell_kept(letters, ends, work, n, nodes);
-    fill_starts(letters, ends, work, n, k, nodes);
-    fill_ends(letters, ends, work, n, k, nodes);
+    let k = kept_slips::tell_kept(tray, work, n, nodes);
+    fill_starts(tray, work, n, k, nodes);
+    fill_ends(tray, work, n, k, nodes);
     k
 }

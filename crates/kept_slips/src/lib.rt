@@ -8,10 +8,12 @@ ghost use Rattle.layout.specs.Tables.{members};
 ghost use Rattle.layout.specs.Numbered.{Automaton, Headed};
 ghost use Rattle.kept_slips.specs.Steps.Kept as K;
 
+use trays::Tray;
+
 // Fills MARK.
-fn fill_marks(letters: &[u8], ends: &[u16], work: &mut [u16], n: usize, nodes: usize)
-    requires { Headed letters.now ends.now n nodes work.old }
-    ensures { K.MarksFilled letters.now ends.now n nodes work.old work.new }
+fn fill_marks(tray: Tray<'_>, work: &mut [u16], n: usize, nodes: usize)
+    requires { Headed tray.letters.now tray.ends.now n nodes work.old }
+    ensures { K.MarksFilled tray.entry.letters.now tray.entry.ends.now n nodes work.old work.new }
 {
     tables::clear(work, layout::MARK, nodes + 1);
     let mut v: usize = 1;
@@ -23,11 +25,11 @@ fn fill_marks(letters: &[u8], ends: &[u16], work: &mut [u16], n: usize, nodes: u
 }
 
 // Whether member `i` is set aside: its node has a child, or is a failure link, or is that of a lower member.
-fn is_aside(letters: &[u8], ends: &[u16], work: &[u16], n: usize, nodes: usize, i: usize) -> bool
-    requires { K.Judged letters.now ends.now n nodes work.now i }
-    ensures { result ≡ is_aside (slips_of letters.now ends.now) (members work.now n) i }
+fn is_aside(tray: Tray<'_>, work: &[u16], n: usize, nodes: usize, i: usize) -> bool
+    requires { K.Judged tray.letters.now tray.ends.now n nodes work.now i }
+    ensures { result ≡ is_aside (slips_of tray.entry.letters.now tray.entry.ends.now) (members work.now n) i }
 {
-    let f = trie_heads::node_of(letters, ends, work, n, nodes, i);
+    let f = trie_heads::node_of(tray, work, n, nodes, i);
     let kid = tables::at(work, layout::KID, f);
     let end = tables::at(work, layout::KID, f + 1);
     if kid < end {
@@ -45,15 +47,15 @@ fn is_aside(letters: &[u8], ends: &[u16], work: &[u16], n: usize, nodes: usize, 
 }
 
 // Fills KEPT with the members that are not set aside. Answers how many there are.
-fn fill_kept(letters: &[u8], ends: &[u16], work: &mut [u16], n: usize, nodes: usize) -> usize
-    requires { K.Marked letters.now ends.now n nodes work.old }
-    ensures { K.KeptFilled letters.now ends.now n nodes work.old result work.new }
+fn fill_kept(tray: Tray<'_>, work: &mut [u16], n: usize, nodes: usize) -> usize
+    requires { K.Marked tray.letters.now tray.ends.now n nodes work.old }
+    ensures { K.KeptFilled tray.entry.letters.now tray.entry.ends.now n nodes work.old result work.new }
 {
     let mut k: usize = 0;
     let mut j: usize = 0;
     while j < n {
         let i = tables::at(work, layout::MEMBERS, j);
-        let aside = is_aside(letters, ends, work, n, nodes, i);
+        let aside = is_aside(tray, work, n, nodes, i);
         if aside {
             j += 1;
         } else {
@@ -66,11 +68,11 @@ fn fill_kept(letters: &[u8], ends: &[u16], work: &mut [u16], n: usize, nodes: us
 }
 
 // All of it, from the automaton alone: HEAD and TWIN, MARK, KEPT. Answers how many members are kept.
-pub fn tell_kept(letters: &[u8], ends: &[u16], work: &mut [u16], n: usize, nodes: usize) -> usize
-    requires { Automaton letters.now ends.now n nodes work.old }
-    ensures { K.KeptTold letters.now ends.now n nodes work.old result work.new }
+pub fn tell_kept(tray: Tray<'_>, work: &mut [u16], n: usize, nodes: usize) -> usize
+    requires { Automaton tray.letters.now tray.ends.now n nodes work.old }
+    ensures { K.KeptTold tray.entry.letters.now tray.entry.ends.now n nodes work.old result work.new }
 {
-    trie_heads::fill_heads(letters, ends, work, n, nodes);
-    fill_marks(letters, ends, work, n, nodes);
-    fill_kept(letters, ends, work, n, nodes)
+    trie_heads::fill_heads(tray, work, n, nodes);
+    fill_marks(tray, work, n, nodes);
+    fill_kept(tray, work, n, nodes)
 }

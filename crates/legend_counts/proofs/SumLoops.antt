@@ -18,12 +18,12 @@ total_more ss [] i = omega arith
 total_more ss (k ∷ K) i = omega (arith, total_more ss K i)
 
 module _ (s es xs : List ℕ) (k i sum slip' : ℕ) (part : List ℕ) (a : KeptReal s es xs k) (l : i < k) (v : (slip' ≡ get_or xs i 0) × (slip' < 65536)) where
-  pub kept_asks : ((tray_fault s es).number ≡ 0) × (1 ≤ slip') × (slip' ≤ length es)
-  kept_asks = let r = a.real i l in rw v.0 (a.tray, r.0, r.1)
+  pub kept_asks : (1 ≤ slip') × (slip' ≤ length es)
+  kept_asks = let r = a.real i l in rw v.0 (r.0, r.1)
 
   module _ (e : part ≡ slip (slips_of s es) slip') (b : sum ≤ 2000 * i) where
     small : length part ≤ max_slip
-    small = let q = kept_asks in rw e ((accepted_spanned s es q.0).short slip' q.1 q.2)
+    small = let q = kept_asks in rw e ((accepted_spanned s es a.tray).short slip' q.0 q.1)
 
     pub kept-fits : sum + length part < 2 ^ 64
     kept-fits = omega (arith, small, a.few)

@@ -9,7 +9,7 @@ ghost use Rattle.legend_counts.specs.Steps.Counting.{thirds, KeptReal, CountAsks
 
 use answers::JOIN_CELLS;
 use layout::{ALL_JOINS, JOINS, KEPT};
-use trays::MAX_SLIPS;
+use trays::{MAX_SLIPS, Tray};
 
 // Kept letters, saved letters, and the letters that the legend needs.
 #[derive(Clone, Copy)]
@@ -20,15 +20,15 @@ pub struct LetterCounts {
 }
 
 // The letters of the first `k` slips of `kept`, counted together.
-fn kept_letters(letters: &[u8], ends: &[u16], kept: &[u16], k: usize) -> usize
-    requires { KeptReal letters.now ends.now kept.now k }
-    ensures { result ≡ total (slips_of letters.now ends.now) (take k kept.now) }
+fn kept_letters(tray: Tray<'_>, kept: &[u16], k: usize) -> usize
+    requires { KeptReal tray.letters.now tray.ends.now kept.now k }
+    ensures { result ≡ total (slips_of tray.entry.letters.now tray.entry.ends.now) (take k kept.now) }
 {
     let mut sum: usize = 0;
     let mut i: usize = 0;
     while i < k {
         let slip = tables::wide(kept[i]);
-        let part = slips::slip_part(letters, ends, slip);
+        let part = slips::slip_part(tray, slip);
         sum += part.len();
         i += 1;
     }
@@ -50,17 +50,11 @@ fn saved_letters(joins: &[u16], n: usize) -> usize
 }
 
 // What is counted before anything is written.
-pub fn count_letters(
-    letters: &[u8],
-    ends: &[u16],
-    work: &[u16],
-    k: usize,
-    joins: usize,
-) -> LetterCounts
-    requires { CountAsks letters.now ends.now work.now k joins }
-    ensures { LetterCountsAre letters.now ends.now work.now k joins result }
+pub fn count_letters(tray: Tray<'_>, work: &[u16], k: usize, joins: usize) -> LetterCounts
+    requires { CountAsks tray.letters.now tray.ends.now work.now k joins }
+    ensures { LetterCountsAre tray.entry.letters.now tray.entry.ends.now work.now k joins result }
 {
-    let all = kept_letters(letters, ends, &work[KEPT..KEPT + MAX_SLIPS], k);
+    let all = kept_letters(tray, &work[KEPT..KEPT + MAX_SLIPS], k);
     let saved = saved_letters(&work[JOINS..JOINS + ALL_JOINS], joins);
     LetterCounts {
         letters: all,

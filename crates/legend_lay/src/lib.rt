@@ -10,28 +10,29 @@ ghost use Rattle.legend_lay.specs.Laying.{CanLay};
 ghost use Rattle.legend_lay.specs.Steps.OnePiece.{CanLayOne, LaidOne};
 
 use tables::wide;
+use trays::Tray;
 
 // Lays the `k`-th piece: its slip's letters beyond the overlap. Answers how many letters that are.
-fn lay_piece(letters: &[u8], ends: &[u16], pieces: &[u16], k: usize, legend: &mut [u8]) -> usize
-    requires { CanLayOne letters.now ends.now pieces.now k (length legend.old) }
-    ensures { LaidOne (slips_of letters.now ends.now) (piece_in pieces.now k) legend.old
+fn lay_piece(tray: Tray<'_>, pieces: &[u16], k: usize, legend: &mut [u8]) -> usize
+    requires { CanLayOne tray.letters.now tray.ends.now pieces.now k (length legend.old) }
+    ensures { LaidOne (slips_of tray.entry.letters.now tray.entry.ends.now) (piece_in pieces.now k) legend.old
         legend.new result }
 {
     let slip = wide(pieces[2 * k]);
     let shared = wide(pieces[2 * k + 1]);
-    let part = slips::slip_part(letters, ends, slip);
+    let part = slips::slip_part(tray, slip);
     tables::copy(&part[shared..], legend)
 }
 
 // Lays the `n` pieces from the `k`-th on: by the first slip, then the rest in the same manner with one slip fewer.
-pub fn lay(letters: &[u8], ends: &[u16], pieces: &[u16], k: usize, n: usize, legend: &mut [u8])
-    requires { CanLay letters.now ends.now pieces.now k n (length legend.old) }
+pub fn lay(tray: Tray<'_>, pieces: &[u16], k: usize, n: usize, legend: &mut [u8])
+    requires { CanLay tray.letters.now tray.ends.now pieces.now k n (length legend.old) }
     ensures { legend.new
-        ≡ over (spelled (slips_of letters.now ends.now) (pieces_in pieces.now k n)) legend.old }
+        ≡ over (spelled (slips_of tray.entry.letters.now tray.entry.ends.now) (pieces_in pieces.now k n)) legend.old }
 {
     if n == 0 {
         return;
     }
-    let added = lay_piece(letters, ends, pieces, k, legend);
-    lay(letters, ends, pieces, k + 1, n - 1, &mut legend[added..]);
+    let added = lay_piece(tray, pieces, k, legend);
+    lay(tray, pieces, k + 1, n - 1, &mut legend[added..]);
 }

@@ -11,6 +11,7 @@ ghost use Rattle.legend_places.specs.Steps.OnePlace.{PutPlaceAsks, PlacedOne, As
 
 use answers::PLACE_CELLS;
 use tables::wide;
+use trays::Tray;
 
 // A place in a text, and the letters compared to find it.
 #[derive(Clone, Copy)]
@@ -65,63 +66,56 @@ fn put_three(xs: &mut [u16], at: usize, a: usize, b: usize, c: usize)
 }
 
 // Writes the place of the `q`-th piece, whose letters go from `here` on, and that its slip is kept. Answers where the next letters go.
-fn put_place(
-    letters: &[u8],
-    ends: &[u16],
-    pieces: &[u16],
-    q: usize,
-    here: usize,
-    places: &mut [u16],
-) -> usize
-    requires { PutPlaceAsks letters.now ends.now pieces.now q here places.old }
-    ensures { PlacedOne (slips_of letters.now ends.now) (piece_in pieces.now q) here places.old
+fn put_place(tray: Tray<'_>, pieces: &[u16], q: usize, here: usize, places: &mut [u16]) -> usize
+    requires { PutPlaceAsks tray.letters.now tray.ends.now pieces.now q here places.old }
+    ensures { PlacedOne (slips_of tray.entry.letters.now tray.entry.ends.now) (piece_in pieces.now q) here places.old
         places.new result }
 {
     let slip = wide(pieces[2 * q]);
     let shared = wide(pieces[2 * q + 1]);
-    let part = slips::slip_part(letters, ends, slip);
+    let part = slips::slip_part(tray, slip);
     put_three(places, PLACE_CELLS * (slip - 1), here - shared, 1, 0);
     here + (part.len() - shared)
 }
 
 // Writes the places of the first `n` pieces' slips.
-pub fn kept_places(letters: &[u8], ends: &[u16], pieces: &[u16], n: usize, places: &mut [u16])
-    requires { PlacesAsk letters.now ends.now pieces.now n places.old }
+pub fn kept_places(tray: Tray<'_>, pieces: &[u16], n: usize, places: &mut [u16])
+    requires { PlacesAsk tray.letters.now tray.ends.now pieces.now n places.old }
     ensures { places.new
-        ≡ placed_by (slips_of letters.now ends.now) places.old 1 (pieces_in pieces.now 0 n) }
+        ≡ placed_by (slips_of tray.entry.letters.now tray.entry.ends.now) places.old 1 (pieces_in pieces.now 0 n) }
 {
     let mut here: usize = 1;
     let mut q: usize = 0;
     while q < n {
-        here = put_place(letters, ends, pieces, q, here, places);
+        here = put_place(tray, pieces, q, here, places);
         q += 1;
     }
 }
 
 // Writes the place of slip `i + 1` in the legend, unless it is marked as kept.
-fn aside_place(letters: &[u8], ends: &[u16], legend: &[u8], i: usize, places: &mut [u16])
-    requires { AsidePlaceAsks letters.now ends.now legend.now i places.old }
+fn aside_place(tray: Tray<'_>, legend: &[u8], i: usize, places: &mut [u16])
+    requires { AsidePlaceAsks tray.letters.now tray.ends.now legend.now i places.old }
     ensures { places.new
-        ≡ aside_at (slips_of letters.now ends.now) legend.now places.old i }
+        ≡ aside_at (slips_of tray.entry.letters.now tray.entry.ends.now) legend.now places.old i }
 {
     let mark = wide(places[PLACE_CELLS * i + 1]);
     if mark != 0 {
         return;
     }
-    let part = slips::slip_part(letters, ends, i + 1);
+    let part = slips::slip_part(tray, i + 1);
     let trial = lowest_place(part, legend);
     put_three(places, PLACE_CELLS * i, trial.place, 0, trial.compared);
 }
 
 // Writes the places of the slips that are not marked as kept.
-pub fn aside_places(letters: &[u8], ends: &[u16], legend: &[u8], places: &mut [u16])
-    requires { AsideAsk letters.now ends.now legend.now places.old }
+pub fn aside_places(tray: Tray<'_>, legend: &[u8], places: &mut [u16])
+    requires { AsideAsk tray.letters.now tray.ends.now legend.now places.old }
     ensures { places.new
-        ≡ aside_by (slips_of letters.now ends.now) legend.now places.old (length ends.now) }
+        ≡ aside_by (slips_of tray.entry.letters.now tray.entry.ends.now) legend.now places.old (length tray.entry.ends.now) }
 {
     let mut i: usize = 0;
-    while i < ends.len() {
-        aside_place(letters, ends, legend, i, places);
+    while i < tray.ends.len() {
+        aside_place(tray, legend, i, places);
         i += 1;
     }
 }

@@ -5,7 +5,7 @@ ghost use Rattle.legend_write.specs.Steps.Writing.{StageAsks, PiecesStaged, Plac
 
 use layout::{ALL_PLACES, KEPT, PLACES};
 use legend_chains::ALL_PIECES;
-use trays::MAX_SLIPS;
+use trays::{MAX_SLIPS, Tray};
 
 // The pieces of the legend, slip and overlap of each.
 pub fn pieces_of(
@@ -33,47 +33,28 @@ pub fn pieces_of(
 }
 
 // The places of all slips, in the work area: those of the first `k` pieces, then those of the other slips.
-fn write_places(
-    letters: &[u8],
-    ends: &[u16],
-    work: &mut [u16],
-    legend: &[u8],
-    pieces: &[u16],
-    k: usize,
-)
-    requires { PlacingAsks letters.now ends.now work.old legend.now pieces.now k }
-    ensures { PlacesWritten letters.now ends.now work.old work.new pieces.now k }
+fn write_places(tray: Tray<'_>, work: &mut [u16], legend: &[u8], pieces: &[u16], k: usize)
+    requires { PlacingAsks tray.letters.now tray.ends.now work.old legend.now pieces.now k }
+    ensures { PlacesWritten tray.entry.letters.now tray.entry.ends.now work.old work.new pieces.now k }
 {
     tables::clear(work, PLACES, ALL_PLACES);
-    legend_places::kept_places(
-        letters,
-        ends,
-        pieces,
-        k,
-        &mut work[PLACES..PLACES + ALL_PLACES],
-    );
-    legend_places::aside_places(
-        letters,
-        ends,
-        legend,
-        &mut work[PLACES..PLACES + ALL_PLACES],
-    );
+    legend_places::kept_places(tray, pieces, k, &mut work[PLACES..PLACES + ALL_PLACES]);
+    legend_places::aside_places(tray, legend, &mut work[PLACES..PLACES + ALL_PLACES]);
 }
 
 // The legend of the first `k` pieces, then the places.
 pub fn write_out(
-    letters: &[u8],
-    ends: &[u16],
+    tray: Tray<'_>,
     work: &mut [u16],
     legend: &mut [u8],
     pieces: &[u16],
     k: usize,
     need: usize,
 )
-    requires { WritingAsks letters.now ends.now work.old legend.old pieces.now k need }
-    ensures { Written letters.now ends.now work.old work.new legend.old legend.new
+    requires { WritingAsks tray.letters.now tray.ends.now work.old legend.old pieces.now k need }
+    ensures { Written tray.entry.letters.now tray.entry.ends.now work.old work.new legend.old legend.new
         pieces.now k }
 {
-    legend_lay::lay(letters, ends, pieces, 0, k, legend);
-    write_places(letters, ends, work, &legend[..need], pieces, k);
+    legend_lay::lay(tray, pieces, 0, k, legend);
+    write_places(tray, work, &legend[..need], pieces, k);
 }

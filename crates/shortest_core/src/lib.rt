@@ -13,7 +13,7 @@ use answers::Shortest;
 use layout::{KEPT, SEEK};
 use shortest_groups::{GROUP_CELLS, PAIR_CELLS};
 use tables::wide;
-use trays::{MAX_SHORTEST, Settings};
+use trays::{MAX_SHORTEST, Settings, Tray};
 
 // How many cells the search takes.
 const CELLS: usize = PAIR_CELLS + GROUP_CELLS;
@@ -75,70 +75,66 @@ fn name_places(kept: &[u16], places: &[u16], k: usize) -> [u16; MAX_SHORTEST]
 
 // The first of the shortest orders of the first `k` slips of `kept`.
 fn seek_order(
-    letters: &[u8],
-    ends: &[u16],
+    tray: Tray<'_>,
     kept: &[u16],
     k: usize,
     least: usize,
     table: &mut [u16],
 ) -> [u16; MAX_SHORTEST]
-    requires { S.SeekAsks letters.now ends.now kept.now k table.old }
-    ensures { S.Sought least letters.now ends.now kept.now k table.old table.new result }
+    requires { S.SeekAsks tray.letters.now tray.ends.now kept.now k table.old }
+    ensures { S.Sought least tray.entry.letters.now tray.entry.ends.now kept.now k table.old table.new result }
 {
-    shortest_pairs::fill_pairs(letters, ends, kept, k, least, table);
+    shortest_pairs::fill_pairs(tray, kept, k, least, table);
     let places = shortest_groups::best_order(table, k);
     name_places(kept, &places, k)
 }
 
 // 8, or the legend of this order, laid as one chain, is written.
 fn write_order(
-    letters: &[u8],
-    ends: &[u16],
+    tray: Tray<'_>,
     settings: Settings,
     legend: &mut [u8],
     order: [u16; MAX_SHORTEST],
     k: usize,
 ) -> Shortest
-    requires { S.OrderSought settings letters.now ends.now order k }
-    ensures { S.Written (whole settings (slips_of letters.now ends.now)) legend.old legend.new result }
+    requires { S.OrderSought settings tray.letters.now tray.ends.now order k }
+    ensures { S.Written (whole settings (slips_of tray.entry.letters.now tray.entry.ends.now)) legend.old legend.new result }
 {
     let mut pieces = [0u16; PIECES];
     let least = settings.least as usize;
-    let need = legend_order::order_pieces(letters, ends, &order, k, least, &mut pieces);
+    let need = legend_order::order_pieces(tray, &order, k, least, &mut pieces);
     if legend.len() < need {
         return refused(8, need as u32);
     }
-    legend_lay::lay(letters, ends, &pieces, 0, k, legend);
+    legend_lay::lay(tray, &pieces, 0, k, legend);
     outcome(need, k, order)
 }
 
 // The shortest legend of an accepted tray, in a work area that is large enough; or 20, or 8.
 pub fn seek(
-    letters: &[u8],
-    ends: &[u16],
+    tray: Tray<'_>,
     settings: Settings,
     work: &mut [u16],
     legend: &mut [u8],
 ) -> Shortest
-    requires { Buildable letters.now ends.now work.old }
-    ensures { S.Finished (whole settings (slips_of letters.now ends.now)) work.old work.new
+    requires { Buildable tray.letters.now tray.ends.now work.old }
+    ensures { S.Finished (whole settings (slips_of tray.entry.letters.now tray.entry.ends.now)) work.old work.new
         legend.old legend.new result }
 {
-    let n = ends.len();
-    let nodes = trie_build::build(letters, ends, work);
-    let k = kept_slips::tell_kept(letters, ends, work, n, nodes);
+    let n = tray.ends.len();
+    let nodes = trie_build::build(tray, work);
+    let k = kept_slips::tell_kept(tray, work, n, nodes);
     if MAX_SHORTEST < k {
         return refused(20, 0);
     }
     let kept = kept_numbers(work, k);
     let least = settings.least as usize;
     let order = seek_order(
-        letters,
-        ends,
+        tray,
         &kept,
         k,
         least,
         &mut work[SEEK..SEEK + CELLS],
     );
-    write_order(letters, ends, settings, legend, order, k)
+    write_order(tray, settings, legend, order, k)
 }

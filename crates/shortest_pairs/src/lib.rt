@@ -7,48 +7,33 @@ ghost use Rattle.shortest_pairs.specs.Steps.Pairing.{RowAsks, PairedTo};
 
 use shortest_groups::PAIR_CELLS;
 use tables::wide;
-use trays::MAX_SHORTEST;
+use trays::{MAX_SHORTEST, Tray};
 
 // Fills the row of place `a`.
-fn fill_row(
-    letters: &[u8],
-    ends: &[u16],
-    kept: &[u16],
-    k: usize,
-    a: usize,
-    least: usize,
-    table: &mut [u16],
-)
-    requires { RowAsks least letters.now ends.now kept.now k a table.old }
-    ensures { PairedTo least letters.now ends.now kept.now k (a + 1) 0 table.old
+fn fill_row(tray: Tray<'_>, kept: &[u16], k: usize, a: usize, least: usize, table: &mut [u16])
+    requires { RowAsks least tray.letters.now tray.ends.now kept.now k a table.old }
+    ensures { PairedTo least tray.entry.letters.now tray.entry.ends.now kept.now k (a + 1) 0 table.old
         table.new }
 {
     let left = wide(kept[a]);
     let mut b: usize = 0;
     while b < k {
         let right = wide(kept[b]);
-        let shared = slips::slip_overlap(letters, ends, left, right, least);
+        let shared = slips::slip_overlap(tray, left, right, least);
         tables::put(table, 0, MAX_SHORTEST * a + b, shared);
         b += 1;
     }
 }
 
 // Fills the table for the first `k` slips of `kept`.
-pub fn fill_pairs(
-    letters: &[u8],
-    ends: &[u16],
-    kept: &[u16],
-    k: usize,
-    least: usize,
-    table: &mut [u16],
-)
-    requires { PairsAsk letters.now ends.now kept.now k table.old }
-    ensures { PairsAre least letters.now ends.now kept.now k table.old table.new }
+pub fn fill_pairs(tray: Tray<'_>, kept: &[u16], k: usize, least: usize, table: &mut [u16])
+    requires { PairsAsk tray.letters.now tray.ends.now kept.now k table.old }
+    ensures { PairsAre least tray.entry.letters.now tray.entry.ends.now kept.now k table.old table.new }
 {
     tables::clear(table, 0, PAIR_CELLS);
     let mut a: usize = 0;
     while a < k {
-        fill_row(letters, ends, kept, k, a, least, table);
+        fill_row(tray, kept, k, a, least, table);
         a += 1;
     }
 }

@@ -14,25 +14,24 @@ ghost use Rattle.shortest_side.specs.Steps.Sides as S;
 
 use answers::Shortest;
 use tables::{narrow, whole, wide};
-use trays::{MAX_LETTERS, MAX_SHORTEST, MAX_SLIPS, Settings};
+use trays::{MAX_LETTERS, MAX_SHORTEST, MAX_SLIPS, Settings, Tray};
 
 // The shortest legend of the slips with these numbers of an accepted tray, as of a tray of their own.
 fn seek_cut(
-    letters: &[u8],
-    ends: &[u16],
+    tray: Tray<'_>,
     slips: &[u16],
     settings: Settings,
     work: &mut [u16],
     legend: &mut [u8],
 ) -> Shortest
-    requires can_cut { CanCut letters.now ends.now slips.now }
+    requires can_cut { CanCut tray.letters.now tray.ends.now slips.now }
     requires work_need_in_bounds { work_need ≤ length work.old }
-    ensures { Finished (whole settings (only (slips_of letters.now ends.now) slips.now)) work.old
+    ensures { Finished (whole settings (only (slips_of tray.entry.letters.now tray.entry.ends.now) slips.now)) work.old
         work.new legend.old legend.new result }
 {
     let mut text = [0u8; MAX_LETTERS];
     let mut bounds = [0u16; MAX_SLIPS];
-    let n = tray_cut::write_slips(letters, ends, slips, 0, &mut text, &mut bounds);
+    let n = tray_cut::write_slips(tray, slips, 0, &mut text, &mut bounds);
     let count = slips.len();
     shortest_core::seek(&text[..n], &bounds[..count], settings, work, legend)
 }
@@ -56,21 +55,20 @@ fn name_order(slips: &[u16], order: &[u16], count: usize) -> [u16; MAX_SHORTEST]
 // The shortest legend of the side that the settings name of an accepted tray, in a work area that is large enough. Where it is refused, the order is ten
 // times 0.
 pub fn seek_side(
-    letters: &[u8],
-    ends: &[u16],
+    tray: Tray<'_>,
     sides: &[u8],
     settings: Settings,
     work: &mut [u16],
     legend: &mut [u8],
 ) -> Shortest
-    requires { SideAsks letters.now ends.now sides.now work.old }
-    ensures { Finished (sided settings sides.now (slips_of letters.now ends.now)) work.old
+    requires { SideAsks tray.letters.now tray.ends.now sides.now work.old }
+    ensures { Finished (sided settings sides.now (slips_of tray.entry.letters.now tray.entry.ends.now)) work.old
         work.new legend.old legend.new result }
 {
     let own = tray_cut::side_slips(sides, settings.side);
     let slips = own.slips;
     let count = own.count;
-    let found = seek_cut(letters, ends, &slips[..count], settings, work, legend);
+    let found = seek_cut(tray, &slips[..count], settings, work, legend);
     let order = found.order;
     let named = name_order(&slips[..count], &order, whole(found.count));
     Shortest {

@@ -5,11 +5,10 @@ ghost use Rattle.std.specs.Prelude.{◌≡◌, ◌≤◌, ◌<◌, length};
 ghost use Rattle.words.specs.Words.{overlap_for};
 ghost use Rattle.trays.specs.Slips as S;
 ghost use Rattle.trays.specs.Aside.{counted};
-ghost use Rattle.trays.specs.Faults as F;
 ghost use Rattle.slips.specs.Pairs.{TwoSlips, Overlap};
 
 use tables::wide;
-use trays::{Span, not_stops};
+use trays::{Span, Tray, not_stops};
 
 // Where slip `slip` starts and ends in the letters of its tray.
 pub fn slip_span(ends: &[u16], slip: usize) -> Span
@@ -26,15 +25,15 @@ pub fn slip_span(ends: &[u16], slip: usize) -> Span
     }
 }
 
-// The letters of a slip of an accepted tray, as that stretch of the tray.
-pub fn slip_part<'a>(letters: &'a [u8], ends: &[u16], slip: usize) -> &'a [u8]
-    requires { ((F.tray_fault letters.now ends.now).number ≡ 0) × (1 ≤ slip) × (slip ≤ length ends.now) }
-    ensures { result.now ≡ S.slip (S.slips_of letters.now ends.now) slip }
+// The letters of a slip, as that stretch of its tray.
+pub fn slip_part<'a>(tray: Tray<'a>, slip: usize) -> &'a [u8]
+    requires { (1 ≤ slip) × (slip ≤ length tray.ends.now) }
+    ensures { result.now ≡ S.slip (S.slips_of tray.entry.letters.now tray.entry.ends.now) slip }
 {
-    let span = slip_span(ends, slip);
+    let span = slip_span(tray.ends, slip);
     let start = span.start;
     let end = span.end;
-    &letters[start..end]
+    &tray.letters[start..end]
 }
 
 // The overlap of two strings, 0 where it does not count: a shorter one is a prefix of it, and does not count either.
@@ -52,11 +51,11 @@ fn counted_overlap(a: &[u8], b: &[u8], least: usize) -> usize
 }
 
 // The same of two slips, which may be one.
-pub fn slip_overlap(letters: &[u8], ends: &[u16], left: usize, right: usize, least: usize) -> usize
-    requires { TwoSlips letters.now ends.now left right }
-    ensures { Overlap least letters.now ends.now left right result }
+pub fn slip_overlap(tray: Tray<'_>, left: usize, right: usize, least: usize) -> usize
+    requires { TwoSlips tray.letters.now tray.ends.now left right }
+    ensures { Overlap least tray.entry.letters.now tray.entry.ends.now left right result }
 {
-    let a = slip_part(letters, ends, left);
-    let b = slip_part(letters, ends, right);
+    let a = slip_part(tray, left);
+    let b = slip_part(tray, right);
     counted_overlap(a, b, least)
 }

@@ -69,10 +69,10 @@ module _ (s es M : List ℕ) (here : ℕ) (a b : List ℕ) (C : CanWrite s es M 
         record { letters_are = rw w at W.letters_are; ends_are = rw w at W.ends_are; count_is = sym (rw w at W.at_is) }
 
     module _ (h : i < length M) (k : ℕ) (e : k ≡ get_or M i 0) where
-      pub turn_real : ((tray_fault s es).number ≡ 0) × (1 ≤ k) × (k ≤ length es)
+      pub turn_real : (1 ≤ k) × (k ≤ length es)
       turn_real =
           let r = all_at (λ j. (1 ≤ j) × (j ≤ length es)) M (get_or M i 0) C.real (get_or_in 0 M i h) in
-          (C.tray, rw e r.0, rw e r.1)
+          (rw e r.0, rw e r.1)
 
       next : done (suc i) ≡ done i ++ (slip xs k ∷ [])
       next = ap (only xs) (take-suc M i 0 h) ∙ map-append (slip xs) (take i M) (get_or M i 0 ∷ []) ∙ rw e

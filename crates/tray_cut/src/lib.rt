@@ -7,7 +7,7 @@ ghost use Rattle.trays.specs.Limits.{max_slips};
 ghost use Rattle.tray_cut.specs.Choosing.{SideSlips, CanWrite, SlipsWritten};
 
 use tables::{narrow, wide};
-use trays::MAX_SLIPS;
+use trays::{MAX_SLIPS, Tray};
 
 // Slips of a tray: how many, and their numbers, 0 past the count.
 #[derive(Clone, Copy)]
@@ -37,22 +37,21 @@ pub fn side_slips(sides: &[u8], side: u8) -> Chosen
 
 // Writes the slips with these numbers from the start of both buffers, where `here` letters come before them: the letters written.
 pub fn write_slips(
-    letters: &[u8],
-    ends: &[u16],
+    tray: Tray<'_>,
     slips: &[u16],
     here: usize,
     into: &mut [u8],
     bounds: &mut [u16],
 ) -> usize
-    requires { CanWrite letters.now ends.now slips.now here (length into.old) (length bounds.old) }
-    ensures { SlipsWritten letters.now ends.now slips.now here into.old into.new
+    requires { CanWrite tray.letters.now tray.ends.now slips.now here (length into.old) (length bounds.old) }
+    ensures { SlipsWritten tray.entry.letters.now tray.entry.ends.now slips.now here into.old into.new
         bounds.old bounds.new result }
 {
     let mut at: usize = 0;
     let mut i: usize = 0;
     while i < slips.len() {
         let slip = wide(slips[i]);
-        let part = slips::slip_part(letters, ends, slip);
+        let part = slips::slip_part(tray, slip);
         at += tables::copy(part, &mut into[at..]);
         bounds[i] = narrow(here + at);
         i += 1;

@@ -13,7 +13,7 @@ ghost use Rattle.tray_index.specs.Steps.Lists as L;
 
 use tables::wide;
 use tray_check::{check_text, check_tray_sides};
-use trays::{Located, Refusal, Span, refuse};
+use trays::{Located, Refusal, Span, Tray, refuse};
 use trie_order::{Bound, rank};
 
 // Refusals 1 to 6, 22 and 9, where the lent list has this many entries.
@@ -46,36 +46,36 @@ pub fn build_index(letters: &[u8], ends: &[u16], sides: &[u8], index: &mut [u16]
 }
 
 // Whether the entry at place `i` is the number of a slip that stands after the entry before it in the order.
-fn entry_fits(letters: &[u8], ends: &[u16], index: &[u16], i: usize) -> bool
-    requires { L.AtEntry letters.now ends.now index.now i }
-    ensures { result ≡ fits (slips_of letters.now ends.now) (entry index.now i) (get_or index.now i 0) }
+fn entry_fits(tray: Tray<'_>, index: &[u16], i: usize) -> bool
+    requires { L.AtEntry tray.letters.now tray.ends.now index.now i }
+    ensures { result ≡ fits (slips_of tray.entry.letters.now tray.entry.ends.now) (entry index.now i) (get_or index.now i 0) }
 {
     let here = wide(index[i]);
     if here == 0 {
         return false;
     }
-    if ends.len() < here {
+    if tray.ends.len() < here {
         return false;
     }
     if i == 0 {
         return true;
     }
     let before = wide(index[i - 1]);
-    let typed = slips::slip_part(letters, ends, here);
-    trie_order::member_below(letters, ends, before, typed, Bound::Number(here))
+    let typed = slips::slip_part(tray, here);
+    trie_order::member_below(tray, before, typed, Bound::Number(here))
 }
 
 // Whether a list is the index of an accepted tray: as long as the tray, and each entry after the one before it, told in one pass.
-fn is_index(letters: &[u8], ends: &[u16], index: &[u16]) -> bool
-    requires { (tray_fault letters.now ends.now).number ≡ 0 }
-    ensures { result ≡ same index.now (index_of (slips_of letters.now ends.now)) }
+fn is_index(tray: Tray<'_>, index: &[u16]) -> bool
+    requires { (tray_fault tray.letters.now tray.ends.now).number ≡ 0 }
+    ensures { result ≡ same index.now (index_of (slips_of tray.entry.letters.now tray.entry.ends.now)) }
 {
-    if index.len() != ends.len() {
+    if index.len() != tray.ends.len() {
         return false;
     }
     let mut i = 0;
     while i < index.len() {
-        let good = entry_fits(letters, ends, index, i);
+        let good = entry_fits(tray, index, i);
         if good {
             i += 1;
         } else {
@@ -107,12 +107,12 @@ fn check_beginning(
 }
 
 // Where the slips that start with the typed letters start and end in the index: two binary searches.
-fn slips_starting(letters: &[u8], ends: &[u16], index: &[u16], typed: &[u8]) -> Span
-    requires { L.OwnIndex letters.now ends.now index.now }
-    ensures { result ≡ L.span_for (slips_of letters.now ends.now) typed.now }
+fn slips_starting(tray: Tray<'_>, index: &[u16], typed: &[u8]) -> Span
+    requires { L.OwnIndex tray.letters.now tray.ends.now index.now }
+    ensures { result ≡ L.span_for (slips_of tray.entry.letters.now tray.entry.ends.now) typed.now }
 {
-    let start = rank(letters, ends, index, typed, Bound::Lower);
-    let end = rank(letters, ends, index, typed, Bound::Upper);
+    let start = rank(tray, index, typed, Bound::Lower);
+    let end = rank(tray, index, typed, Bound::Upper);
     Span { start, end }
 }
 

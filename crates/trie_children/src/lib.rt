@@ -8,6 +8,8 @@ ghost use Rattle.layout.specs.Tables.{Child};
 ghost use Rattle.layout.specs.Numbered.{patterns_in, Numbered, Branched};
 ghost use Rattle.trie_children.specs.Children as C;
 
+use trays::Tray;
+
 // The node of the string of node `u` without its last letter: it stands one letter before, wherever node `u` stands.
 pub fn parent(work: &[u16], u: usize) -> usize
     requires { C.ParentCells work.now u }
@@ -42,9 +44,9 @@ fn hangs_below(work: &[u16], nodes: usize, u: usize, v: usize) -> bool
 }
 
 // Fills KID: parents ascend with their children, so the children of `v` begin at the first node whose parent is not below `v`.
-pub fn fill_kids(letters: &[u8], ends: &[u16], work: &mut [u16], n: usize, nodes: usize)
-    requires { Numbered letters.now ends.now n nodes work.old }
-    ensures { C.KidsFilled letters.now ends.now n nodes work.old work.new }
+pub fn fill_kids(tray: Tray<'_>, work: &mut [u16], n: usize, nodes: usize)
+    requires { Numbered tray.letters.now tray.ends.now n nodes work.old }
+    ensures { C.KidsFilled tray.entry.letters.now tray.entry.ends.now n nodes work.old work.new }
 {
     let mut v: usize = 0;
     let mut u: usize = 1;
@@ -60,23 +62,15 @@ pub fn fill_kids(letters: &[u8], ends: &[u16], work: &mut [u16], n: usize, nodes
 }
 
 // The node of the string of node `v` with the letter `c`, or 0 if that is no node. Children ascend by their letters.
-fn scan_child(
-    letters: &[u8],
-    ends: &[u16],
-    work: &[u16],
-    n: usize,
-    nodes: usize,
-    v: usize,
-    c: u8,
-) -> usize
-    requires branched { Branched letters.now ends.now n nodes work.now }
+fn scan_child(tray: Tray<'_>, work: &[u16], n: usize, nodes: usize, v: usize, c: u8) -> usize
+    requires branched { Branched tray.letters.now tray.ends.now n nodes work.now }
     requires v_le_nodes { v ≤ nodes }
-    ensures { Child (patterns_in letters.now ends.now n work.now) v c result }
+    ensures { Child (patterns_in tray.entry.letters.now tray.entry.ends.now n work.now) v c result }
 {
     let end = tables::at(work, layout::KID, v + 1);
     let mut u = tables::at(work, layout::KID, v);
     while u < end {
-        let b = letter(letters, work, u);
+        let b = letter(tray.letters, work, u);
         if b == c {
             return u;
         }
@@ -99,13 +93,13 @@ fn near_cell(v: usize, c: u8) -> usize
 }
 
 // The row of NEAR for node `v`, filled by scans.
-fn fill_row(letters: &[u8], ends: &[u16], work: &mut [u16], n: usize, nodes: usize, v: usize)
-    requires { C.CanFill letters.now ends.now n nodes work.old v }
-    ensures { C.RowFilled letters.now ends.now n nodes v work.old work.new }
+fn fill_row(tray: Tray<'_>, work: &mut [u16], n: usize, nodes: usize, v: usize)
+    requires { C.CanFill tray.letters.now tray.ends.now n nodes work.old v }
+    ensures { C.RowFilled tray.entry.letters.now tray.entry.ends.now n nodes v work.old work.new }
 {
     let mut c: u8 = layout::FIRST_SIGN;
     while c <= layout::LAST_SIGN {
-        let u = scan_child(letters, ends, work, n, nodes, v, c);
+        let u = scan_child(tray, work, n, nodes, v, c);
         let cell = near_cell(v, c);
         tables::put(work, layout::NEAR, cell, u);
         c += 1;
@@ -113,32 +107,24 @@ fn fill_row(letters: &[u8], ends: &[u16], work: &mut [u16], n: usize, nodes: usi
 }
 
 // Fills NEAR, for the root and the nodes next to it: most steps look at these.
-pub fn fill_near(letters: &[u8], ends: &[u16], work: &mut [u16], n: usize, nodes: usize)
-    requires { Branched letters.now ends.now n nodes work.old }
-    ensures { C.NearFilled letters.now ends.now n nodes work.old work.new }
+pub fn fill_near(tray: Tray<'_>, work: &mut [u16], n: usize, nodes: usize)
+    requires { Branched tray.letters.now tray.ends.now n nodes work.old }
+    ensures { C.NearFilled tray.entry.letters.now tray.entry.ends.now n nodes work.old work.new }
 {
     let mut v: usize = 0;
     while v < layout::NEAR_NODES {
         if nodes < v {
             return;
         }
-        fill_row(letters, ends, work, n, nodes, v);
+        fill_row(tray, work, n, nodes, v);
         v += 1;
     }
 }
 
 // The child of node `v` by the letter `c`, or 0 if there is none: looked up near the root, found by a scan elsewhere.
-pub fn child(
-    letters: &[u8],
-    ends: &[u16],
-    work: &[u16],
-    n: usize,
-    nodes: usize,
-    v: usize,
-    c: u8,
-) -> usize
-    requires { C.CanLook letters.now ends.now n nodes work.now v }
-    ensures { Child (patterns_in letters.now ends.now n work.now) v c result }
+pub fn child(tray: Tray<'_>, work: &[u16], n: usize, nodes: usize, v: usize, c: u8) -> usize
+    requires { C.CanLook tray.letters.now tray.ends.now n nodes work.now v }
+    ensures { Child (patterns_in tray.entry.letters.now tray.entry.ends.now n work.now) v c result }
 {
     if v < layout::NEAR_NODES {
         if layout::FIRST_SIGN <= c {
@@ -148,5 +134,5 @@ pub fn child(
             }
         }
     }
-    scan_child(letters, ends, work, n, nodes, v, c)
+    scan_child(tray, work, n, nodes, v, c)
 }

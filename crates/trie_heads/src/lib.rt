@@ -8,20 +8,15 @@ ghost use Rattle.layout.specs.Tables.{members};
 ghost use Rattle.layout.specs.Numbered.{patterns_in, Automaton};
 ghost use Rattle.trie_heads.specs.Steps.Heads as N;
 
+use trays::Tray;
+
 // The node of all letters of member `i`: that of its last letter.
-pub fn node_of(
-    letters: &[u8],
-    ends: &[u16],
-    work: &[u16],
-    n: usize,
-    nodes: usize,
-    i: usize,
-) -> usize
-    requires { N.Among letters.now ends.now n nodes work.now i }
-    ensures { IsNode (patterns_in letters.now ends.now n work.now) result
-        (slip (slips_of letters.now ends.now) i) }
+pub fn node_of(tray: Tray<'_>, work: &[u16], n: usize, nodes: usize, i: usize) -> usize
+    requires { N.Among tray.letters.now tray.ends.now n nodes work.now i }
+    ensures { IsNode (patterns_in tray.entry.letters.now tray.entry.ends.now n work.now) result
+        (slip (slips_of tray.entry.letters.now tray.entry.ends.now) i) }
 {
-    let span = slips::slip_span(ends, i);
+    let span = slips::slip_span(tray.ends, i);
     let end = span.end;
     tables::at(work, layout::AT, end - 1)
 }
@@ -37,16 +32,16 @@ pub fn push(work: &mut [u16], heads: usize, u: usize, nexts: usize, p: usize, i:
 }
 
 // Fills HEAD and TWIN: from the last member on, each goes before those of its node, so that these ascend.
-pub fn fill_heads(letters: &[u8], ends: &[u16], work: &mut [u16], n: usize, nodes: usize)
-    requires { Automaton letters.now ends.now n nodes work.old }
-    ensures { N.HeadsFilled letters.now ends.now n nodes work.old work.new }
+pub fn fill_heads(tray: Tray<'_>, work: &mut [u16], n: usize, nodes: usize)
+    requires { Automaton tray.letters.now tray.ends.now n nodes work.old }
+    ensures { N.HeadsFilled tray.entry.letters.now tray.entry.ends.now n nodes work.old work.new }
 {
     tables::clear(work, layout::HEAD, nodes + 1);
     let mut j = n;
     while 0 < j {
         j -= 1;
         let i = tables::at(work, layout::MEMBERS, j);
-        let v = node_of(letters, ends, work, n, nodes, i);
+        let v = node_of(tray, work, n, nodes, i);
         push(work, layout::HEAD, v, layout::TWIN, i, i);
     }
 }

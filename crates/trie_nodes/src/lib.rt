@@ -6,6 +6,8 @@ ghost use Rattle.std.specs.Prelude.{◌+◌};
 ghost use Rattle.trie_nodes.specs.Numbering.{Sorted, NodesFilled};
 ghost use Rattle.trie_nodes.specs.Steps.Stages.{LevelNext, AtStage, Letterable, Lettered};
 
+use trays::Tray;
+
 // Numbers letter `c` of the member of rank `r`, which stands at `place`. Its node is the last one numbered, or a new one where the
 // member has no more than `c` letters in common with the one before.
 fn number_letter(work: &mut [u16], c: usize, r: usize, place: usize, nodes: usize) -> usize
@@ -23,22 +25,15 @@ fn number_letter(work: &mut [u16], c: usize, r: usize, place: usize, nodes: usiz
 }
 
 // Numbers the nodes of `c` + 1 letters after the shorter ones, of which there are `nodes`, in the order of the members; those that are too short have none.
-fn number_level(
-    letters: &[u8],
-    ends: &[u16],
-    work: &mut [u16],
-    n: usize,
-    c: usize,
-    nodes: usize,
-) -> usize
-    requires { LevelNext letters.now ends.now n c nodes work.old }
-    ensures { AtStage letters.now ends.now n (c + 1) 0 work.old result work.new }
+fn number_level(tray: Tray<'_>, work: &mut [u16], n: usize, c: usize, nodes: usize) -> usize
+    requires { LevelNext tray.letters.now tray.ends.now n c nodes work.old }
+    ensures { AtStage tray.entry.letters.now tray.entry.ends.now n (c + 1) 0 work.old result work.new }
 {
     let mut k = nodes;
     let mut r = 0;
     while r < n {
         let slip = tables::at(work, layout::ORDER, r);
-        let span = slips::slip_span(ends, slip);
+        let span = slips::slip_span(tray.ends, slip);
         let place = span.start + c;
         if place < span.end {
             k = number_letter(work, c, r, place, k);
@@ -50,15 +45,15 @@ fn number_level(
 }
 
 // Numbers all nodes, level by level, and answers how many have a letter. Fills LEVEL, AT and OWN from ORDER and COMMON.
-pub fn number_nodes(letters: &[u8], ends: &[u16], work: &mut [u16], n: usize) -> usize
-    requires { Sorted letters.now ends.now n work.old }
-    ensures { NodesFilled letters.now ends.now n work.old result work.new }
+pub fn number_nodes(tray: Tray<'_>, work: &mut [u16], n: usize) -> usize
+    requires { Sorted tray.letters.now tray.ends.now n work.old }
+    ensures { NodesFilled tray.entry.letters.now tray.entry.ends.now n work.old result work.new }
 {
     tables::put(work, layout::LEVEL, 1, 1);
     let mut nodes = 0;
     let mut c = 0;
     while c < trays::MAX_SLIP {
-        nodes = number_level(letters, ends, work, n, c, nodes);
+        nodes = number_level(tray, work, n, c, nodes);
         c += 1;
     }
     nodes

@@ -11,6 +11,8 @@ ghost use Rattle.tables.specs.Tables.{table, Filled};
 ghost use Rattle.trie_order.specs.Order as O;
 ghost use Rattle.trie_order.specs.Steps.Steps.{lay_behind, insert_first, Insertable};
 
+use trays::Tray;
+
 // How far two strings agree, and whether the first is before the second.
 #[derive(Clone, Copy)]
 pub struct Compared {
@@ -74,29 +76,24 @@ fn below(slip: &[u8], number: usize, typed: &[u8], bound: Bound) -> bool
 }
 
 // Whether a member of the tray stands below a bound of the typed letters.
-pub fn member_below(letters: &[u8], ends: &[u16], member: usize, typed: &[u8], bound: Bound) -> bool
-    requires { ((tray_fault letters.now ends.now).number ≡ 0) × (1 ≤ member) × (member ≤ length ends.now) }
-    ensures { result ≡ O.below bound typed.now (slip (slips_of letters.now ends.now) member) member }
+pub fn member_below(tray: Tray<'_>, member: usize, typed: &[u8], bound: Bound) -> bool
+    requires { ((tray_fault tray.letters.now tray.ends.now).number ≡ 0) × (1 ≤ member) × (member ≤ length tray.ends.now) }
+    ensures { result ≡ O.below bound typed.now (slip (slips_of tray.entry.letters.now tray.entry.ends.now) member) member }
 {
-    below(
-        slips::slip_part(letters, ends, member),
-        member,
-        typed,
-        bound,
-    )
+    below(slips::slip_part(tray, member), member, typed, bound)
 }
 
 // How many members of an order stand below a bound of the typed letters: a binary search.
-pub fn rank(letters: &[u8], ends: &[u16], order: &[u16], typed: &[u8], bound: Bound) -> usize
-    requires { O.Rankable letters.now ends.now order.now typed.now bound }
-    ensures { result ≡ O.rank_of (slips_of letters.now ends.now) order.now typed.now bound }
+pub fn rank(tray: Tray<'_>, order: &[u16], typed: &[u8], bound: Bound) -> usize
+    requires { O.Rankable tray.letters.now tray.ends.now order.now typed.now bound }
+    ensures { result ≡ O.rank_of (slips_of tray.entry.letters.now tray.entry.ends.now) order.now typed.now bound }
 {
     let mut low = 0;
     let mut high = order.len();
     while low < high {
         let middle = low + (high - low) / 2;
         let member = tables::wide(order[middle]);
-        if member_below(letters, ends, member, typed, bound) {
+        if member_below(tray, member, typed, bound) {
             low = middle + 1;
         } else {
             high = middle;
@@ -121,68 +118,61 @@ fn lay_behind(cells: &mut [u16], k: usize)
 }
 
 // Puts the first member into its place among the others, which are in order.
-fn insert_first(letters: &[u8], ends: &[u16], cells: &mut [u16])
-    requires { Insertable letters.now ends.now cells.old }
-    ensures { cells.new ≡ insert_first (O.precedes (slips_of letters.now ends.now)) cells.old }
+fn insert_first(tray: Tray<'_>, cells: &mut [u16])
+    requires { Insertable tray.letters.now tray.ends.now cells.old }
+    ensures { cells.new ≡ insert_first (O.precedes (slips_of tray.entry.letters.now tray.entry.ends.now)) cells.old }
 {
     let member = tables::wide(cells[0]);
-    let typed = slips::slip_part(letters, ends, member);
-    let k = rank(letters, ends, &cells[1..], typed, Bound::Number(member));
+    let typed = slips::slip_part(tray, member);
+    let k = rank(tray, &cells[1..], typed, Bound::Number(member));
     lay_behind(cells, k);
 }
 
 // Puts the members in order: from the last on, each goes into its place among those after it.
-fn sort(letters: &[u8], ends: &[u16], cells: &mut [u16])
-    requires { O.Sortable letters.now ends.now cells.old }
-    ensures { cells.new ≡ in_order (O.precedes (slips_of letters.now ends.now)) cells.old }
+fn sort(tray: Tray<'_>, cells: &mut [u16])
+    requires { O.Sortable tray.letters.now tray.ends.now cells.old }
+    ensures { cells.new ≡ in_order (O.precedes (slips_of tray.entry.letters.now tray.entry.ends.now)) cells.old }
 {
     let mut m = cells.len();
     while 0 < m {
         m -= 1;
-        insert_first(letters, ends, &mut cells[m..]);
+        insert_first(tray, &mut cells[m..]);
     }
 }
 
 // The same for the table of `n` members at `base` of the work area.
-pub fn sort_table(letters: &[u8], ends: &[u16], work: &mut [u16], base: usize, n: usize)
-    requires { O.Sortable letters.now ends.now (table work.old base n) × (base + n ≤ length work.old) }
-    ensures { Filled base n (in_order (O.precedes (slips_of letters.now ends.now)) (table work.old base n))
+pub fn sort_table(tray: Tray<'_>, work: &mut [u16], base: usize, n: usize)
+    requires { O.Sortable tray.letters.now tray.ends.now (table work.old base n) × (base + n ≤ length work.old) }
+    ensures { Filled base n (in_order (O.precedes (slips_of tray.entry.letters.now tray.entry.ends.now)) (table work.old base n))
         work.old work.new }
 {
     let end = base + n;
-    sort(letters, ends, &mut work[base..end]);
+    sort(tray, &mut work[base..end]);
 }
 
 // The length of the common prefix of a member and the one before it in an order; 0 for the first.
-fn common_at(letters: &[u8], ends: &[u16], order: &[u16], i: usize) -> usize
-    requires { O.Members letters.now ends.now order.now × (i < length order.now) }
-    ensures { O.CommonAt (slips_of letters.now ends.now) order.now i result }
+fn common_at(tray: Tray<'_>, order: &[u16], i: usize) -> usize
+    requires { O.Members tray.letters.now tray.ends.now order.now × (i < length order.now) }
+    ensures { O.CommonAt (slips_of tray.entry.letters.now tray.entry.ends.now) order.now i result }
 {
     if i == 0 {
         return 0;
     }
-    let before = slips::slip_part(letters, ends, tables::wide(order[i - 1]));
-    let here = slips::slip_part(letters, ends, tables::wide(order[i]));
+    let before = slips::slip_part(tray, tables::wide(order[i - 1]));
+    let here = slips::slip_part(tray, tables::wide(order[i]));
     words::common(before, here)
 }
 
 // Fills the table at `common` from the order of `n` members at `order`.
-pub fn fill_common(
-    letters: &[u8],
-    ends: &[u16],
-    work: &mut [u16],
-    order: usize,
-    common: usize,
-    n: usize,
-)
-    requires { O.Members letters.now ends.now (table work.old order n) × (order + n ≤ common) × (common + n ≤ length work.old) }
-    ensures { Filled common n (O.commons (slips_of letters.now ends.now) 0 (table work.old order n))
+pub fn fill_common(tray: Tray<'_>, work: &mut [u16], order: usize, common: usize, n: usize)
+    requires { O.Members tray.letters.now tray.ends.now (table work.old order n) × (order + n ≤ common) × (common + n ≤ length work.old) }
+    ensures { Filled common n (O.commons (slips_of tray.entry.letters.now tray.entry.ends.now) 0 (table work.old order n))
         work.old work.new }
 {
     let end = order + n;
     let mut i = 0;
     while i < n {
-        let x = common_at(letters, ends, &work[order..end], i);
+        let x = common_at(tray, &work[order..end], i);
         tables::put(work, common, i, x);
         i += 1;
     }

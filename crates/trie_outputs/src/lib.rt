@@ -9,11 +9,13 @@ ghost use Rattle.layout.specs.Tables.{members, owners};
 ghost use Rattle.layout.specs.Numbered.{patterns_in, Headed};
 ghost use Rattle.trie_outputs.specs.Steps.Outputs as O;
 
+use trays::Tray;
+
 // How many members have all letters of node `v`.
-fn owners_of(letters: &[u8], ends: &[u16], work: &[u16], n: usize, nodes: usize, v: usize) -> usize
-    requires { O.Owning letters.now ends.now n nodes work.now v }
-    ensures { result ≡ length (owners (slips_of letters.now ends.now) (members work.now n)
-        (string (patterns_in letters.now ends.now n work.now) v)) }
+fn owners_of(tray: Tray<'_>, work: &[u16], n: usize, nodes: usize, v: usize) -> usize
+    requires { O.Owning tray.letters.now tray.ends.now n nodes work.now v }
+    ensures { result ≡ length (owners (slips_of tray.entry.letters.now tray.entry.ends.now) (members work.now n)
+        (string (patterns_in tray.entry.letters.now tray.entry.ends.now n work.now) v)) }
 {
     let mut i = tables::at(work, layout::HEAD, v);
     let mut k: usize = 0;
@@ -26,9 +28,9 @@ fn owners_of(letters: &[u8], ends: &[u16], work: &[u16], n: usize, nodes: usize,
 
 // The output link of node `v`, where those of lower nodes are known: its failure link if that is a member's whole string, else the
 // output link of that.
-fn output(letters: &[u8], ends: &[u16], work: &[u16], n: usize, nodes: usize, v: usize) -> usize
-    requires { O.Telling letters.now ends.now n nodes work.now v }
-    ensures { O.OutOf (slips_of letters.now ends.now) (members work.now n) v result }
+fn output(tray: Tray<'_>, work: &[u16], n: usize, nodes: usize, v: usize) -> usize
+    requires { O.Telling tray.letters.now tray.ends.now n nodes work.now v }
+    ensures { O.OutOf (slips_of tray.entry.letters.now tray.entry.ends.now) (members work.now n) v result }
 {
     let link = tables::at(work, layout::FAIL, v);
     if link == 0 {
@@ -42,26 +44,26 @@ fn output(letters: &[u8], ends: &[u16], work: &[u16], n: usize, nodes: usize, v:
 }
 
 // The tally of node `v`, where those of lower nodes are known: the members that have all its letters, and the tally of its failure link.
-fn tally(letters: &[u8], ends: &[u16], work: &[u16], n: usize, nodes: usize, v: usize) -> usize
-    requires { O.Telling letters.now ends.now n nodes work.now v }
-    ensures { O.Tallied (slips_of letters.now ends.now) (members work.now n) v result }
+fn tally(tray: Tray<'_>, work: &[u16], n: usize, nodes: usize, v: usize) -> usize
+    requires { O.Telling tray.letters.now tray.ends.now n nodes work.now v }
+    ensures { O.Tallied (slips_of tray.entry.letters.now tray.entry.ends.now) (members work.now n) v result }
 {
-    let own = owners_of(letters, ends, work, n, nodes, v);
+    let own = owners_of(tray, work, n, nodes, v);
     let link = tables::at(work, layout::FAIL, v);
     let behind = tables::at(work, layout::TALLY, link);
     own + behind
 }
 
 // Fills OUT and TALLY, node by node: a node's failure link has a lower number. Nothing ends the empty string.
-pub fn fill_outputs(letters: &[u8], ends: &[u16], work: &mut [u16], n: usize, nodes: usize)
-    requires { Headed letters.now ends.now n nodes work.old }
-    ensures { O.OutputsFilled letters.now ends.now n nodes work.old work.new }
+pub fn fill_outputs(tray: Tray<'_>, work: &mut [u16], n: usize, nodes: usize)
+    requires { Headed tray.letters.now tray.ends.now n nodes work.old }
+    ensures { O.OutputsFilled tray.entry.letters.now tray.entry.ends.now n nodes work.old work.new }
 {
     tables::put(work, layout::TALLY, 0, 0);
     let mut v: usize = 1;
     while v <= nodes {
-        let out = output(letters, ends, work, n, nodes, v);
-        let tally = tally(letters, ends, work, n, nodes, v);
+        let out = output(tray, work, n, nodes, v);
+        let tally = tally(tray, work, n, nodes, v);
         tables::put(work, layout::OUT, v, out);
         tables::put(work, layout::TALLY, v, tally);
         v += 1;

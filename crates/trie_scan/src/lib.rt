@@ -10,6 +10,7 @@ ghost use Rattle.layout.specs.Numbered.{patterns_in};
 ghost use Rattle.trie_scan.specs.Steps.Scanning as S;
 
 use layout::SCAN;
+use trays::Tray;
 
 // The moves of a text, and how many occurrences it has.
 #[derive(Clone, Copy)]
@@ -36,23 +37,16 @@ pub struct Scan {
 }
 
 // The moves and the occurrences of the text: a letter and its drops at a time, and at each place the tally of the state.
-pub fn count_text(
-    letters: &[u8],
-    ends: &[u16],
-    text: &[u8],
-    work: &[u16],
-    n: usize,
-    nodes: usize,
-) -> TextCounts
-    requires { S.Able letters.now ends.now text.now n nodes work.now }
-    ensures { S.TextCountsAre letters.now ends.now text.now result }
+pub fn count_text(tray: Tray<'_>, text: &[u8], work: &[u16], n: usize, nodes: usize) -> TextCounts
+    requires { S.Able tray.letters.now tray.ends.now text.now n nodes work.now }
+    ensures { S.TextCountsAre tray.entry.letters.now tray.entry.ends.now text.now result }
 {
     let mut state: usize = 0;
     let mut moves: usize = 0;
     let mut found: usize = 0;
     let mut read: usize = 0;
     while read < text.len() {
-        let next = trie_links::step(letters, ends, work, n, nodes, state, text[read]);
+        let next = trie_links::step(tray, work, n, nodes, state, text[read]);
         state = next.state;
         moves += 1 + next.drops;
         found += tables::at(work, layout::TALLY, state);
@@ -62,17 +56,10 @@ pub fn count_text(
 }
 
 // What ends the string of the output link of node `v`.
-fn report_behind(
-    letters: &[u8],
-    ends: &[u16],
-    work: &[u16],
-    n: usize,
-    nodes: usize,
-    v: usize,
-) -> Report
-    requires at_node { S.AtNode letters.now ends.now n nodes work.now v }
-    requires num { Num (patterns_in letters.now ends.now n work.now) v }
-    ensures { S.Reports letters.now ends.now n work.now (cell work.now L.OUT v) result }
+fn report_behind(tray: Tray<'_>, work: &[u16], n: usize, nodes: usize, v: usize) -> Report
+    requires at_node { S.AtNode tray.letters.now tray.ends.now n nodes work.now v }
+    requires num { Num (patterns_in tray.letters.now tray.ends.now n work.now) v }
+    ensures { S.Reports tray.entry.letters.now tray.entry.ends.now n work.now (cell work.now L.OUT v) result }
 {
     let node = tables::at(work, layout::OUT, v);
     if node == 0 {
@@ -83,9 +70,9 @@ fn report_behind(
 }
 
 // What ends the string of node `v`: the members of its letters first.
-fn report_at(letters: &[u8], ends: &[u16], work: &[u16], n: usize, nodes: usize, v: usize) -> Report
-    requires { S.AtNode letters.now ends.now n nodes work.now v }
-    ensures { S.Reports letters.now ends.now n work.now v result }
+fn report_at(tray: Tray<'_>, work: &[u16], n: usize, nodes: usize, v: usize) -> Report
+    requires { S.AtNode tray.letters.now tray.ends.now n nodes work.now v }
+    ensures { S.Reports tray.entry.letters.now tray.entry.ends.now n work.now v result }
 {
     if v == 0 {
         return Report { node: 0, slip: 0 };
@@ -94,26 +81,18 @@ fn report_at(letters: &[u8], ends: &[u16], work: &[u16], n: usize, nodes: usize,
     if slip != 0 {
         return Report { node: v, slip };
     }
-    report_behind(letters, ends, work, n, nodes, v)
+    report_behind(tray, work, n, nodes, v)
 }
 
 // One letter more, where nothing is left to be reported.
-fn read_letter(
-    letters: &[u8],
-    ends: &[u16],
-    text: &[u8],
-    work: &[u16],
-    n: usize,
-    nodes: usize,
-    x: Scan,
-) -> Scan
-    requires { S.Unread letters.now ends.now text.now n nodes work.now x }
-    ensures { S.ReadOn letters.now ends.now text.now n nodes work.now x result }
+fn read_letter(tray: Tray<'_>, text: &[u8], work: &[u16], n: usize, nodes: usize, x: Scan) -> Scan
+    requires { S.Unread tray.letters.now tray.ends.now text.now n nodes work.now x }
+    ensures { S.ReadOn tray.entry.letters.now tray.entry.ends.now text.now n nodes work.now x result }
 {
     let read = x.read;
-    let next = trie_links::step(letters, ends, work, n, nodes, x.state, text[read]);
+    let next = trie_links::step(tray, work, n, nodes, x.state, text[read]);
     let state = next.state;
-    let report = report_at(letters, ends, work, n, nodes, state);
+    let report = report_at(tray, work, n, nodes, state);
     Scan {
         done: x.done,
         read: read + 1,
@@ -124,37 +103,21 @@ fn read_letter(
 }
 
 // Letters are read until there is something to report.
-pub fn advance(
-    letters: &[u8],
-    ends: &[u16],
-    text: &[u8],
-    work: &[u16],
-    n: usize,
-    nodes: usize,
-    x: Scan,
-) -> Scan
-    requires { S.Ahead letters.now ends.now text.now n nodes work.now x }
-    ensures { S.Reached letters.now ends.now text.now n nodes work.now x result }
+pub fn advance(tray: Tray<'_>, text: &[u8], work: &[u16], n: usize, nodes: usize, x: Scan) -> Scan
+    requires { S.Ahead tray.letters.now tray.ends.now text.now n nodes work.now x }
+    ensures { S.Reached tray.entry.letters.now tray.entry.ends.now text.now n nodes work.now x result }
 {
     let mut y = x;
     while y.slip == 0 {
-        y = read_letter(letters, ends, text, work, n, nodes, y);
+        y = read_letter(tray, text, work, n, nodes, y);
     }
     y
 }
 
 // Past the occurrence that is to be reported: to the next member of the same letters, or to the node's output link.
-pub fn pass(
-    letters: &[u8],
-    ends: &[u16],
-    text: &[u8],
-    work: &[u16],
-    n: usize,
-    nodes: usize,
-    x: Scan,
-) -> Scan
-    requires { S.Reportable letters.now ends.now text.now n nodes work.now x }
-    ensures { S.Passed letters.now ends.now text.now n nodes work.now x result }
+pub fn pass(tray: Tray<'_>, text: &[u8], work: &[u16], n: usize, nodes: usize, x: Scan) -> Scan
+    requires { S.Reportable tray.letters.now tray.ends.now text.now n nodes work.now x }
+    ensures { S.Passed tray.entry.letters.now tray.entry.ends.now text.now n nodes work.now x result }
 {
     let twin = tables::at(work, layout::TWIN, x.slip);
     if twin != 0 {
@@ -166,7 +129,7 @@ pub fn pass(
             slip: twin,
         };
     }
-    let report = report_behind(letters, ends, work, n, nodes, x.node);
+    let report = report_behind(tray, work, n, nodes, x.node);
     Scan {
         done: x.done + 1,
         read: x.read,

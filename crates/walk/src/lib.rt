@@ -8,6 +8,8 @@ ghost use Rattle.walk_offer.specs.Steps.Runs as R;
 ghost use Rattle.walk_offer.specs.Steps.Offers as O;
 ghost use Rattle.walk.specs.Steps.Walking as W;
 
+use trays::Tray;
+
 // Visits node `v`, of `d` letters: each slip that begins with it is offered to those that properly end with it. These are passed for good once
 // they have a right neighbour.
 fn visit(
@@ -42,16 +44,15 @@ fn visit(
 // Of the nodes of `d` letters, which are enough, up to `end`, the first that counts: the first of all or the second. They stand in byte order and the stop
 // is the lowest sign, so only the first can be of stops alone.
 fn first_counted(
-    letters: &[u8],
-    ends: &[u16],
+    tray: Tray<'_>,
     work: &[u16],
     n: usize,
     nodes: usize,
     d: usize,
     end: usize,
 ) -> usize
-    requires { W.RowEnds letters.now ends.now n nodes work.now d end }
-    ensures { W.CountedFrom letters.now ends.now n work.now d end result }
+    requires { W.RowEnds tray.letters.now tray.ends.now n nodes work.now d end }
+    ensures { W.CountedFrom tray.entry.letters.now tray.entry.ends.now n work.now d end result }
 {
     let v = tables::at(work, layout::LEVEL, d);
     if end <= v {
@@ -59,7 +60,7 @@ fn first_counted(
     }
     let after = tables::at(work, layout::OWN, v) + 1;
     let start = after - d;
-    if trays::not_stops(&letters[start..after]) {
+    if trays::not_stops(&tray.letters[start..after]) {
         return v;
     }
     v + 1
@@ -67,8 +68,7 @@ fn first_counted(
 
 // Visits the nodes of `d` letters that count, in byte order.
 fn walk_row(
-    letters: &[u8],
-    ends: &[u16],
+    tray: Tray<'_>,
     work: &mut [u16],
     n: usize,
     k: usize,
@@ -81,15 +81,15 @@ fn walk_row(
     first: &mut [u16],
     last: &mut [u16],
 ) -> usize
-    requires { W.RowAsks letters.now ends.now n k nodes work.old d count left.old right.old overs.old first.old last.old }
-    ensures { O.JoinsMade work.old (W.row_walked letters.now ends.now n k work.old d count)
+    requires { W.RowAsks tray.letters.now tray.ends.now n k nodes work.old d count left.old right.old overs.old first.old last.old }
+    ensures { O.JoinsMade work.old (W.row_walked tray.entry.letters.now tray.entry.ends.now n k work.old d count)
         work.new left.new right.new overs.new first.new last.new result }
 {
     let mut made = count;
     let end = tables::at(work, layout::LEVEL, d + 1);
-    let mut v = first_counted(letters, ends, work, n, nodes, d, end);
+    let mut v = first_counted(tray, work, n, nodes, d, end);
     while v < end {
-        made = visit(work, ends, d, v, made, left, right, overs, first, last);
+        made = visit(work, tray.ends, d, v, made, left, right, overs, first, last);
         v += 1;
     }
     made
@@ -97,8 +97,7 @@ fn walk_row(
 
 // The walk: the nodes of ever fewer letters, down to the least overlap. Answers how many joins it has made.
 pub fn walk(
-    letters: &[u8],
-    ends: &[u16],
+    tray: Tray<'_>,
     work: &mut [u16],
     n: usize,
     k: usize,
@@ -111,9 +110,9 @@ pub fn walk(
     last: &mut [u16],
 ) -> usize
     requires le_least { 1 ≤ least }
-    requires walkable { W.Walkable letters.now ends.now n k nodes work.old }
+    requires walkable { W.Walkable tray.letters.now tray.ends.now n k nodes work.old }
     requires fresh { W.Fresh left.old right.old overs.old first.old last.old }
-    ensures { W.Walked least letters.now ends.now k
+    ensures { W.Walked least tray.entry.letters.now tray.entry.ends.now k
         work.old work.new left.new right.new overs.new result }
 {
     walk_offer::own_marks(first);
@@ -122,7 +121,7 @@ pub fn walk(
     let mut d = trays::MAX_SLIP;
     while least <= d {
         made = walk_row(
-            letters, ends, work, n, k, nodes, d, made, left, right, overs, first, last,
+            tray, work, n, k, nodes, d, made, left, right, overs, first, last,
         );
         d -= 1;
     }

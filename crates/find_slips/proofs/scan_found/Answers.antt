@@ -13,5 +13,5 @@ loop-i-preserved c =
       telling = telling_more c.loop-i-test.true c.loop-i.invariant.telling c.next_found.ensures;
       found_are =
           rw (c.loop-i.invariant.found_are, c.next_found.ensures.is)
-          (stored_set (found_at c.args.letters.now c.args.ends.now c.args.text.now) c.args.found.now c.loop-i.i h);
+          (stored_set (found_at c.args.tray.letters.now c.args.tray.ends.now c.args.text.now) c.args.found.now c.loop-i.i h);
     }

@@ -9,8 +9,8 @@ use Rattle.find_slips.proofs.scan_found.Given as goal
 abbrev pub invariant-loop-i : goal.invariant-loop-i
 invariant-loop-i l = record {
   upto : l.i ≤ l.count;
-  telling : Telling l.letters l.ends l.text l.count l.initial.work l.i l.work;
-  found_are : l.found ≡ over (firsts (found_at l.letters l.ends l.text) l.i) l.initial.found;
+  telling : Telling l.tray.letters.now l.tray.ends.now l.text l.count l.initial.work l.i l.work;
+  found_are : l.found ≡ over (firsts (found_at l.tray.letters.now l.tray.ends.now l.text) l.i) l.initial.found;
 }
 
 abbrev pub decreases-loop-i : goal.decreases-loop-i

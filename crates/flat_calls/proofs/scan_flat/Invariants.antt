@@ -5,7 +5,7 @@ use Rattle.flat_calls.proofs.FlatLoop.{Flattening}
 use Rattle.flat_calls.proofs.scan_flat.Given as goal
 
 abbrev pub invariant-loop-i : goal.invariant-loop-i
-invariant-loop-i l = Flattening l.letters l.ends l.text l.count l.initial.work l.work l.initial.found l.found l.i
+invariant-loop-i l = Flattening l.tray.letters.now l.tray.ends.now l.text l.count l.initial.work l.work l.initial.found l.found l.i
 
 abbrev pub decreases-loop-i : goal.decreases-loop-i
 decreases-loop-i l = l.count - l.i

@@ -4,7 +4,7 @@ use Rattle.kept_lists.proofs.EndLoop.{Falling}
 use Rattle.kept_lists.proofs.add_ends.Given as goal
 
 abbrev pub invariant-loop-u : goal.invariant-loop-u
-invariant-loop-u l = Falling l.letters l.ends l.n l.k l.nodes l.initial.work l.j l.i l.end l.work l.u l.d
+invariant-loop-u l = Falling l.tray.letters.now l.tray.ends.now l.n l.k l.nodes l.initial.work l.j l.i l.end l.work l.u l.d
 
 abbrev pub decreases-loop-u : goal.decreases-loop-u
 decreases-loop-u l = l.d

@@ -5,7 +5,7 @@ use Rattle.kept_lists.proofs.StartLoop.{Beginning}
 use Rattle.kept_lists.proofs.add_starts.Given as goal
 
 abbrev pub invariant-loop-p : goal.invariant-loop-p
-invariant-loop-p l = Beginning l.letters l.ends l.n l.k l.initial.work l.j l.i l.end l.work l.p
+invariant-loop-p l = Beginning l.tray.letters.now l.tray.ends.now l.n l.k l.initial.work l.j l.i l.end l.work l.p
 
 abbrev pub decreases-loop-p : goal.decreases-loop-p
 decreases-loop-p l = l.end - l.p

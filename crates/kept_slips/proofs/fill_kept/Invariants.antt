@@ -6,7 +6,7 @@ use Rattle.kept_slips.proofs.KeptLoop.{Sifting}
 use Rattle.kept_slips.proofs.fill_kept.Given as goal
 
 abbrev pub invariant-loop-j : goal.invariant-loop-j
-invariant-loop-j l = Sifting l.letters l.ends l.n l.nodes l.work l.j l.k × SameBelow KEPT l.initial.work l.work
+invariant-loop-j l = Sifting l.tray.letters.now l.tray.ends.now l.n l.nodes l.work l.j l.k × SameBelow KEPT l.initial.work l.work
 
 abbrev pub decreases-loop-j : goal.decreases-loop-j
 decreases-loop-j l = l.n - l.j

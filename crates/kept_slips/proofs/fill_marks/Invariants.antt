@@ -6,7 +6,7 @@ use Rattle.kept_slips.proofs.MarkLoop.{Marking}
 use Rattle.kept_slips.proofs.fill_marks.Given as goal
 
 abbrev pub invariant-loop-v : goal.invariant-loop-v
-invariant-loop-v l = Marking l.letters l.ends l.n l.nodes l.work l.v × SameBelow MARK l.initial.work l.work
+invariant-loop-v l = Marking l.tray.letters.now l.tray.ends.now l.n l.nodes l.work l.v × SameBelow MARK l.initial.work l.work
 
 abbrev pub decreases-loop-v : goal.decreases-loop-v
 decreases-loop-v l = l.nodes + 1 - l.v

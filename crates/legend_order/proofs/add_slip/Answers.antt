@@ -3,7 +3,7 @@ use borrow.Author.Rules.{rules}
 use Rattle.legend_order.proofs.add_slip.Goals as goal
 
 pub slip_part-part-requires : goal.slip_part-part-requires
-slip_part-part-requires c = (search rules, search slip-some, search slip-most)
+slip_part-part-requires c = (search slip-some, search slip-most)
 
 pub overflow_sub-result : goal.overflow_sub-result
 overflow_sub-result c = search shared_fits

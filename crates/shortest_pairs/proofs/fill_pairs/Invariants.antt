@@ -4,7 +4,7 @@ use Rattle.shortest_pairs.specs.Steps.Pairing.{PairedTo}
 use Rattle.shortest_pairs.proofs.fill_pairs.Given as goal
 
 abbrev pub invariant-loop-a : goal.invariant-loop-a
-invariant-loop-a l = PairedTo l.least l.letters l.ends l.kept l.k l.a 0 l.initial.table l.table
+invariant-loop-a l = PairedTo l.least l.tray.letters.now l.tray.ends.now l.kept l.k l.a 0 l.initial.table l.table
 
 abbrev pub decreases-loop-a : goal.decreases-loop-a
 decreases-loop-a l = l.k - l.a

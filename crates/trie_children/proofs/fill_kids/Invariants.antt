@@ -5,7 +5,7 @@ use Rattle.trie_children.proofs.Kids.{FillingKids}
 use Rattle.trie_children.proofs.fill_kids.Given as goal
 
 abbrev pub invariant-loop-v : goal.invariant-loop-v
-invariant-loop-v l = FillingKids l.letters l.ends l.n l.nodes l.initial.work l.work l.v l.u
+invariant-loop-v l = FillingKids l.tray.letters.now l.tray.ends.now l.n l.nodes l.initial.work l.work l.v l.u
 
 abbrev pub decreases-loop-v : goal.decreases-loop-v
 decreases-loop-v l = (l.nodes + 2 - l.v) + (l.nodes + 2 - l.u)

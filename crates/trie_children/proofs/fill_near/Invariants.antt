@@ -5,7 +5,7 @@ use Rattle.trie_children.proofs.Near.{FillingNear}
 use Rattle.trie_children.proofs.fill_near.Given as goal
 
 abbrev pub invariant-loop-v : goal.invariant-loop-v
-invariant-loop-v l = FillingNear l.letters l.ends l.n l.nodes l.initial.work l.work l.v
+invariant-loop-v l = FillingNear l.tray.letters.now l.tray.ends.now l.n l.nodes l.initial.work l.work l.v
 
 abbrev pub decreases-loop-v : goal.decreases-loop-v
 decreases-loop-v l = near_nodes - l.v

@@ -5,7 +5,7 @@ use Rattle.trie_children.proofs.Near.{FillingRow}
 use Rattle.trie_children.proofs.fill_row.Given as goal
 
 abbrev pub invariant-loop-c : goal.invariant-loop-c
-invariant-loop-c l = FillingRow l.letters l.ends l.n l.nodes l.initial.work l.work l.v l.c
+invariant-loop-c l = FillingRow l.tray.letters.now l.tray.ends.now l.n l.nodes l.initial.work l.work l.v l.c
 
 abbrev pub decreases-loop-c : goal.decreases-loop-c
 decreases-loop-c l = suc last_sign - l.c

@@ -5,7 +5,7 @@ use Rattle.trie_children.proofs.Children.{Scanning}
 use Rattle.trie_children.proofs.scan_child.Given as goal
 
 abbrev pub invariant-loop-u : goal.invariant-loop-u
-invariant-loop-u l = Scanning l.letters l.ends l.n l.nodes l.work l.v l.c l.end l.u
+invariant-loop-u l = Scanning l.tray.letters.now l.tray.ends.now l.n l.nodes l.work l.v l.c l.end l.u
 
 abbrev pub decreases-loop-u : goal.decreases-loop-u
 decreases-loop-u l = l.end - l.u

@@ -4,7 +4,7 @@ use Rattle.trie_links.proofs.Steps.{Dropping}
 use Rattle.trie_links.proofs.step.Given as goal
 
 abbrev pub invariant-loop-n : goal.invariant-loop-n
-invariant-loop-n l = Dropping l.letters l.ends l.n l.nodes l.work l.v l.c l.state l.drops
+invariant-loop-n l = Dropping l.tray.letters.now l.tray.ends.now l.n l.nodes l.work l.v l.c l.state l.drops
 
 abbrev pub decreases-loop-n : goal.decreases-loop-n
 decreases-loop-n l = l.state

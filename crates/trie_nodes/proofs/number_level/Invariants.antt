@@ -5,7 +5,7 @@ use Rattle.trie_nodes.specs.Steps.Stages.{AtStage}
 use Rattle.trie_nodes.proofs.number_level.Given as goal
 
 abbrev pub invariant-loop-r : goal.invariant-loop-r
-invariant-loop-r l = (l.r ≤ l.n) × AtStage l.letters l.ends l.n l.c l.r l.initial.work l.k l.work
+invariant-loop-r l = (l.r ≤ l.n) × AtStage l.tray.letters.now l.tray.ends.now l.n l.c l.r l.initial.work l.k l.work
 
 abbrev pub decreases-loop-r : goal.decreases-loop-r
 decreases-loop-r l = l.n - l.r

@@ -10,7 +10,7 @@ use Rattle.trie_order.proofs.fill_common.Given as goal
 
 abbrev pub invariant-loop-i : goal.invariant-loop-i
 invariant-loop-i l =
-    (l.i ≤ l.n) × (l.end ≡ l.order + l.n) × Filling l.common l.n (commons (slips_of l.letters l.ends) 0 (table l.initial.work l.order l.n)) l.i l.initial.work l.work
+    (l.i ≤ l.n) × (l.end ≡ l.order + l.n) × Filling l.common l.n (commons (slips_of l.tray.letters.now l.tray.ends.now) 0 (table l.initial.work l.order l.n)) l.i l.initial.work l.work
 
 abbrev pub decreases-loop-i : goal.decreases-loop-i
 decreases-loop-i l = l.n - l.i

@@ -8,7 +8,7 @@ use Rattle.trie_order.proofs.SortLoops.{sorting}
 use Rattle.trie_order.proofs.sort.Given as goal
 
 abbrev pub invariant-loop-m : goal.invariant-loop-m
-invariant-loop-m l = (l.m ≤ length l.initial.cells) × (length l.cells ≡ length l.initial.cells) × (l.cells ≡ sorting (precedes (slips_of l.letters l.ends)) l.m l.initial.cells)
+invariant-loop-m l = (l.m ≤ length l.initial.cells) × (length l.cells ≡ length l.initial.cells) × (l.cells ≡ sorting (precedes (slips_of l.tray.letters.now l.tray.ends.now)) l.m l.initial.cells)
 
 abbrev pub decreases-loop-m : goal.decreases-loop-m
 decreases-loop-m l = l.m

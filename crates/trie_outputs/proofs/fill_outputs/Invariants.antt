@@ -4,7 +4,7 @@ use Rattle.trie_outputs.proofs.OutputsLoop.{Filling}
 use Rattle.trie_outputs.proofs.fill_outputs.Given as goal
 
 abbrev pub invariant-loop-v : goal.invariant-loop-v
-invariant-loop-v l = Filling l.letters l.ends l.n l.nodes l.initial.work l.work l.v
+invariant-loop-v l = Filling l.tray.letters.now l.tray.ends.now l.n l.nodes l.initial.work l.work l.v
 
 abbrev pub decreases-loop-v : goal.decreases-loop-v
 decreases-loop-v l = l.nodes + 1 - l.v

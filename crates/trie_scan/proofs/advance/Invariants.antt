@@ -6,7 +6,7 @@ use Rattle.trie_scan.proofs.Scans.{Reaching}
 use Rattle.trie_scan.proofs.advance.Given as goal
 
 abbrev pub invariant-loop-y : goal.invariant-loop-y
-invariant-loop-y l = Reaching l.letters l.ends l.text l.n l.nodes l.work l.initial.y l.y
+invariant-loop-y l = Reaching l.tray.letters.now l.tray.ends.now l.text l.n l.nodes l.work l.initial.y l.y
 
 abbrev pub decreases-loop-y : goal.decreases-loop-y
 decreases-loop-y l = length l.text - l.y.read

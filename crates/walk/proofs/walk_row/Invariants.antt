@@ -5,7 +5,7 @@ use Rattle.walk.proofs.walk_row.Given as goal
 
 abbrev pub invariant-loop-v : goal.invariant-loop-v
 invariant-loop-v l =
-    RowWalking l.letters l.ends l.n l.k l.nodes l.initial.work l.d l.count l.work l.made l.v l.end l.left l.right l.overs l.first l.last
+    RowWalking l.tray.letters.now l.tray.ends.now l.n l.k l.nodes l.initial.work l.d l.count l.work l.made l.v l.end l.left l.right l.overs l.first l.last
 
 abbrev pub decreases-loop-v : goal.decreases-loop-v
 decreases-loop-v l =
