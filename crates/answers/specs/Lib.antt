@@ -6,4 +6,5 @@ pub mod Flat
 pub mod Finding
 pub mod Shortest
 pub mod Exported
+pub mod Told
 pub mod Steps

@@ -1,6 +1,7 @@
 -- From what the walk left to the answer.
 use mathlib.Core.Path.{◌≡◌, refl, sym, ◌∙◌, ap, subst}
 use mathlib.Core.Bool.{Bool, true, ◌||◌}
+use mathlib.Core.Logic.{◌⊎◌, inl, inr}
 use mathlib.Core.List.{List, [], ◌∷◌}
 use Prim.Native.Nat.{ℕ, suc, ◌+◌, ◌*◌, ◌^◌, ◌≤◌, ◌<◌}
 use borrow.Author.Tests.{lt-ltb}
@@ -172,12 +173,11 @@ module _ (g : Settings) (s es w : List ℕ) (k j : ℕ) (left right overs : List
             refused_finished C l w jr pr (refusal 9 j) 8 j r refl
             (lists_short C (length l) jr pr (omega (arith, need_is)) t ∙ ap (refusal 9) (sym count_plain)) e
 
-        last_joins : (r : Composed) → jr < j → r ≡ refused_by (refusal 9 j) → Finished C w w l l jr pr r
-        last_joins r u e =
+        last_lists : (r : Composed) → (jr < j) ⊎ ((j ≤ jr) × (pr < length es)) → r ≡ refused_by (refusal 9 j) → Finished C w w l l jr pr r
+        last_lists r (inl u) e =
             short_list r (or_left (ltb jr (length (joins_of C))) _ (lt-ltb jr (length (joins_of C)) (omega (arith, count_plain)))) e
-
-        last_places : (r : Composed) → pr < length es → r ≡ refused_by (refusal 9 j) → Finished C w w l l jr pr r
-        last_places r u e = short_list r (or_right (ltb jr (length (joins_of C))) _ (lt-ltb pr (length (numbers ss)) (omega (arith, numbers_count s es)))) e
+        last_lists r (inr (v, u)) e =
+            short_list r (or_right (ltb jr (length (joins_of C))) _ (lt-ltb pr (length (numbers ss)) (omega (arith, numbers_count s es)))) e
 
         module _ (xs : List ℕ) (p : PiecesStaged w k j left right overs xs) where
           pieces_are : pieces_in xs 0 k ≡ pieces_for counts ss (numbers ss)
@@ -246,11 +246,9 @@ module _ (s es w : List ℕ) (k j : ℕ) (left right overs : List ℕ) (A : Some
       ends_legend r q e = record { same = refl; for_any = λ g a. last_legend g s es w k j left right overs a c h l jr pr r q e }
 
       module _ (q : c.need ≤ length l) where
-        pub ends_joins : (r : Composed) → jr < j → r ≡ refused_by (refusal 9 j) → FinishedAs s es w w l l k j left right overs jr pr r
-        ends_joins r u e = record { same = refl; for_any = λ g a. last_joins g s es w k j left right overs a c h l jr pr q r u e }
-
-        pub ends_places : (r : Composed) → pr < length es → r ≡ refused_by (refusal 9 j) → FinishedAs s es w w l l k j left right overs jr pr r
-        ends_places r u e = record { same = refl; for_any = λ g a. last_places g s es w k j left right overs a c h l jr pr q r u e }
+        pub ends_lists : (r : Composed) → (jr < j) ⊎ ((j ≤ jr) × (pr < length es)) → r ≡ refused_by (refusal 9 j) →
+            FinishedAs s es w w l l k j left right overs jr pr r
+        ends_lists r u e = record { same = refl; for_any = λ g a. last_lists g s es w k j left right overs a c h l jr pr q r u e }
 
         module _ (xs : List ℕ) (p : PiecesStaged w k j left right overs xs) where
           pub write_can : WritingAsks s es w l xs k c.need

@@ -1,11 +1,17 @@
 -- Faults as the rows of the rules' table: what a call of this library answers as a Result, and other languages and sheets as a number and a detail.
 --   told f      == the number of a fault in the table, and its detail, 0 where none is named
 --   verdict r   == the same of an answer: 0 and 0 where it is no refusal
+--   pair_from, located_from, written_from == the same with the letters of an overlap, the ends of a stretch, the size of a tray; 0 where it is refused
 --   place_of o  == a place counted from 1, where o is an index; 0 for none
 --   IsTray s es r == where r is a tray, it is that of just these lent letters and ends, where they stand
 use Rattle.std.specs.Prelude.{◌≡◌, ℕ, ◌+◌, List, Option, None, Some, Result, Ok, Err}
 use Rattle.std.specs.Borrow.{Bor}
 use Rattle.trays.specs.declared.Refusal.{Refusal}
+use Rattle.trays.specs.declared.Pair.{Pair}
+use Rattle.trays.specs.declared.Located.{Located}
+use Rattle.trays.specs.declared.Written.{Written}
+use Rattle.trays.specs.declared.Stretch.{Stretch}
+use Rattle.trays.specs.declared.TraySize.{TraySize}
 use Rattle.trays.specs.declared.tray.Tray.{Tray}
 use Rattle.trays.specs.declared.fault.Fault.{Fault}
 use Rattle.trays.specs.declared.fault.Fault.TheVariants.{TooManySlips, EmptySlip, SlipTooLong, TooManyLetters, LastEndMismatch, BadSlipByte}
@@ -42,6 +48,18 @@ told OtherIndex = refusal 23 0
 abbrev pub verdict : {A : Type 0} → Result A Fault → Refusal
 verdict (Ok x) = accepted
 verdict (Err f) = told f
+
+abbrev pub pair_from : Result ℕ Fault → Pair
+pair_from (Ok n) = record { number = 0; detail = 0; letters = n }
+pair_from (Err f) = record { number = (told f).number; detail = (told f).detail; letters = 0 }
+
+abbrev pub located_from : Result Stretch Fault → Located
+located_from (Ok x) = record { number = 0; detail = 0; start = x.start; end = x.end }
+located_from (Err f) = record { number = (told f).number; detail = (told f).detail; start = 0; end = 0 }
+
+abbrev pub written_from : Result TraySize Fault → Written
+written_from (Ok x) = record { number = 0; detail = 0; letters = x.letters; slips = x.slips }
+written_from (Err f) = record { number = (told f).number; detail = (told f).detail; letters = 0; slips = 0 }
 
 abbrev pub place_of : Option ℕ → ℕ
 place_of None = 0

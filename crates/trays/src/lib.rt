@@ -8,6 +8,7 @@ pub use fault::Fault;
 pub use tray::Tray;
 
 mod fault;
+mod numbers;
 mod tray;
 
 pub const MAX_SLIPS: usize = 200;
@@ -43,20 +44,20 @@ pub struct Settings {
     pub least: u32,
     pub side: u8,
 }
-// A refusal of the rules' table: its number and detail, or 0 and 0.
+// A refusal of the rules' table as numbers, for sheets and other languages: its number and detail, or 0 and 0.
 #[derive(Clone, Copy)]
 pub struct Refusal {
     pub number: u8,
     pub detail: u32,
 }
-// The overlap of a pair of slips, or the refusal and 0 letters.
+// The same with the overlap of a pair of slips, 0 letters where it is refused.
 #[derive(Clone, Copy)]
 pub struct Pair {
     pub number: u8,
     pub detail: u32,
     pub letters: u32,
 }
-// Where a slip starts and ends in the letters of its tray, or a stretch in the index; or the refusal and 0 and 0.
+// The same with where a slip starts and ends in the letters of its tray, or a stretch in the index; 0 and 0 where it is refused.
 #[derive(Clone, Copy)]
 pub struct Located {
     pub number: u8,
@@ -64,7 +65,7 @@ pub struct Located {
     pub start: u32,
     pub end: u32,
 }
-// What a call that writes a tray answers: the refusal, or 0 and 0 with the counts of letters and slips; there is a side for each slip.
+// The same with the size of a tray that was written, 0 and 0 where it is refused.
 #[derive(Clone, Copy)]
 pub struct Written {
     pub number: u8,
@@ -73,10 +74,22 @@ pub struct Written {
     pub slips: u32,
 }
 // Where a slip starts and ends in the letters of its tray, or a stretch in the index.
-#[derive(Clone, Copy)]
+#[derive(Clone, Copy, Debug, PartialEq, Eq)]
 pub struct Span {
     pub start: usize,
     pub end: usize,
+}
+// The same for callers in other languages.
+#[derive(Clone, Copy, Debug, PartialEq, Eq)]
+pub struct Stretch {
+    pub start: u32,
+    pub end: u32,
+}
+// How large a tray is that was written: its letters and slips; there is a side for each slip.
+#[derive(Clone, Copy, Debug, PartialEq, Eq)]
+pub struct TraySize {
+    pub letters: u32,
+    pub slips: u32,
 }
 
 // Whether some letter of a string is no stop, so that it counts as an overlap where it is long enough. It looks from the last letter on; neither end is
