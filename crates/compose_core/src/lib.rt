@@ -5,10 +5,11 @@ ghost use Rattle.std.specs.Prelude.{◌≤◌};
 ghost use Rattle.trays.specs.Slips.{slips_of};
 ghost use Rattle.greedy.specs.Composing.{whole};
 ghost use Rattle.trie_build.specs.Steps.Built.{Buildable};
+ghost use Rattle.answers.specs.Told.{composed_from};
 ghost use Rattle.compose_finish.specs.Steps.Finishing.{Finished};
 
-use answers::Composed;
-use trays::{MAX_SLIPS, Settings, Tray};
+use answers::{ComposeCounts, Room};
+use trays::{Fault, MAX_SLIPS, Settings, Tray};
 
 // An accepted tray, composed in a work area that is large enough: the automaton, the lists at its nodes, the walk, and what comes after it.
 pub fn compose_accepted(
@@ -16,13 +17,12 @@ pub fn compose_accepted(
     settings: Settings,
     work: &mut [u16],
     legend: &mut [u8],
-    joins_room: usize,
-    places_room: usize,
-) -> Composed
+    room: Room,
+) -> Result<ComposeCounts, Fault>
     requires le_least { 1 ≤ settings.least }
     requires buildable { Buildable tray.letters.now tray.ends.now work.old }
     ensures { Finished (whole settings (slips_of tray.entry.letters.now tray.entry.ends.now)) work.old work.new
-        legend.old legend.new joins_room places_room result }
+        legend.old legend.new room.joins room.places (composed_from result) }
 {
     let least = settings.least as usize;
     let n = tray.ends.len();
@@ -34,19 +34,7 @@ pub fn compose_accepted(
     let mut first = [0u16; MAX_SLIPS];
     let mut last = [0u16; MAX_SLIPS];
     let joins = walk::walk(
-        tray, work, n, k, nodes, least, &mut left, &mut right, &mut overs, &mut first,
-        &mut last,
+        tray, work, n, k, nodes, least, &mut left, &mut right, &mut overs, &mut first, &mut last,
     );
-    compose_finish::finish(
-        tray,
-        work,
-        legend,
-        &left,
-        &right,
-        &overs,
-        k,
-        joins,
-        joins_room,
-        places_room,
-    )
+    compose_finish::finish(tray, work, legend, &left, &right, &overs, k, joins, room)
 }

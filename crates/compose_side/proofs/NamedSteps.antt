@@ -174,6 +174,20 @@ module _ (g : Settings) (s es M w : List ℕ) (h : CanCut s es M) (room : work_n
         })
         (λ z. record { room = omega (arith, room, long); few = omega (arith, z.no_joins); slips_within = λ i q. absurd (omega (arith, z.no_joins)) })
 
+    -- a refusal tells no join and no record
+    pub refused_named : (r.number ≡ 0 → ⊥) → SideFinished (among g M (slips_of s es)) b w w₁ l l' jr pr r
+    refused_named z =
+        record {
+          answer-is = F.answer-is ∙ sym (answer-same (length l) jr pr);
+          legend_is =
+              F.legend_is
+              ∙ (ap (λ (rs : List Refusal). written (first_row rs) (legend_of d) l) (sym (rows_same (length l) jr pr))
+              ∙ ap (λ (t : List ℕ). written (first_row (room_rows c (length l) jr pr)) t l) (sym A.legend_is));
+          same = long;
+          joins_are = λ e. absurd (z e);
+          records_are = λ e. absurd (z e);
+        }
+
     module _ (k : ℕ) (ek : k ≡ r.joins) (w₂ : List ℕ) (N : JoinsNamed M k w₁ w₂) where
       pub records_can : (n : ℕ) → n ≡ r.slips → RecordsAsk w₂ M n
       records_can n e =

@@ -9,7 +9,11 @@ use Rattle.trays.specs.declared.Refusal.{Refusal}
 use Rattle.trays.specs.declared.Settings.{Settings}
 use Rattle.trays.specs.Limits.{work_need}
 use Rattle.trays.specs.Slips.{slips_of}
-use Rattle.trays.specs.Faults.{refusal}
+use Rattle.trays.specs.Faults.{refusal, accepted}
+use Rattle.trays.specs.declared.fault.Fault.{Fault}
+use Rattle.trays.specs.Told.{told}
+use Rattle.trays.proofs.Told.{told_speaks}
+use native.Mathlib.Omega.{arith}
 use Rattle.trays.specs.Sides.{sided_rows, sided_fault}
 use Rattle.trays.proofs.Rows.{speaking}
 use Rattle.trays.proofs.SidedTrays.{sided_tells}
@@ -29,6 +33,17 @@ pub side_finished : (g : Settings) (cs : List ℕ) (o : Chosen) → SideSlips cs
     → SideFinished (among g (take o.count o.slips) ss) g.side w w' l l' j p r → SideFinished (sided g cs ss) g.side w w' l l' j p r
 side_finished g cs o S ss w w' l l' j p r F =
     subst (λ (M : List ℕ). SideFinished (among g M ss) g.side w w' l l' j p r) S.slips_are F
+
+-- where the settings, the tray and its sides are accepted
+module _ (g : Settings) (s es cs w : List ℕ) (e : accepted ≡ sided_fault g.least g.side s es cs) where
+  pub silent : (sided_fault g.least g.side s es cs).number ≡ 0
+  silent = ap (λ (f : Refusal). f.number) (sym e)
+
+  pub least_some : 1 ≤ g.least
+  least_some = (sided_tells g.least g.side s es cs silent).some
+
+  pub side_asks : work_need ≤ length w → SideAsks s es cs w
+  side_asks room = record { accepted = (sided_tells g.least g.side s es cs silent).accepted; room = room }
 
 -- the rows before place C
 module _ (g : Settings) (s es cs w l : List ℕ) (jr pr : ℕ) (r : Composed) where
@@ -51,36 +66,30 @@ module _ (g : Settings) (s es cs w l : List ℕ) (jr pr : ℕ) (r : Composed) wh
         records_are = λ z. absurd (not_composed f n d r e q z);
       }
 
-  pub staged_tray : (f : Refusal) → f ≡ sided_fault g.least g.side s es cs → (f.number ≡ 0 → ⊥) → r ≡ refused_by (refusal f.number f.detail) →
-      Staged g s es cs w w l l jr pr r
+  pub staged_tray : (x : Fault) → told x ≡ sided_fault g.least g.side s es cs → r ≡ refused_by (told x) → Staged g s es cs w w l l jr pr r
   unfolding compose_fault sided_fault
-  staged_tray f e z q =
-      let (n, h) = speaking f z in
-      refused_before f n f.detail h (rows-first before (work_row (length w) ∷ room_rows c (length l) jr pr) f e z) q
+  staged_tray x e q =
+      let z : (told x).number ≡ 0 → ⊥ = λ z. absurd (omega (arith, told_speaks x)) in
+      let (n, h) = speaking (told x) z in
+      refused_before (told x) n (told x).detail h (rows-first before (work_row (length w) ∷ room_rows c (length l) jr pr) (told x) e z) q
 
-  module _ (f : Refusal) (e : f ≡ sided_fault g.least g.side s es cs) (z : f.number ≡ 0) where
-    silent : (sided_fault g.least g.side s es cs).number ≡ 0
-    silent = ap (λ (f : Refusal). f.number) (sym e) ∙ z
+  module _ (e : accepted ≡ sided_fault g.least g.side s es cs) where
+    abbrev quiet : (sided_fault g.least g.side s es cs).number ≡ 0
+    quiet = silent g s es cs w e
 
     pub staged_room : length w < work_need → r ≡ refused_by (refusal 7 0) → Staged g s es cs w w l l jr pr r
     unfolding compose_fault sided_fault
-    staged_room h q = refused_before (refusal 7 0) 6 0 refl (work_first before silent (length w) (room_rows c (length l) jr pr) h) q
-
-    pub least_some : 1 ≤ g.least
-    least_some = (sided_tells g.least g.side s es cs silent).some
+    staged_room h q = refused_before (refusal 7 0) 6 0 refl (work_first before quiet (length w) (room_rows c (length l) jr pr) h) q
 
     module _ (room : work_need ≤ length w) where
-      pub side_asks : SideAsks s es cs w
-      side_asks = record { accepted = (sided_tells g.least g.side s es cs silent).accepted; room = room }
-
       pub staged_all : (w' l' : List ℕ) → SideFinished c g.side w w' l l' jr pr r → Staged g s es cs w w' l l' jr pr r
       unfolding compose_fault composed_of sided_fault before_c
       staged_all w' l' t =
-          let rows = rows_left before silent (length w) (room_rows c (length l) jr pr) room in
+          let rows = rows_left before quiet (length w) (room_rows c (length l) jr pr) room in
           record {
             answer-is = rw rows t.answer-is;
             legend_is = rw rows t.legend_is;
-            work_is = work_kept before silent w w' room t.same;
+            work_is = work_kept before quiet w w' room t.same;
             joins_are = t.joins_are;
             records_are = t.records_are;
           }

@@ -2,7 +2,11 @@
 --   told_speaks  == a fault has a number above 0
 --   told-first   == the rows after a fault are not asked
 --   told_next    == where a row is silent, those after it decide
-use mathlib.Core.Path.{◌≡◌, refl, sym, ◌∙◌, ap}
+--   at_tray, of_tray == what holds of lent letters and ends holds of the tray that they are
+use mathlib.Core.Path.{◌≡◌, refl, sym, ◌∙◌, ap, subst}
+use mathlib.Core.List.{List}
+use Rattle.std.specs.Borrow.{Bor}
+use Rattle.trays.specs.declared.tray.Tray.{Tray}
 use Prim.Native.Nat.{ℕ, ◌≤◌}
 use native.Mathlib.Omega.{arith}
 use Rattle.trays.specs.declared.Refusal.{Refusal}
@@ -45,3 +49,11 @@ told-first f r rest e = rw (← e) (sym (or_some (told f) rest (told_speaks f)))
 
 pub told_next : (r rest : Refusal) → accepted ≡ r → rest ≡ or_else r rest
 told_next r rest e = sym (or_zero r rest (ap (λ (x : Refusal). x.number) (sym e)))
+
+-- what holds of the lent letters and ends holds of the tray that they are, and the other way
+module _ (P : List ℕ → List ℕ → Type 0) (s es : Bor (List ℕ)) (t : Tray) (e : (t.letters ≡ s) × (t.ends ≡ es)) where
+  pub at_tray : P s.now es.now → P t.letters.now t.ends.now
+  at_tray h = subst (λ (x : Bor (List ℕ)). P x.now t.ends.now) (sym e.0) (subst (λ (x : Bor (List ℕ)). P s.now x.now) (sym e.1) h)
+
+  pub of_tray : P t.letters.now t.ends.now → P s.now es.now
+  of_tray h = subst (λ (x : Bor (List ℕ)). P s.now x.now) e.1 (subst (λ (x : Bor (List ℕ)). P x.now t.ends.now) e.0 h)

@@ -1,4 +1,4 @@
-use Rattle.tray_cut.proofs.CutTray.{write_can, text_fits, text_counted, ends_fit, ends-counted}
+use Rattle.tray_cut.proofs.CutTray.{write_can, text_fits, text_counted, ends_fit, ends-counted, cut_tray}
 use Rattle.compose_side.proofs.CutSteps.{cut_can, cut_finished}
 use borrow.Author.Rules.{rules}
 use Rattle.compose_side.proofs.compose_cut.Goals as goal
@@ -9,14 +9,17 @@ write_slips-n-requires c = search write_can
 pub slice_bounds-text-end : goal.slice_bounds-text-end
 slice_bounds-text-end c = search text_fits
 
-pub slice_bounds-compose_accepted-end : goal.slice_bounds-compose_accepted-end
-slice_bounds-compose_accepted-end c = search text_counted
+pub slice_bounds-cut-end : goal.slice_bounds-cut-end
+slice_bounds-cut-end c = search text_counted
 
 pub slice_bounds-bounds-end : goal.slice_bounds-bounds-end
 slice_bounds-bounds-end c = search ends_fit
 
-pub slice_bounds-compose_accepted-end-2 : goal.slice_bounds-compose_accepted-end-2
-slice_bounds-compose_accepted-end-2 c = search ends-counted
+pub slice_bounds-cut-end-2 : goal.slice_bounds-cut-end-2
+slice_bounds-cut-end-2 c = search ends-counted
+
+pub invariant_of-cut : goal.invariant_of-cut
+invariant_of-cut c = record { accepted = search cut_tray }
 
 pub compose_accepted-requires : goal.compose_accepted-requires
 compose_accepted-requires c = record { le_least = search rules; buildable = search cut_can }

@@ -1,14 +1,38 @@
+use mathlib.Core.Path.{◌≡◌, refl}
+use mathlib.Core.List.{List}
+use Prim.Native.Nat.{ℕ}
+use Rattle.std.proofs.lemmas.Result.{err_from_is_err_and}
+use Rattle.trays.specs.Slips.{slips_of}
+use Rattle.trays.proofs.Told.{at_tray, of_tray}
+use Rattle.greedy.specs.Composing.{sided}
+use Rattle.answers.specs.Told.{composed_from}
+use Rattle.answers.specs.Steps.Sides.{SideAsks}
+use Rattle.compose_side.specs.Steps.Sides.{SideFinished}
 use Rattle.compose_side.proofs.TopSteps.{staged_tray, staged_room, least_some, side_asks, staged_all}
 use Rattle.compose_side.proofs.compose_staged.Goals as goal
 
-pub returns-then-fault-ne0 : goal.returns-then-fault-ne0
-returns-then-fault-ne0 c = search staged_tray
+pub returns-in_err-tray : goal.returns-in_err-tray
+returns-in_err-tray c =
+    let p = err_from_is_err_and c.from_residual.result c.from_residual.ensures.1 in
+    rw (p.1, p.2) (staged_tray _ _ _ _ _ _ _ _ _ c.in_err-tray.field-0.0 c.in_err-tray.ensures.fault refl)
 
 pub returns-then-work-lt-WORK_NEED : goal.returns-then-work-lt-WORK_NEED
-returns-then-work-lt-WORK_NEED c = search staged_room
+returns-then-work-lt-WORK_NEED c = staged_room _ _ _ _ _ _ _ _ _ c.in_ok-tray.ensures.fault c.if-work-lt-WORK_NEED.true refl
 
 pub compose_side-requires : goal.compose_side-requires
-compose_side-requires c = record { le_least = search least_some; side_asks = search side_asks }
+compose_side-requires c =
+    let P : List ℕ → List ℕ → Type 0 = λ s es. SideAsks s es c.args.sides.now c.args.work.now in
+    record {
+      le_least = least_some c.args.settings _ _ _ c.args.work.now c.in_ok-tray.ensures.fault;
+      side_asks = at_tray P c.args.letters c.args.ends c.in_ok-tray.tray c.in_ok-tray.ensures.tray
+          (side_asks c.args.settings _ _ _ _ c.in_ok-tray.ensures.fault c.if-work-lt-WORK_NEED.false);
+    }
 
 pub returns : goal.returns
-returns c = search staged_all
+returns c =
+    let g = c.args.settings in
+    let P : List ℕ → List ℕ → Type 0 = λ s es.
+    SideFinished (sided g c.args.sides.now (slips_of s es)) g.side c.args.work.now c.compose_side.new.work c.args.legend.now c.compose_side.new.legend
+    c.args.room.joins c.args.room.places (composed_from c.compose_side.result) in
+    staged_all g _ _ _ _ _ _ _ _ c.in_ok-tray.ensures.fault c.if-work-lt-WORK_NEED.false _ _
+    (of_tray P c.args.letters c.args.ends c.in_ok-tray.tray c.in_ok-tray.ensures.tray c.compose_side.ensures)
