@@ -9,14 +9,16 @@ use native.Mathlib.Omega.{arith}
 use lib.ListN.{length}
 use Rattle.trays.specs.declared.Refusal.{Refusal}
 use Rattle.trays.specs.Slips.{slips_of}
-use Rattle.trays.specs.Faults.{refusal}
+use Rattle.trays.specs.Faults.{accepted}
+use Rattle.trays.specs.declared.fault.Fault.{Fault}
+use Rattle.trays.specs.Told.{told}
+use Rattle.trays.proofs.Told.{told_speaks}
 use Rattle.matching.specs.Occurrences.{occurrences}
 use Rattle.answers.specs.WorkArea.{WorkKept}
 use Rattle.answers.specs.declared.Search.{Search}
-use Rattle.find_core.specs.declared.Begun.{Begun}
 use Rattle.answers.specs.Finding.{find_before, find_fault, search_of, Answered}
 use Rattle.answers.specs.Finding.{search_outcome, search_refused}
-use Rattle.find_core.specs.Steps.Searching.{Clear, Left, turned_back, CoreSays}
+use Rattle.find_core.specs.Steps.Searching.{Clear, Left, CoreSays}
 use Rattle.find_core.proofs.Checks.{fault_before}
 
 -- the two cases of the answer
@@ -35,37 +37,36 @@ module _ (s es t : List ℕ) (w k : ℕ) where
 
 -- a call that is turned back, before anything is stored
 pub core_refused : {s es t w w' : List ℕ} {room : ℕ} (f : Refusal) → 1 ≤ f.number → find_fault s es t (length w) room ≡ f
-    → WorkKept (find_before s es t (length w)) w w' → CoreSays s es t w w' room (turned_back f)
+    → WorkKept (find_before s es t (length w)) w w' → CoreSays s es t w w' room (search_refused f)
 core_refused {s} {es} {t} {w} {w'} {room} f h e k =
     let l : 1 ≤ (find_fault s es t (length w) room).number = rw e h in
     record {
       answered = record { answer-is = sym (answer_refused s es t (length w) room l ∙ ap search_refused e); few_moves = omega arith; work_is = k };
-      count_is = refl;
       fits = omega arith;
       enough = record { upto = omega arith; scan = λ n. absurd (omega arith) };
     }
 
-module _ {s es t w : List ℕ} {fault : Refusal} (e : fault ≡ find_before s es t (length w)) where
-  pub core_before : {room : ℕ} {r : Begun} → (fault.number ≡ 0 → ⊥) → r ≡ turned_back (refusal fault.number fault.detail) → CoreSays s es t w w room r
-  core_before {room} z q =
-      let some : 1 ≤ (find_before s es t (length w)).number = rw (← e) (omega arith) in
-      rw q (core_refused fault (omega arith) (fault_before s es t (length w) room some ∙ sym e) (record { same = refl; untouched = λ h. refl }))
+-- where a row before place C speaks, it is the answer
+pub core_before : (s es t w : List ℕ) (room : ℕ) (x : Fault) → told x ≡ find_before s es t (length w) → CoreSays s es t w w room (search_refused (told x))
+core_before s es t w room x e =
+    let some : 1 ≤ (find_before s es t (length w)).number = rw (← e) (told_speaks x) in
+    core_refused (told x) (told_speaks x) (fault_before s es t (length w) room some ∙ sym e) (record { same = refl; untouched = λ h. refl })
 
-  pub core_clear : fault.number ≡ 0 → Clear s es t w
-  core_clear z = record { silent = rw (← e) z }
+pub core_clear : (s es t w : List ℕ) → accepted ≡ find_before s es t (length w) → Clear s es t w
+core_clear s es t w e = record { silent = ap (λ (f : Refusal). f.number) (sym e) }
 
 -- behind the last store
-module _ {s es t w w₁ : List ℕ} {room : ℕ} {r : Begun} (c : CoreSays s es t w w₁ room r) where
+module _ {s es t w w₁ : List ℕ} {room : ℕ} {r : Search} (c : CoreSays s es t w w₁ room r) where
   abbrev fault : Refusal
   fault = find_fault s es t (length w) room
 
   pub none_stored : 1 ≤ fault.number → r.count ≡ 0
-  none_stored h = c.count_is ∙ ap (λ (q : Search). q.count) (c.answered.answer-is ∙ answer_refused s es t (length w) room h)
+  none_stored h = ap (λ (q : Search). q.count) (c.answered.answer-is ∙ answer_refused s es t (length w) room h)
 
   pub all_stored : fault.number ≡ 0 → r.count ≡ length (occurrences (slips_of s es) t)
-  all_stored z = c.count_is ∙ ap (λ (q : Search). q.count) (c.answered.answer-is ∙ answer_found s es t (length w) room z)
+  all_stored z = ap (λ (q : Search). q.count) (c.answered.answer-is ∙ answer_found s es t (length w) room z)
 
-  pub answered_after : {w' : List ℕ} → Left s es t r.count w₁ w' → Answered s es t w w' room r.answer
+  pub answered_after : {w' : List ℕ} → Left s es t r.count w₁ w' → Answered s es t w w' room r
   answered_after l =
       record {
         answer-is = c.answered.answer-is;

@@ -21,9 +21,9 @@ use Rattle.trie_scan.specs.declared.Scan.{Scan}
 use Rattle.trie_scan.specs.Steps.Scanning.{Able, TextCountsAre, Loadable, Standing, fresh, scan_in, ScanStarted}
 use Rattle.trie_scan.proofs.Scans.{able_few}
 use Rattle.trie_scan.proofs.Keeping.{standing_kept, fresh_standing}
-use Rattle.find_core.specs.declared.Begun.{Begun}
-use Rattle.answers.specs.Finding.{find_before}
-use Rattle.find_core.specs.Steps.Searching.{Clear, Prepared, turned_back, CoreSays}
+use Rattle.answers.specs.declared.Search.{Search}
+use Rattle.answers.specs.Finding.{find_before, search_refused}
+use Rattle.find_core.specs.Steps.Searching.{Clear, Prepared, CoreSays}
 use Rattle.find_core.proofs.Checks.{silent_short, fault_list, fault_none}
 use Rattle.find_core.proofs.Answering.{answer_found, core_refused}
 
@@ -61,13 +61,13 @@ module _ {s es t w w₁ : List ℕ} {nodes : ℕ} (h : Clear s es t w) (p : Prep
     moves_fit = omega (arith, r.moves_are, few_from (slips_of s es) [] t 0, silent_short h)
 
     module _ {room : ℕ} where
-      pub begin_refused : {q : Begun} → room < c.found → q ≡ turned_back (refusal 14 c.found) → CoreSays s es t w w₁ room q
+      pub begin_refused : {q : Search} → room < c.found → q ≡ search_refused (refusal 14 c.found) → CoreSays s es t w w₁ room q
       begin_refused {q} l e =
           rw e (core_refused (refusal 14 c.found) (omega arith)
           (fault_list s es t (length w) room h.silent (omega (arith, r.found_are)) ∙ ap (refusal 14) (sym r.found_are)) (kept_so refl))
 
       pub begin_started : {w₂ : List ℕ} → c.found ≤ room → ScanStarted w₁ nodes w₂
-          → CoreSays s es t w w₂ room (record { answer = record { number = 0; detail = 0; moves = c.moves; count = c.found }; count = c.found })
+          → CoreSays s es t w w₂ room (record { number = 0; detail = 0; moves = c.moves; count = c.found })
       begin_started {w₂} l g =
           let none = fault_none s es t (length w) room h.silent (omega (arith, r.found_are)) in
           let stands : Standing s es t (length es) nodes w₂ fresh = standing_kept g.below (fresh_standing begin_able) in
@@ -78,7 +78,6 @@ module _ {s es t w w₁ : List ℕ} {nodes : ℕ} (h : Clear s es t w) (p : Prep
               few_moves = omega (arith, r.moves_are, few_from (slips_of s es) [] t 0);
               work_is = kept_so g.below.same;
             };
-            count_is = refl;
             fits = l;
             enough = record {
               upto = omega (arith, r.found_are);

@@ -1,5 +1,4 @@
 -- The rows before place C, one after another.
---   place-most      == the place of the first bad byte is within the text
 --   before-..       == the ways through check_find
 --   silent-..       == what holds where none of them turns the call back
 --   fault_is        == then only 14 is left
@@ -15,6 +14,9 @@ use Rattle.trays.specs.declared.Refusal.{Refusal}
 use Rattle.trays.specs.Limits.{max_text, work_need}
 use Rattle.trays.specs.Slips.{slips_of, is_letter}
 use Rattle.trays.specs.Faults.{refusal, accepted, row, or_else, first_row, bad_place, tray_rows, tray_fault}
+use Rattle.trays.specs.declared.fault.Fault.{Fault}
+use Rattle.trays.specs.Told.{told}
+use Rattle.trays.proofs.Told.{told-first, told_next}
 use Rattle.trays.proofs.Rows.{or_zero, or_some, both_silent, rows_append}
 use Rattle.trays.proofs.Accepted.{row_silent}
 use Rattle.matching.specs.Occurrences.{occurrences}
@@ -23,46 +25,30 @@ use Rattle.trie_build.specs.Steps.Built.{Buildable}
 use Rattle.answers.specs.Finding.{text_rows, find_rows, find_before, list_row, find_fault}
 use Rattle.find_core.specs.Steps.Searching.{Clear}
 
-place-from : (i : ℕ) (t : List ℕ) → bad_place i t ≤ i + length t
-place-from i [] = omega arith
-place-from i (b ∷ bs) =
-    by_test (is_letter b)
-    (λ e. rw (e, bad_place) (omega (arith, place-from (suc i) bs)))
-    (λ e. rw (e, bad_place) (omega arith))
-
-pub place-most : (t : List ℕ) → bad_place 1 t ≤ 1 + length t
-place-most t = place-from 1 t
-
-module _ (s es t : List ℕ) (cells : ℕ) (f : Refusal) (e : f ≡ tray_fault s es) where
-  pub before_tray : (f.number ≡ 0 → ⊥) → f ≡ find_before s es t cells
+module _ (s es t : List ℕ) (cells : ℕ) where
+  before_is : find_before s es t cells ≡ or_else (tray_fault s es) (first_row (text_rows t ++ (work_row cells ∷ [])))
   unfolding find_before tray_fault
-  before_tray z = sym (rows_append (tray_rows s es) (text_rows t ++ (work_row cells ∷ []))
-      ∙ rw (← e) (or_some f (first_row (text_rows t ++ (work_row cells ∷ []))) (omega arith)))
+  before_is = rows_append (tray_rows s es) (text_rows t ++ (work_row cells ∷ []))
 
-  module _ (z : f.number ≡ 0) where
-    behind_tray : find_before s es t cells ≡ first_row (text_rows t ++ (work_row cells ∷ []))
-    unfolding find_before tray_fault
-    behind_tray = rows_append (tray_rows s es) (text_rows t ++ (work_row cells ∷ [])) ∙ rw (← e) (or_zero f (first_row (text_rows t ++ (work_row cells ∷ []))) z)
+  pub before_tray : (x : Fault) → told x ≡ tray_fault s es → told x ≡ find_before s es t cells
+  before_tray x e = told-first x (tray_fault s es) _ e ∙ sym before_is
 
-    pub before_long : (r : Refusal) → r ≡ refusal 12 0 → max_text < length t → r ≡ find_before s es t cells
-    before_long r e h = e ∙ sym (behind_tray ∙ rw (lt-ltb max_text (length t) h))
+  module _ (e : accepted ≡ tray_fault s es) where
+    behind_tray : find_before s es t cells ≡ or_else (first_row (text_rows t)) (or_else (work_row cells) accepted)
+    behind_tray = before_is ∙ sym (told_next (tray_fault s es) _ e) ∙ rows_append (text_rows t) (work_row cells ∷ [])
 
-    module _ (h : length t ≤ max_text) {b : ℕ} (p : b ≡ bad_place 1 t) where
-      pub place_fits : b < 4294967296
-      place_fits = omega (arith, place-most t)
+    pub before_text : (x : Fault) → told x ≡ first_row (text_rows t) → told x ≡ find_before s es t cells
+    before_text x f = told-first x (first_row (text_rows t)) _ f ∙ sym behind_tray
 
-      pub before_bad : (r : Refusal) → r ≡ refusal 13 b → (b ≡ 0 → ⊥) → r ≡ find_before s es t cells
-      before_bad r e q = e ∙ sym (behind_tray ∙ rw (le-ltb max_text (length t) h, ← p, le-leb 1 b (omega arith)))
+    module _ (f : accepted ≡ first_row (text_rows t)) where
+      behind_text : find_before s es t cells ≡ or_else (work_row cells) accepted
+      behind_text = behind_tray ∙ sym (told_next (first_row (text_rows t)) _ f)
 
-      module _ (q : b ≡ 0) where
-        behind_text : find_before s es t cells ≡ or_else (work_row cells) accepted
-        behind_text = behind_tray ∙ rw (le-ltb max_text (length t) h, ← p, q)
+      pub before_room : cells < work_need → refusal 7 0 ≡ find_before s es t cells
+      before_room l = sym (behind_text ∙ rw (lt-ltb cells work_need l))
 
-        pub before-room : (r : Refusal) → r ≡ refusal 7 0 → cells < work_need → r ≡ find_before s es t cells
-        before-room r e l = e ∙ sym (behind_text ∙ rw (lt-ltb cells work_need l))
-
-        pub before_none : (r : Refusal) → r ≡ refusal 0 0 → work_need ≤ cells → r ≡ find_before s es t cells
-        before_none r e l = e ∙ sym (behind_text ∙ rw (le-ltb cells work_need l))
+      pub before_none : work_need ≤ cells → accepted ≡ find_before s es t cells
+      before_none l = sym (behind_text ∙ rw (le-ltb cells work_need l))
 
 -- none of them turns the call back
 module _ {s es t w : List ℕ} (c : Clear s es t w) where

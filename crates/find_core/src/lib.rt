@@ -2,41 +2,32 @@
 #![tactic(auto)]
 
 ghost use Rattle.std.specs.Prelude.{◌≡◌, ◌<◌};
-ghost use Rattle.trays.specs.Faults.{refusal};
+ghost use Rattle.trays.specs.Told.{verdict, IsTray};
+ghost use Rattle.answers.specs.Told.{search_from};
 ghost use Rattle.trie_build.specs.Steps.Built.{Buildable};
 ghost use Rattle.answers.specs.Finding as F;
 ghost use Rattle.find_core.specs.Steps.Searching as T;
 
-use answers::{Found, MAX_TEXT, Search};
+use answers::{FindCounts, Found};
 use layout::{SCAN, WORK_NEED};
-use trays::{Refusal, Tray, refuse};
+use trays::{Fault, Tray};
 
-// The answer, and how many occurrences are to be stored.
-#[derive(Clone, Copy)]
-pub struct Begun {
-    pub answer: Search,
-    pub count: usize,
-}
-
-// Refusals 1 to 6, 12, 13 and 7, where this many cells are lent: all rows before place C.
-fn check_find(letters: &[u8], ends: &[u16], text: &[u8], cells: usize) -> Refusal
-    ensures { result ≡ F.find_before letters.now ends.now text.now cells }
+// Refusals 1 to 6, 12, 13 and 7, where this many cells are lent: all rows before place C. Answers the tray.
+pub fn check_find<'a>(
+    letters: &'a [u8],
+    ends: &'a [u16],
+    text: &[u8],
+    cells: usize,
+) -> Result<Tray<'a>, Fault>
+    ensures fault { verdict result ≡ F.find_before letters.now ends.now text.now cells }
+    ensures tray { IsTray letters.entry ends.entry result }
 {
-    let tray = tray_check::check_tray(letters, ends);
-    if tray.number != 0 {
-        return tray;
-    }
-    if MAX_TEXT < text.len() {
-        return refuse(12, 0);
-    }
-    let bad = tray_check::first_bad(text);
-    if bad != 0 {
-        return refuse(13, bad as u32);
-    }
+    let tray = tray_check::check_tray(letters, ends)?;
+    tray_check::check_text(text)?;
     if cells < WORK_NEED {
-        return refuse(7, 0);
+        return Err(Fault::WorkAreaTooSmall);
     }
-    refuse(0, 0)
+    Ok(tray)
 }
 
 // The automaton of all slips with the members of each node, output links and tallies. Answers how many nodes have a letter.
@@ -51,53 +42,29 @@ fn prepare(tray: Tray<'_>, work: &mut [u16]) -> usize
     nodes
 }
 
-// The answer to a call that is refused: nothing is stored.
-fn refused(number: u8, detail: u32) -> Begun
-    ensures { result ≡ T.turned_back (refusal number detail) }
-{
-    let answer = Search {
-        number,
-        detail,
-        moves: 0,
-        count: 0,
-    };
-    Begun { answer, count: 0 }
-}
-
-// Counts moves and occurrences and decides 14 before anything is stored; then a scan is kept that has read nothing.
-fn begin(tray: Tray<'_>, text: &[u8], work: &mut [u16], room: usize) -> Begun
+// Finding up to where occurrences are stored, of which the list takes `room`: moves and occurrences are counted and 14 is decided before anything is stored; then
+// a scan is kept that has read nothing.
+pub fn begin(
+    tray: Tray<'_>,
+    text: &[u8],
+    work: &mut [u16],
+    room: usize,
+) -> Result<FindCounts, Fault>
     requires { T.Clear tray.letters.now tray.ends.now text.now work.old }
-    ensures { T.CoreSays tray.entry.letters.now tray.entry.ends.now text.now work.old work.new room result }
+    ensures { T.CoreSays tray.entry.letters.now tray.entry.ends.now text.now work.old work.new room (search_from result) }
 {
     let n = tray.ends.len();
     let nodes = prepare(tray, work);
     let counts = trie_scan::count_text(tray, text, work, n, nodes);
     let found = counts.found;
     if room < found {
-        return refused(14, found as u32);
+        return Err(Fault::FoundListTooSmall(found as u32));
     }
     trie_scan::start(work, nodes);
-    let answer = Search {
-        number: 0,
-        detail: 0,
+    Ok(FindCounts {
         moves: counts.moves as u32,
         count: found as u32,
-    };
-    Begun {
-        answer,
-        count: found,
-    }
-}
-
-// Finding up to where occurrences are stored, of which the list takes `room`: for any tray, text and work area.
-pub fn find_core(letters: &[u8], ends: &[u16], text: &[u8], work: &mut [u16], room: usize) -> Begun
-    ensures { T.CoreSays letters.now ends.now text.now work.old work.new room result }
-{
-    let fault = check_find(letters, ends, text, work.len());
-    if fault.number != 0 {
-        return refused(fault.number, fault.detail);
-    }
-    begin(letters, ends, text, work, room)
+    })
 }
 
 // Occurrence `i`; the scan that the work area keeps goes past it.

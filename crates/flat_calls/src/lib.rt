@@ -3,13 +3,13 @@
 
 ghost use Rattle.answers.specs.Flat.{ComposeFlat};
 ghost use Rattle.std.specs.Prelude.{◌+◌, ◌<◌};
+ghost use Rattle.answers.specs.Told.{composed_from, search_from};
 ghost use Rattle.answers.specs.Finding as F;
 ghost use Rattle.flat_calls.specs.Steps.Occurrences as N;
 
-use answers::{Composed, JOIN_CELLS, RECORD_CELLS, Search};
+use answers::{ComposeCounts, FindCounts, JOIN_CELLS, RECORD_CELLS, Room};
 use layout::{NAMED, RECORDS};
-use tables::{number, whole};
-use trays::{Settings, Tray};
+use trays::{Fault, Settings, Tray};
 
 // Composes the side that the settings name of any tray, or refuses it. A join is three numbers (left slip, right slip, overlap), a record of places five (the
 // slip, its place, 1 if it is kept, the letters compared to find the place, and the side).
@@ -22,25 +22,18 @@ pub fn compose_flat(
     legend: &mut [u8],
     joins: &mut [u16],
     places: &mut [u16],
-) -> Composed
+) -> Result<ComposeCounts, Fault>
     ensures { ComposeFlat settings letters.now ends.now sides.now work.old work.new
-        legend.old legend.new joins.old joins.new places.old places.new result }
+        legend.old legend.new joins.old joins.new places.old places.new (composed_from result) }
 {
-    let joins_room = joins.len() / JOIN_CELLS;
-    let places_room = places.len() / RECORD_CELLS;
-    let answer = compose_side::compose_staged(
-        letters,
-        ends,
-        sides,
-        settings,
-        work,
-        legend,
-        joins_room,
-        places_room,
-    );
-    tables::copy_cells(work, NAMED, JOIN_CELLS * whole(answer.joins), joins);
-    tables::copy_cells(work, RECORDS, RECORD_CELLS * whole(answer.slips), places);
-    answer
+    let room = Room {
+        joins: joins.len() / JOIN_CELLS,
+        places: places.len() / RECORD_CELLS,
+    };
+    let counts = compose_side::compose_staged(letters, ends, sides, settings, work, legend, room)?;
+    tables::copy_cells(work, NAMED, JOIN_CELLS * counts.joins as usize, joins);
+    tables::copy_cells(work, RECORDS, RECORD_CELLS * counts.slips as usize, places);
+    Ok(counts)
 }
 
 // The first `count` occurrences, two numbers each, stored from the start of the list.
@@ -55,13 +48,11 @@ fn scan_flat(
     ensures { N.NumbersStored tray.entry.letters.now tray.entry.ends.now text.now count work.old work.new
         found.old found.new }
 {
-    let mut i: usize = 0;
-    while i < count {
+    for i in 0..count {
         let next = find_core::next_found(tray, text, work, i);
         let at = 2 * i;
         found[at] = next.end;
-        found[at + 1] = number(next.slip);
-        i += 1;
+        found[at + 1] = u32::from(next.slip);
     }
 }
 
@@ -72,12 +63,12 @@ pub fn find_flat(
     text: &[u8],
     work: &mut [u16],
     found: &mut [u32],
-) -> Search
+) -> Result<FindCounts, Fault>
     ensures { F.FindFlat letters.now ends.now text.now work.old work.new
-        found.old found.new result }
+        found.old found.new (search_from result) }
 {
     let room = found.len() / 2;
-    let a = find_core::find_core(letters, ends, text, work, room);
-    scan_flat(letters, ends, text, work, found, a.count);
-    a.answer
+    let (tray, counts) = find_core::find_core(letters, ends, text, work, room)?;
+    scan_flat(tray, text, work, found, counts.count as usize);
+    Ok(counts)
 }

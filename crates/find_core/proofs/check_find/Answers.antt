@@ -1,20 +1,20 @@
-use Rattle.find_core.proofs.Checks.{place_fits, before_tray, before_long, before_bad, before-room, before_none}
+use Rattle.std.proofs.lemmas.Result.{err_from_is_err_and}
+use Rattle.find_core.proofs.Checks.{before_tray, before_text, before_room, before_none}
 use Rattle.find_core.proofs.check_find.Goals as goal
 
-pub returns-then-tray-ne0 : goal.returns-then-tray-ne0
-returns-then-tray-ne0 c = search before_tray
+pub returns-in_err-tray-clause-fault : goal.returns-in_err-tray-clause-fault
+returns-in_err-tray-clause-fault c =
+    let p = err_from_is_err_and c.from_residual.result c.from_residual.ensures.1 in
+    rw (p.1, p.2) (before_tray _ _ _ _ _ c.in_err-tray.ensures.fault)
 
-pub returns-then-text-gt-MAX_TEXT : goal.returns-then-text-gt-MAX_TEXT
-returns-then-text-gt-MAX_TEXT c = search before_long
+pub returns-in_err-check_text-clause-fault : goal.returns-in_err-check_text-clause-fault
+returns-in_err-check_text-clause-fault c =
+    let e = c.from_residual-in_err-check_text in
+    let p = err_from_is_err_and e.result e.ensures.1 in
+    rw (p.1, p.2) (before_text _ _ _ _ c.in_ok-tray.ensures.fault _ c.in_err-check_text.ensures)
 
-pub overflow_cast-bad : goal.overflow_cast-bad
-overflow_cast-bad c = record { fits = search place_fits }
+pub returns-then-cells-lt-WORK_NEED-clause-fault : goal.returns-then-cells-lt-WORK_NEED-clause-fault
+returns-then-cells-lt-WORK_NEED-clause-fault c = search (before_room, c.in_ok-tray.ensures.fault, c.in_ok-check_text.ensures)
 
-pub returns-then-bad-ne0 : goal.returns-then-bad-ne0
-returns-then-bad-ne0 c = search before_bad
-
-pub returns-then-cells-lt-WORK_NEED : goal.returns-then-cells-lt-WORK_NEED
-returns-then-cells-lt-WORK_NEED c = search before-room
-
-pub returns : goal.returns
-returns c = search before_none
+pub returns-clause-fault : goal.returns-clause-fault
+returns-clause-fault c = search (before_none, c.in_ok-tray.ensures.fault, c.in_ok-check_text.ensures)

@@ -6,10 +6,8 @@
 --   Ready, Next              == what telling occurrence i asks, and leaves
 --   Enough .. count w        == this many occurrences can be told
 --   Left .. n w w'           == n occurrences were told: w' is as long as w, and is w where n is 0
---   turned_back f             == the answer to a call that f turns back: nothing is stored
---   CoreSays                 == finding up to where occurrences are stored: the answer, how many there are to store, and a scan before the first
+--   CoreSays                 == finding up to where occurrences are stored: the answer, as many to store as it counts, and a scan before the first
 use Rattle.std.specs.Prelude.{◌≡◌, List, ℕ, ◌+◌, ◌≤◌, ◌<◌, length, get_or}
-use Rattle.trays.specs.declared.Refusal.{Refusal}
 use Rattle.trays.specs.Slips.{slips_of, numbers}
 use Rattle.matching.specs.Occurrences as O
 use Rattle.matching.specs.Occurrences.{occurrences}
@@ -18,9 +16,9 @@ use Rattle.trie_outputs.specs.Steps.Outputs.{Told}
 use Rattle.trie_scan.specs.Steps.Scanning.{Standing, scan_in}
 use Rattle.layout.specs.Layout.{SCAN}
 use Rattle.answers.specs.declared.Found.{Found}
-use Rattle.find_core.specs.declared.Begun.{Begun}
+use Rattle.answers.specs.declared.Search.{Search}
 use Rattle.answers.specs.Finding.{find_before, Answered}
-use Rattle.answers.specs.Finding.{search_refused, found_record}
+use Rattle.answers.specs.Finding.{found_record}
 
 pub record Clear (s es t w : List ℕ) : Type 0 where
   pub silent : (find_before s es t (length w)).number ≡ 0
@@ -53,11 +51,7 @@ pub record Left (s es t : List ℕ) (n : ℕ) (w w' : List ℕ) : Type 0 where
   pub same : length w' ≡ length w
   pub none : n ≡ 0 → w' ≡ w
 
-abbrev pub turned_back : Refusal → Begun
-turned_back f = record { answer = search_refused f; count = 0 }
-
-pub record CoreSays (s es t w w' : List ℕ) (room : ℕ) (r : Begun) : Type 0 where
-  pub answered : Answered s es t w w' room r.answer
-  pub count_is : r.count ≡ r.answer.count
+pub record CoreSays (s es t w w' : List ℕ) (room : ℕ) (r : Search) : Type 0 where
+  pub answered : Answered s es t w w' room r
   pub fits : r.count ≤ room
   pub enough : Enough s es t r.count w'

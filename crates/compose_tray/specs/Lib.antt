@@ -1,2 +1,0 @@
--- compose_tray
-pub mod Steps

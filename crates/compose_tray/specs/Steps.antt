@@ -1,2 +1,0 @@
--- What only loops and their proofs need.
-pub mod Counted
