@@ -11,7 +11,7 @@ use Rattle.store_loops.proofs.Firsts.{firsts_are}
 use Rattle.matching.specs.Occurrences as O
 use Rattle.matching.specs.Occurrences.{occurrences}
 use Rattle.answers.specs.declared.Found.{Found}
-use Rattle.find_core.specs.declared.Begun.{Begun}
+use Rattle.answers.specs.declared.Search.{Search}
 use Rattle.answers.specs.Finding.{find_fault, FindSays}
 use Rattle.answers.specs.Finding.{found_record}
 use Rattle.find_core.specs.Steps.Searching.{found_at, Left, CoreSays}
@@ -23,8 +23,8 @@ records_are s es t n e =
     ap (firsts (found_at s es t)) (e ∙ sym (length-map os found_record))
     ∙ firsts_are (found_at s es t) (found_record (O.occurrence 0 0)) (map found_record os) (λ i l. sym (get_or-map found_record os i (O.occurrence 0 0)))
 
-pub find_says : {s es t w w₁ w' : List ℕ} {o o' : List Found} {r : Begun} → CoreSays s es t w w₁ (length o) r
-    → o' ≡ over (firsts (found_at s es t) r.count) o → Left s es t r.count w₁ w' → FindSays s es t w w' o o' r.answer
+pub find_says : {s es t w w₁ w' : List ℕ} {o o' : List Found} {r : Search} → CoreSays s es t w w₁ (length o) r
+    → o' ≡ over (firsts (found_at s es t) r.count) o → Left s es t r.count w₁ w' → FindSays s es t w w' o o' r
 find_says {s} {es} {t} {w} {o = o} {r = r} c e l =
     let f = find_fault s es t (length w) (length o) in
     let xs = map found_record (occurrences (slips_of s es) t) in

@@ -1,7 +1,7 @@
 -- From the staged answer to lists of numbers: nothing is copied where something was refused.
 --   joins_can, places_can == what copying asks
 --   flat_says             == what composing over slices of numbers leaves
-use mathlib.Core.Path.{◌≡◌, ◌∙◌, ap}
+use mathlib.Core.Path.{◌≡◌, refl, ◌∙◌, ap}
 use mathlib.Core.Bool.{true}
 use mathlib.Core.List.{List}
 use Prim.Native.Nat.{ℕ, zero, suc, ◌*◌, ◌/◌, ◌≤◌}
@@ -24,6 +24,11 @@ use Rattle.tables.specs.Copying.{CanCopy}
 times_least : (k n m : ℕ) → k ≤ n → k * m ≤ n * m
 times_least k n zero h = omega (arith, mul-zero k, mul-zero n)
 times_least k n (suc m) h = omega (arith, mul-suc k m, mul-suc n m, times_least k n m h)
+
+-- no cell is written over
+pub none_over : (w : List ℕ) (base : ℕ) (xs : List ℕ) → xs ≡ over (table w base 0) xs
+unfolding table
+none_over w base xs = refl
 
 module _ (g : Settings) (s es cs w w₁ l l' : List ℕ) (jr pr : ℕ) (r : Composed) (st : Staged g s es cs w w₁ l l' jr pr r) where
   pub joins_can : (m : ℕ) (j : List ℕ) → m ≡ r.joins → jr ≡ length j / join_cells → CanCopy w₁ NAMED (join_cells * m) j

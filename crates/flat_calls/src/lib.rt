@@ -37,13 +37,7 @@ pub fn compose_flat(
 }
 
 // The first `count` occurrences, two numbers each, stored from the start of the list.
-fn scan_flat(
-    tray: Tray<'_>,
-    text: &[u8],
-    work: &mut [u16],
-    found: &mut [u32],
-    count: usize,
-)
+fn scan_flat(tray: Tray<'_>, text: &[u8], work: &mut [u16], found: &mut [u32], count: usize)
     requires { N.CanFlat tray.letters.now tray.ends.now text.now count work.old found.old }
     ensures { N.NumbersStored tray.entry.letters.now tray.entry.ends.now text.now count work.old work.new
         found.old found.new }
@@ -67,8 +61,8 @@ pub fn find_flat(
     ensures { F.FindFlat letters.now ends.now text.now work.old work.new
         found.old found.new (search_from result) }
 {
-    let room = found.len() / 2;
-    let (tray, counts) = find_core::find_core(letters, ends, text, work, room)?;
+    let tray = find_core::check_find(letters, ends, text, work.len())?;
+    let counts = find_core::begin(tray, text, work, found.len() / 2)?;
     scan_flat(tray, text, work, found, counts.count as usize);
     Ok(counts)
 }

@@ -19,12 +19,9 @@ pub bounds-found-at-in-loop-i : goal.bounds-found-at-in-loop-i
 bounds-found-at-in-loop-i c =
     flat_next c.loop-i.invariant c.loop-i-test.true _
 
-pub loop-i-smaller : goal.loop-i-smaller
-loop-i-smaller c = omega arith
-
 pub loop-i-preserved : goal.loop-i-preserved
 loop-i-preserved c =
-    flat_more c.loop-i.invariant c.loop-i-test.true c.next_found-next.ensures c.number.ensures
+    flat_more c.loop-i.invariant c.loop-i-test.true c.next_found-next.ensures c.from.ensures
 
 pub returns : goal.returns
 returns c = search flat_all
