@@ -1,52 +1,22 @@
 // The shortest legend of an accepted tray with at most ten kept slips.
 #![tactic(auto)]
 
-ghost use Rattle.std.specs.Prelude.{◌≡◌};
 ghost use Rattle.trays.specs.Slips.{slips_of};
-ghost use Rattle.trays.specs.Faults.{refusal};
 ghost use Rattle.greedy.specs.Composing.{whole};
 ghost use Rattle.trie_build.specs.Steps.Built.{Buildable};
-ghost use Rattle.answers.specs.Shortest.{shortest_refused};
+ghost use Rattle.answers.specs.Told.{shortest_from};
 ghost use Rattle.shortest_core.specs.Steps.Seeking as S;
 
-use answers::Shortest;
+use answers::ShortestOrder;
 use layout::{KEPT, SEEK};
 use shortest_groups::{GROUP_CELLS, PAIR_CELLS};
-use tables::wide;
-use trays::{MAX_SHORTEST, Settings, Tray};
+use trays::{Fault, MAX_SHORTEST, Settings, Tray};
 
 // How many cells the search takes.
 const CELLS: usize = PAIR_CELLS + GROUP_CELLS;
 
 // The pieces of the most slips that are ordered, two numbers each.
 const PIECES: usize = 2 * MAX_SHORTEST;
-
-// The answer to a tray that is refused.
-pub fn refused(number: u8, detail: u32) -> Shortest
-    ensures { result ≡ shortest_refused (refusal number detail) }
-{
-    Shortest {
-        number,
-        detail,
-        legend: 0,
-        count: 0,
-        order: [0u16; MAX_SHORTEST],
-    }
-}
-
-// The answer to a tray whose `k` kept slips have this order and `need` letters in their legend.
-fn outcome(need: usize, k: usize, order: [u16; MAX_SHORTEST]) -> Shortest
-    requires { S.OutcomeAsks need k }
-    ensures { result ≡ S.outcome_by need k order }
-{
-    Shortest {
-        number: 0,
-        detail: 0,
-        legend: need as u32,
-        count: k as u32,
-        order,
-    }
-}
 
 // The first `k` cells of KEPT.
 fn kept_numbers(work: &[u16], k: usize) -> [u16; MAX_SHORTEST]
@@ -64,11 +34,9 @@ fn name_places(kept: &[u16], places: &[u16], k: usize) -> [u16; MAX_SHORTEST]
     ensures { S.Named kept.now places.now k result }
 {
     let mut order = [0u16; MAX_SHORTEST];
-    let mut i: usize = 0;
-    while i < k {
-        let place = wide(places[i]);
+    for i in 0..k {
+        let place = usize::from(places[i]);
         order[i] = kept[place];
-        i += 1;
     }
     order
 }
@@ -96,18 +64,22 @@ fn write_order(
     legend: &mut [u8],
     order: [u16; MAX_SHORTEST],
     k: usize,
-) -> Shortest
+) -> Result<ShortestOrder, Fault>
     requires { S.OrderSought settings tray.letters.now tray.ends.now order k }
-    ensures { S.Written (whole settings (slips_of tray.entry.letters.now tray.entry.ends.now)) legend.old legend.new result }
+    ensures { S.Written (whole settings (slips_of tray.entry.letters.now tray.entry.ends.now)) legend.old legend.new (shortest_from result) }
 {
     let mut pieces = [0u16; PIECES];
     let least = settings.least as usize;
     let need = legend_order::order_pieces(tray, &order, k, least, &mut pieces);
     if legend.len() < need {
-        return refused(8, need as u32);
+        return Err(Fault::LegendBufferTooSmall(need as u32));
     }
     legend_lay::lay(tray, &pieces, 0, k, legend);
-    outcome(need, k, order)
+    Ok(ShortestOrder {
+        legend: need as u32,
+        count: k as u32,
+        order,
+    })
 }
 
 // The shortest legend of an accepted tray, in a work area that is large enough; or 20, or 8.
@@ -116,25 +88,19 @@ pub fn seek(
     settings: Settings,
     work: &mut [u16],
     legend: &mut [u8],
-) -> Shortest
+) -> Result<ShortestOrder, Fault>
     requires { Buildable tray.letters.now tray.ends.now work.old }
     ensures { S.Finished (whole settings (slips_of tray.entry.letters.now tray.entry.ends.now)) work.old work.new
-        legend.old legend.new result }
+        legend.old legend.new (shortest_from result) }
 {
     let n = tray.ends.len();
     let nodes = trie_build::build(tray, work);
     let k = kept_slips::tell_kept(tray, work, n, nodes);
     if MAX_SHORTEST < k {
-        return refused(20, 0);
+        return Err(Fault::TooManyKeptSlips);
     }
     let kept = kept_numbers(work, k);
     let least = settings.least as usize;
-    let order = seek_order(
-        tray,
-        &kept,
-        k,
-        least,
-        &mut work[SEEK..SEEK + CELLS],
-    );
+    let order = seek_order(tray, &kept, k, least, &mut work[SEEK..SEEK + CELLS]);
     write_order(tray, settings, legend, order, k)
 }

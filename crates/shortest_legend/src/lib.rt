@@ -2,10 +2,11 @@
 #![tactic(auto)]
 
 ghost use Rattle.answers.specs.Shortest.{ShortestSays};
+ghost use Rattle.answers.specs.Told.{shortest_from};
 
-use answers::Shortest;
+use answers::ShortestOrder;
 use layout::WORK_NEED;
-use trays::Settings;
+use trays::{Fault, Settings};
 
 // The shortest legend of the side that the settings name of any tray, or the refusal.
 pub fn shortest_legend(
@@ -15,16 +16,13 @@ pub fn shortest_legend(
     settings: Settings,
     work: &mut [u16],
     legend: &mut [u8],
-) -> Shortest
+) -> Result<ShortestOrder, Fault>
     ensures { ShortestSays settings letters.now ends.now sides.now work.old work.new
-        legend.old legend.new result }
+        legend.old legend.new (shortest_from result) }
 {
-    let fault = tray_check::check_sided_tray(letters, ends, sides, settings.least, settings.side);
-    if fault.number != 0 {
-        return shortest_core::refused(fault.number, fault.detail);
-    }
+    let tray = tray_check::check_sided_tray(letters, ends, sides, settings.least, settings.side)?;
     if work.len() < WORK_NEED {
-        return shortest_core::refused(7, 0);
+        return Err(Fault::WorkAreaTooSmall);
     }
-    shortest_side::seek_side(letters, ends, sides, settings, work, legend)
+    shortest_side::seek_side(tray, sides, settings, work, legend)
 }

@@ -5,6 +5,3 @@ use Rattle.shortest_core.proofs.name_places.Given as goal
 
 abbrev pub invariant-loop-i : goal.invariant-loop-i
 invariant-loop-i l = Naming l.kept l.places l.k l.i l.order
-
-abbrev pub decreases-loop-i : goal.decreases-loop-i
-decreases-loop-i l = l.k - l.i

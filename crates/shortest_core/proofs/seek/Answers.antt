@@ -1,9 +1,10 @@
 use Rattle.shortest_core.proofs.SeekSteps.{many_finished, kept_can, seek_can, write_can, seek_same, seek_finished}
+use mathlib.Core.Path.{refl}
 use borrow.Author.Rules.{rules}
 use Rattle.shortest_core.proofs.seek.Goals as goal
 
 pub returns-then-k-gt-MAX_SHORTEST : goal.returns-then-k-gt-MAX_SHORTEST
-returns-then-k-gt-MAX_SHORTEST c = search many_finished
+returns-then-k-gt-MAX_SHORTEST c = many_finished _ _ _ c.requires _ _ c.build-nodes.ensures _ _ c.tell_kept-k.ensures c.args.settings _ _ (search rules) refl
 
 pub kept_numbers-kept-requires : goal.kept_numbers-kept-requires
 kept_numbers-kept-requires c = search kept_can
