@@ -4,6 +4,7 @@
 --   pair-..     == rows 21, 1 to 6, 22, 10, 10, 11; then pairs of one side, and of two
 use mathlib.Core.Path.{◌≡◌, refl, sym, ◌∙◌, ap, ap₂}
 use mathlib.Core.Bool.{Bool, true, false, ◌||◌}
+use mathlib.Core.Logic.{◌⊎◌, inl, inr}
 use mathlib.Core.List.{List, [], ◌∷◌, ◌++◌, append_assoc}
 use Prim.Native.Nat.{ℕ, zero, suc, ◌-◌, ◌^◌, ◌≤◌, ◌<◌, ◌+◌}
 use borrow.Author.Tests.{lt-ltb, le-ltb, eq-eqb, ne_eqb}
@@ -12,6 +13,9 @@ use lib.Dec.{ltb, eqb}
 use lib.ListN.{length, get_or, take, drop}
 use Rattle.words.proofs.Picks.{entry_at}
 use Rattle.trays.specs.declared.Refusal.{Refusal}
+use Rattle.trays.specs.declared.fault.Fault.{Fault}
+use Rattle.trays.specs.Told.{told}
+use Rattle.trays.proofs.Told.{told_speaks, told-first, told_next}
 use Rattle.trays.specs.declared.Pair.{Pair}
 use Rattle.trays.specs.declared.Span.{Span}
 use Rattle.trays.specs.declared.Located.{Located}
@@ -26,14 +30,12 @@ use Rattle.slips.proofs.Stretches.{part_rises, part_fits, part_is}
 use Rattle.slips.specs.Pairs.{TwoSlips, Overlap}
 use Rattle.tray_ask.specs.Steps.Sides.{TwoSides}
 
-pub request_zero : (es : List ℕ) (i : ℕ) (r : Refusal) → r ≡ refusal 10 i → i ≡ 0 → r ≡ slip_row es i
-request_zero es i r q e = q ∙ rw (eq-eqb i 0 e)
+pub request_bad : (es : List ℕ) (i : ℕ) → (i ≡ 0) ⊎ ((i ≡ 0 → ⊥) × (length es < i)) → refusal 10 i ≡ slip_row es i
+request_bad es i (inl e) = rw (eq-eqb i 0 e)
+request_bad es i (inr (z, h)) = rw (ne_eqb i 0 z, lt-ltb (length es) i h)
 
-pub request_above : (es : List ℕ) (i n : ℕ) (r : Refusal) → r ≡ refusal 10 i → (i ≡ 0 → ⊥) → n ≡ i → length es < n → r ≡ slip_row es i
-request_above es i n r q z e h = q ∙ rw (ne_eqb i 0 z, lt-ltb (length es) i (omega arith))
-
-pub request_good : (es : List ℕ) (i n : ℕ) (r : Refusal) → r ≡ refusal 0 0 → (i ≡ 0 → ⊥) → n ≡ i → n ≤ length es → r ≡ slip_row es i
-request_good es i n r q z e h = q ∙ rw (ne_eqb i 0 z, le-ltb (length es) i (omega arith))
+pub request_good : (es : List ℕ) (i : ℕ) → (i ≡ 0 → ⊥) → i ≤ length es → accepted ≡ slip_row es i
+request_good es i z h = rw (ne_eqb i 0 z, le-ltb (length es) i h)
 
 -- a row that is silent is the accepting one
 row_accepts : (es : List ℕ) (i : ℕ) → (slip_row es i).number ≡ 0 → (1 ≤ i) × (i ≤ length es) × (slip_row es i ≡ accepted)
@@ -47,15 +49,16 @@ row_then es i =
     (λ z. or_zero (slip_row es i) accepted z ∙ sym (row_accepts es i z).2)
     (λ p. or_some (slip_row es i) accepted p)
 
-module _ (s es : List ℕ) (f : Refusal) where
-  pub slip_refused : (i : ℕ) → f ≡ tray_fault s es → (f.number ≡ 0 → ⊥) → f ≡ slip_fault s es i
+module _ (s es : List ℕ) (i : ℕ) where
+  slip_is : slip_fault s es i ≡ or_else (tray_fault s es) (slip_row es i)
   unfolding tray_fault slip_fault
-  slip_refused i e z = rw (rows_append (tray_rows s es) (slip_row es i ∷ []), ← e) (sym (or_some f _ (omega arith)))
+  slip_is = rows_append (tray_rows s es) (slip_row es i ∷ []) ∙ rw (row_then es i)
 
-  pub slip_asked : (i : ℕ) (g : Refusal) → f ≡ tray_fault s es → f.number ≡ 0 → g ≡ slip_row es i → g ≡ slip_fault s es i
-  unfolding tray_fault slip_fault
-  slip_asked i g e z h =
-      rw (rows_append (tray_rows s es) (slip_row es i ∷ []), ← e, or_zero f _ z, row_then es i) h
+  pub slip_refused : (x : Fault) → told x ≡ tray_fault s es → told x ≡ slip_fault s es i
+  slip_refused x e = told-first x (tray_fault s es) (slip_row es i) e ∙ sym slip_is
+
+  pub slip_asked : accepted ≡ tray_fault s es → (g : Refusal) → g ≡ slip_row es i → g ≡ slip_fault s es i
+  slip_asked e g h = h ∙ told_next (tray_fault s es) (slip_row es i) e ∙ sym slip_is
 
 -- what an accepted request tells
 pub slip_good : (s es : List ℕ) (i : ℕ) → (slip_fault s es i).number ≡ 0 → ((tray_fault s es).number ≡ 0) × (1 ≤ i) × (i ≤ length es)
@@ -77,23 +80,35 @@ module _ (m : ℕ) (s es cs : List ℕ) (i j : ℕ) where
       ∙ rows_append (set ++ sides) rest
       ∙ ap (λ f. or_else f (first_row rest)) (rows_append set sides ∙ sym (rows_append set (sides_row es cs ∷ (side_row blank_side ∷ []))))
 
-  module _ (t : Refusal) (d : t ≡ sided_fault m blank_side s es cs) where
-    pub pair_set : (t.number ≡ 0 → ⊥) → t ≡ pair_fault m s es cs i j
-    pair_set z = rw (pair_rows, ← d) (sym (or_some t _ (omega arith)))
+  abbrev last : Refusal
+  last = or_else (pair_row i j) accepted
 
-    module _ (y : t.number ≡ 0) (f : Refusal) (e : f ≡ slip_row es i) where
-      pub pair_left : (f.number ≡ 0 → ⊥) → f ≡ pair_fault m s es cs i j
-      pair_left z = rw (pair_rows, ← d, or_zero t _ y, ← e) (sym (or_some f _ (omega arith)))
+  pub pair_set : (x : Fault) → told x ≡ sided_fault m blank_side s es cs → told x ≡ pair_fault m s es cs i j
+  pair_set x d = told-first x (sided_fault m blank_side s es cs) _ d ∙ sym pair_rows
 
-      module _ (z : f.number ≡ 0) (g : Refusal) (h : g ≡ slip_row es j) where
-        pub pair_right : (g.number ≡ 0 → ⊥) → g ≡ pair_fault m s es cs i j
-        pair_right w = rw (pair_rows, ← d, or_zero t _ y, ← e, or_zero f _ z, ← h) (sym (or_some g _ (omega arith)))
+  module _ (d : accepted ≡ sided_fault m blank_side s es cs) where
+    after_set : or_else (slip_row es i) (or_else (slip_row es j) last) ≡ pair_fault m s es cs i j
+    after_set = told_next (sided_fault m blank_side s es cs) _ d ∙ sym pair_rows
 
-        pub pair_twice : (r : Refusal) → r ≡ refusal 11 i → g.number ≡ 0 → i ≡ j → r ≡ pair_fault m s es cs i j
-        pair_twice r p w q = p ∙ rw (pair_rows, ← d, or_zero t _ y, ← e, or_zero f _ z, ← h, or_zero g _ w, eq-eqb i j q)
+    pub pair_left : (x : Fault) → told x ≡ slip_row es i → told x ≡ pair_fault m s es cs i j
+    pair_left x e = told-first x (slip_row es i) _ e ∙ after_set
 
-        pub pair_different : (r : Refusal) → r ≡ refusal 0 0 → g.number ≡ 0 → (i ≡ j → ⊥) → r ≡ pair_fault m s es cs i j
-        pair_different r p w q = p ∙ rw (pair_rows, ← d, or_zero t _ y, ← e, or_zero f _ z, ← h, or_zero g _ w, ne_eqb i j q)
+    module _ (e : accepted ≡ slip_row es i) where
+      after_left : or_else (slip_row es j) last ≡ pair_fault m s es cs i j
+      after_left = told_next (slip_row es i) _ e ∙ after_set
+
+      pub pair_right : (x : Fault) → told x ≡ slip_row es j → told x ≡ pair_fault m s es cs i j
+      pair_right x h = told-first x (slip_row es j) last h ∙ after_left
+
+      module _ (h : accepted ≡ slip_row es j) where
+        after_right : last ≡ pair_fault m s es cs i j
+        after_right = told_next (slip_row es j) last h ∙ after_left
+
+        pub pair_twice : i ≡ j → refusal 11 i ≡ pair_fault m s es cs i j
+        pair_twice q = rw (← after_right, eq-eqb i j q)
+
+        pub pair_different : (i ≡ j → ⊥) → accepted ≡ pair_fault m s es cs i j
+        pair_different q = rw (← after_right, ne_eqb i j q)
 
   pub pair_good : (pair_fault m s es cs i j).number ≡ 0 → AcceptedSides s es cs × (1 ≤ i) × (i ≤ length es) × (1 ≤ j) × (j ≤ length es)
   pair_good h =
@@ -108,39 +123,43 @@ module _ (m : ℕ) (s es cs : List ℕ) (i j : ℕ) where
 abbrev located : List ℕ → List ℕ → ℕ → ℕ → ℕ → Located
 located s es i m n = record { number = (slip_fault s es i).number; detail = (slip_fault s es i).detail; start = m; end = n }
 
-module _ (s es : List ℕ) (i : ℕ) (f : Refusal) (e : f ≡ slip_fault s es i) where
-  pub stretch_refused : (f.number ≡ 0 → ⊥) → (p : ℕ × ℕ) → Stretch s es i p [] (p.0, 0 + p.1) f.number f.detail
-  stretch_refused z p =
-      let (none, first) = nothing f.number z (ap (λ (r : Refusal). r.number) e) in
+module _ (s es : List ℕ) (i : ℕ) where
+  pub stretch_refused : (x : Fault) → told x ≡ slip_fault s es i → (p : ℕ × ℕ) → Stretch s es i p [] (p.0, 0 + p.1) (told x).number (told x).detail
+  stretch_refused x e p =
+      let (none, first) = nothing (told x).number (told_speaks x) (ap (λ (r : Refusal). r.number) e) in
       record { letters_are = none; place_is = ap (λ (n : ℕ). (p.0, n + p.1)) first; number_is = rw e; detail_is = rw e }
     where
-      nothing : (n : ℕ) → (n ≡ 0 → ⊥) → n ≡ (slip_fault s es i).number → ([] ≡ stretch_of s es i) × (0 ≡ stretch_start s es i)
-      nothing zero w h = absurd (w refl)
+      nothing : (n : ℕ) → 1 ≤ n → n ≡ (slip_fault s es i).number → ([] ≡ stretch_of s es i) × (0 ≡ stretch_start s es i)
+      nothing zero w h = absurd (omega arith)
       nothing (suc n) w h = (rw (sym h, stretch_of), rw (sym h, stretch_start))
 
-  pub place_refused : (f.number ≡ 0 → ⊥) → ◌≡◌ {A = Located} (record { number = f.number; detail = f.detail; start = 0; end = 0 }) (located_of s es i)
-  place_refused z =
-      let (a, b) = nothing f.number z (ap (λ (r : Refusal). r.number) e) in
+  pub place_refused : (x : Fault) → told x ≡ slip_fault s es i
+      → ◌≡◌ {A = Located} (record { number = (told x).number; detail = (told x).detail; start = 0; end = 0 }) (located_of s es i)
+  place_refused x e =
+      let (a, b) = nothing (told x).number (told_speaks x) (ap (λ (r : Refusal). r.number) e) in
       rw e (ap₂ (located s es i) a b)
     where
-      nothing : (n : ℕ) → (n ≡ 0 → ⊥) → n ≡ (slip_fault s es i).number → (0 ≡ stretch_start s es i) × (0 ≡ stretch_end s es i)
-      nothing zero w h = absurd (w refl)
+      nothing : (n : ℕ) → 1 ≤ n → n ≡ (slip_fault s es i).number → (0 ≡ stretch_start s es i) × (0 ≡ stretch_end s es i)
+      nothing zero w h = absurd (omega arith)
       nothing (suc n) w h = (rw (sym h, stretch_start), rw (sym h, stretch_end))
 
-  module _ (z : f.number ≡ 0) where
+  module _ (e : accepted ≡ slip_fault s es i) where
+    quiet : (slip_fault s es i).number ≡ 0
+    quiet = ap (λ (r : Refusal). r.number) (sym e)
+
     pub request_tells : ((tray_fault s es).number ≡ 0) × (1 ≤ i) × (i ≤ length es)
-    request_tells = slip_good s es i (rw e at z)
+    request_tells = slip_good s es i quiet
+
+    pub request_real : (1 ≤ i) × (i ≤ length es)
+    request_real = let t = request_tells in (t.1, t.2)
 
     -- where the slip stands
-    module _ (n : ℕ) (q : n ≡ i) (span : Span) (h : span ≡ span_of es n) where
-      at_i : span ≡ span_of es i
-      at_i = rw (← q) h
-
+    module _ (span : Span) (h : span ≡ span_of es i) where
       pub stretch_rises : span.start ≤ span.end
-      stretch_rises = let t = request_tells in part_rises s es i span at_i t.0 t.1 t.2
+      stretch_rises = let t = request_tells in part_rises s es i span h t.0 t.1 t.2
 
       pub stretch_fits : span.end ≤ length s
-      stretch_fits = let t = request_tells in part_fits s es i span at_i t.0 t.1 t.2
+      stretch_fits = let t = request_tells in part_fits s es i span h t.0 t.1 t.2
 
       pub start_small : span.start < 2 ^ 32
       start_small = let t = request_tells in omega (arith, stretch_rises, stretch_fits, (accepted_tells s es t.0).small)
@@ -149,53 +168,53 @@ module _ (s es : List ℕ) (i : ℕ) (f : Refusal) (e : f ≡ slip_fault s es i)
       end_small = let t = request_tells in omega (arith, stretch_fits, (accepted_tells s es t.0).small)
 
       start_is : span.start ≡ stretch_start s es i
-      start_is = ap (λ (x : Span). x.start) at_i ∙ rw (rw e at z, stretch_start)
+      start_is = ap (λ (x : Span). x.start) h ∙ rw (quiet, stretch_start)
 
       end_is : span.end ≡ stretch_end s es i
-      end_is = ap (λ (x : Span). x.end) at_i ∙ rw (rw e at z, stretch_end)
+      end_is = ap (λ (x : Span). x.end) h ∙ rw (quiet, stretch_end)
 
-      pub place_found : ◌≡◌ {A = Located} (record { number = f.number; detail = f.detail; start = span.start; end = span.end }) (located_of s es i)
-      place_found = rw e (ap₂ (located s es i) start_is end_is)
+      pub place_found : ◌≡◌ {A = Located} (record { number = 0; detail = 0; start = span.start; end = span.end }) (located_of s es i)
+      place_found = rw (← e) (ap₂ told_at start_is end_is)
+        where
+          told_at : ℕ → ℕ → Located
+          told_at m n = record { number = 0; detail = 0; start = m; end = n }
 
-      pub stretch_good : (p : ℕ × ℕ) →
-          Stretch s es i p (take (span.end - span.start) (drop span.start s)) (p.0, span.start + p.1) f.number f.detail
+      pub stretch_good : (p : ℕ × ℕ) → Stretch s es i p (take (span.end - span.start) (drop span.start s)) (p.0, span.start + p.1) 0 0
       stretch_good p =
           let t = request_tells in
           record {
-            letters_are = part_is s es i span at_i t.0 t.1 t.2 ∙ rw (rw e at z, stretch_of);
+            letters_are = part_is s es i span h t.0 t.1 t.2 ∙ rw (quiet, stretch_of);
             place_is = ap (λ (m : ℕ). (p.0, m + p.1)) start_is;
-            number_is = rw e;
-            detail_is = rw e;
+            number_is = sym quiet;
+            detail_is = ap (λ (r : Refusal). r.detail) e;
           }
 
-module _ (m : ℕ) (s es cs : List ℕ) (i j : ℕ) (f : Refusal) (e : f ≡ pair_fault m s es cs i j) where
-  pub pair_refused : (f.number ≡ 0 → ⊥) → ◌≡◌ {A = Pair} (record { number = f.number; detail = f.detail; letters = 0 }) (pair_of m s es cs i j)
-  pair_refused z = rw e (ap (λ (n : ℕ). paired n) (nothing f.number z (ap (λ (r : Refusal). r.number) e)))
+module _ (m : ℕ) (s es cs : List ℕ) (i j : ℕ) where
+  pub pair_refused : (x : Fault) → told x ≡ pair_fault m s es cs i j
+      → ◌≡◌ {A = Pair} (record { number = (told x).number; detail = (told x).detail; letters = 0 }) (pair_of m s es cs i j)
+  pair_refused x e = rw e (ap (λ (n : ℕ). paired n) (nothing (told x).number (told_speaks x) (ap (λ (r : Refusal). r.number) e)))
     where
       paired : ℕ → Pair
       paired n = record { number = (pair_fault m s es cs i j).number; detail = (pair_fault m s es cs i j).detail; letters = n }
 
-      nothing : (n : ℕ) → (n ≡ 0 → ⊥) → n ≡ (pair_fault m s es cs i j).number → 0 ≡ (pair_of m s es cs i j).letters
-      nothing zero w h = absurd (w refl)
+      nothing : (n : ℕ) → 1 ≤ n → n ≡ (pair_fault m s es cs i j).number → 0 ≡ (pair_of m s es cs i j).letters
+      nothing zero w h = absurd (omega arith)
       nothing (suc n) w h = rw (sym h, pair_of)
 
-  module _ (z : f.number ≡ 0) where
+  module _ (e : accepted ≡ pair_fault m s es cs i j) where
+    silent : (pair_fault m s es cs i j).number ≡ 0
+    silent = ap (λ (r : Refusal). r.number) (sym e)
+
     pair_tells : AcceptedSides s es cs × (1 ≤ i) × (i ≤ length es) × (1 ≤ j) × (j ≤ length es)
-    pair_tells = pair_good m s es cs i j (rw e at z)
+    pair_tells = pair_good m s es cs i j silent
 
-    pub pair_slips : (l r : ℕ) → l ≡ i → r ≡ j → TwoSlips s es l r
-    pair_slips l r el er =
+    pub pair_slips : TwoSlips s es i j
+    pair_slips =
         let t = pair_tells in
-        record {
-          tray = t.0.tray;
-          left-some = rw el t.1;
-          left-most = rw el t.2;
-          right_some = rw er t.3;
-          right_most = rw er t.4;
-        }
+        record { tray = t.0.tray; left-some = t.1; left-most = t.2; right_some = t.3; right_most = t.4 }
 
-    pub pair_sides : (l r : ℕ) → l ≡ i → r ≡ j → TwoSides cs l r
-    pair_sides l r el er =
+    pub pair_sides : TwoSides cs i j
+    pair_sides =
         let t = pair_tells in
         let n = (sides_tell es cs t.0.sides).0 in
         record {
@@ -205,17 +224,13 @@ module _ (m : ℕ) (s es cs : List ℕ) (i j : ℕ) (f : Refusal) (e : f ≡ pai
           right_most = omega (arith, t.4);
         }
 
-    pub pair_apart : (l r : ℕ) → l ≡ i → r ≡ j → (b : Bool) → b ≡ eqb (side_of cs l) (side_of cs r) → b ≡ false
-        → ◌≡◌ {A = Pair} (record { number = f.number; detail = f.detail; letters = 0 }) (pair_of m s es cs i j)
-    pair_apart l r el er b q n = let u : eqb (side_of cs i) (side_of cs j) ≡ false = rw (← el, ← er) (sym q ∙ n) in rw (e, rw e at z, u)
+    pub pair_apart : (b : Bool) → b ≡ eqb (side_of cs i) (side_of cs j) → b ≡ false
+        → ◌≡◌ {A = Pair} (record { number = 0; detail = 0; letters = 0 }) (pair_of m s es cs i j)
+    pair_apart b q n = let u : eqb (side_of cs i) (side_of cs j) ≡ false = sym q ∙ n in rw (← e, u)
 
-    module _ (l r o n : ℕ) (el : l ≡ i) (er : r ≡ j) (O : Overlap o s es l r n) where
-      pub pair_small : n < 2 ^ 32
-      pair_small = omega (arith, O.short)
-
-      pub pair_found : o ≡ m → (b : Bool) → b ≡ eqb (side_of cs l) (side_of cs r) → b ≡ true
-          → ◌≡◌ {A = Pair} (record { number = f.number; detail = f.detail; letters = n }) (pair_of m s es cs i j)
-      pair_found eo b q y = let u : eqb (side_of cs i) (side_of cs j) ≡ true = rw (← el, ← er) (sym q ∙ y) in rw (e, O.is, el, er, eo, rw e at z, u)
+    pub pair_found : (n : ℕ) → Overlap m s es i j n → (b : Bool) → b ≡ eqb (side_of cs i) (side_of cs j) → b ≡ true
+        → ◌≡◌ {A = Pair} (record { number = 0; detail = 0; letters = n }) (pair_of m s es cs i j)
+    pair_found n O b q y = let u : eqb (side_of cs i) (side_of cs j) ≡ true = sym q ∙ y in rw (← e, O.is, u)
 
 pub sides_same : (cs : List ℕ) (l r : ℕ) (b : Bool) → TwoSides cs l r → b ≡ eqb (get_or cs (l - 1) 0) (get_or cs (r - 1) 0)
     → b ≡ eqb (side_of cs l) (side_of cs r)

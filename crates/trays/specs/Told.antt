@@ -2,15 +2,16 @@
 --   told f      == the number of a fault in the table, and its detail, 0 where none is named
 --   verdict r   == the same of an answer: 0 and 0 where it is no refusal
 --   pair_from, located_from, written_from == the same with the letters of an overlap, the ends of a stretch, the size of a tray; 0 where it is refused
+--   HandedOut P p r == P of what r hands out: its letters, where they stand in memory, number and detail; where r is a fault, of no letters at the place p
 --   place_of o  == a place counted from 1, where o is an index; 0 for none
 --   IsTray s es r == where r is a tray, it is that of just these lent letters and ends, where they stand
-use Rattle.std.specs.Prelude.{◌≡◌, ℕ, ◌+◌, List, Option, None, Some, Result, Ok, Err}
+use Rattle.std.specs.Prelude.{◌≡◌, ℕ, ◌+◌, List, [], Option, None, Some, Result, Ok, Err}
 use Rattle.std.specs.Borrow.{Bor}
 use Rattle.trays.specs.declared.Refusal.{Refusal}
 use Rattle.trays.specs.declared.Pair.{Pair}
 use Rattle.trays.specs.declared.Located.{Located}
 use Rattle.trays.specs.declared.Written.{Written}
-use Rattle.trays.specs.declared.Stretch.{Stretch}
+use Rattle.trays.specs.declared.Location.{Location}
 use Rattle.trays.specs.declared.TraySize.{TraySize}
 use Rattle.trays.specs.declared.tray.Tray.{Tray}
 use Rattle.trays.specs.declared.fault.Fault.{Fault}
@@ -53,7 +54,7 @@ abbrev pub pair_from : Result ℕ Fault → Pair
 pair_from (Ok n) = record { number = 0; detail = 0; letters = n }
 pair_from (Err f) = record { number = (told f).number; detail = (told f).detail; letters = 0 }
 
-abbrev pub located_from : Result Stretch Fault → Located
+abbrev pub located_from : Result Location Fault → Located
 located_from (Ok x) = record { number = 0; detail = 0; start = x.start; end = x.end }
 located_from (Err f) = record { number = (told f).number; detail = (told f).detail; start = 0; end = 0 }
 
@@ -68,3 +69,7 @@ place_of (Some i) = i + 1
 abbrev pub IsTray : Bor (List ℕ) → Bor (List ℕ) → Result Tray Fault → Type 0
 IsTray s es (Ok t) = (t.letters ≡ s) × (t.ends ≡ es)
 IsTray s es (Err f) = Unit {0}
+
+abbrev pub HandedOut : (List ℕ → ℕ × ℕ → ℕ → ℕ → Type 0) → ℕ × ℕ → Result (Bor (List ℕ)) Fault → Type 0
+HandedOut P p (Ok x) = P x.now x.ref_ptr 0 0
+HandedOut P p (Err f) = P [] (p.0, 0 + p.1) (told f).number (told f).detail

@@ -81,7 +81,7 @@ pub struct Span {
 }
 // The same for callers in other languages.
 #[derive(Clone, Copy, Debug, PartialEq, Eq)]
-pub struct Stretch {
+pub struct Location {
     pub start: u32,
     pub end: u32,
 }

@@ -2,7 +2,7 @@
 ghost use Rattle.std.specs.Prelude.{◌≡◌};
 ghost use Rattle.trays.specs.Told.{verdict, located_from, pair_from, written_from};
 
-use crate::{Fault, Located, Pair, Refusal, Stretch, TraySize, Written};
+use crate::{Fault, Located, Pair, Refusal, Location, TraySize, Written};
 
 impl From<Result<(), Fault>> for Refusal {
     ghost from_gives = { λ answer r. r ≡ verdict answer };
@@ -40,16 +40,16 @@ impl From<Result<u32, Fault>> for Pair {
     }
 }
 
-impl From<Result<Stretch, Fault>> for Located {
+impl From<Result<Location, Fault>> for Located {
     ghost from_gives = { λ answer r. r ≡ located_from answer };
 
-    fn from(answer: Result<Stretch, Fault>) -> Located {
+    fn from(answer: Result<Location, Fault>) -> Located {
         match answer {
-            Ok(stretch) => Located {
+            Ok(place) => Located {
                 number: 0,
                 detail: 0,
-                start: stretch.start,
-                end: stretch.end,
+                start: place.start,
+                end: place.end,
             },
             Err(fault) => {
                 let told = Refusal::from(fault);
