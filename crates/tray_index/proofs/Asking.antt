@@ -17,7 +17,10 @@ use Rattle.trays.specs.declared.Refusal.{Refusal}
 use Rattle.trays.specs.declared.Span.{Span}
 use Rattle.trays.specs.declared.Located.{Located}
 use Rattle.trays.specs.Slips.{slips_of, slip}
-use Rattle.trays.specs.Faults.{refusal, or_else, first_row, text_rows}
+use Rattle.trays.specs.declared.fault.Fault.{Fault}
+use Rattle.trays.specs.Told.{told}
+use Rattle.trays.proofs.Told.{told_speaks, told-first, told_next}
+use Rattle.trays.specs.Faults.{refusal, accepted, or_else, first_row, text_rows}
 use Rattle.trays.specs.Sides.{sided_tray_rows, sided_tray_fault}
 use Rattle.trays.proofs.Rows.{or_zero, or_some, both_silent, rows_append}
 use Rattle.trays.proofs.Accepted.{row_silent, accepted_tells, slips_count}
@@ -36,28 +39,27 @@ module _ (s es cs x t : List ℕ) where
   unfolding begin_fault sided_tray_fault
   begin_is = rows_append (sided_tray_rows s es cs) (index_row (slips_of s es) x ∷ text_rows t)
 
-  module _ (f : Refusal) (e : f ≡ sided_tray_fault s es cs) where
-    pub begin_tray : (f.number ≡ 0 → ⊥) → f ≡ begin_fault s es cs x t
-    begin_tray z = sym (begin_is ∙ rw (← e) (or_some f (or_else (index_row (slips_of s es) x) (first_row (text_rows t))) (omega arith)))
+  pub begin_tray : (y : Fault) → told y ≡ sided_tray_fault s es cs → told y ≡ begin_fault s es cs x t
+  begin_tray y e = told-first y (sided_tray_fault s es cs) _ e ∙ sym begin_is
 
-    module _ (z : f.number ≡ 0) (own : Bool) (q : own ≡ same x (index_of (slips_of s es))) where
-      then_index : begin_fault s es cs x t ≡ or_else (index_row (slips_of s es) x) (first_row (text_rows t))
-      then_index = begin_is ∙ rw (← e) (or_zero f (or_else (index_row (slips_of s es) x) (first_row (text_rows t))) z)
+  module _ (e : accepted ≡ sided_tray_fault s es cs) (own : Bool) (q : own ≡ same x (index_of (slips_of s es))) where
+    then_index : begin_fault s es cs x t ≡ or_else (index_row (slips_of s es) x) (first_row (text_rows t))
+    then_index = begin_is ∙ sym (told_next (sided_tray_fault s es cs) _ e)
 
-      pub begin_text : own ≡ true → (r : Refusal) → r ≡ first_row (text_rows t) → r ≡ begin_fault s es cs x t
-      begin_text y r p = p ∙ sym (then_index ∙ rw (sym q ∙ y))
+    pub begin_text : own ≡ true → (r : Refusal) → r ≡ first_row (text_rows t) → r ≡ begin_fault s es cs x t
+    begin_text y r p = p ∙ sym (then_index ∙ rw (sym q ∙ y))
 
-      pub begin_other : own ≡ false → (r : Refusal) → r ≡ refusal 23 0 → r ≡ begin_fault s es cs x t
-      begin_other n r p = p ∙ sym (then_index ∙ rw (sym q ∙ n))
+    pub begin_other : own ≡ false → refusal 23 0 ≡ begin_fault s es cs x t
+    begin_other n = sym (then_index ∙ rw (sym q ∙ n))
 
   -- where no row speaks
-  pub own_index : (f : Refusal) → f ≡ begin_fault s es cs x t → f.number ≡ 0 → OwnIndex s es x
-  own_index f e z =
+  pub own_index : accepted ≡ begin_fault s es cs x t → OwnIndex s es x
+  own_index e =
       let rest = or_else (index_row (slips_of s es) x) (first_row (text_rows t)) in
-      let (tray, last) = both_silent (sided_tray_fault s es cs) rest (rw (e ∙ begin_is) at z) in
+      let (tray, last) = both_silent (sided_tray_fault s es cs) rest (ap (λ (r : Refusal). r.number) (sym (e ∙ begin_is))) in
       let (index, text) = both_silent (index_row (slips_of s es) x) (first_row (text_rows t)) last in
       record {
-        tray = tray_accepted s es cs (sided_tray_fault s es cs) refl tray;
+        tray = tray_accepted s es cs tray;
         own = same-is x (index_of (slips_of s es)) (not-false (same x (index_of (slips_of s es))) (row_silent 22 _ 0 index));
       }
 
@@ -87,27 +89,28 @@ module _ (s es x t : List ℕ) (O : OwnIndex s es x) where
       ap₂ {C = Span} (λ m n. record { start = m; end = n }) start end
 
 -- the stretch handed out
-module _ (s es cs x t : List ℕ) (f : Refusal) (e : f ≡ begin_fault s es cs x t) where
-  pub found_none : (f.number ≡ 0 → ⊥) → (p : ℕ × ℕ) → Beginning s es cs x t p [] (p.0, 0 * 2 + p.1) f.number f.detail
-  found_none z p =
-      let (none, first) = nothing f.number z (ap (λ (r : Refusal). r.number) e) in
+module _ (s es cs x t : List ℕ) where
+  pub found_none : (y : Fault) → told y ≡ begin_fault s es cs x t → (p : ℕ × ℕ) → Beginning s es cs x t p [] (p.0, 0 + p.1) (told y).number (told y).detail
+  found_none y e p =
+      let (none, first) = nothing (told y).number (told_speaks y) (ap (λ (r : Refusal). r.number) e) in
       record { found_is = none; place_is = ap (λ (n : ℕ). (p.0, n * entry_bytes + p.1)) first; number_is = rw e; detail_is = rw e }
     where
-      nothing : (n : ℕ) → (n ≡ 0 → ⊥) → n ≡ (begin_fault s es cs x t).number → ([] ≡ found_of s es cs x t) × (0 ≡ found_start s es cs x t)
-      nothing zero w h = absurd (w refl)
+      nothing : (n : ℕ) → 1 ≤ n → n ≡ (begin_fault s es cs x t).number → ([] ≡ found_of s es cs x t) × (0 ≡ found_start s es cs x t)
+      nothing zero w h = absurd (omega arith)
       nothing (suc n) w h = (rw (sym h, found_of), rw (sym h, found_start))
 
-  pub place_none : (f.number ≡ 0 → ⊥) → ◌≡◌ {A = Located} (record { number = f.number; detail = f.detail; start = 0; end = 0 }) (place_for s es cs x t)
-  place_none z = go f.number z (ap (λ (r : Refusal). r.number) e)
+  pub place_none : (y : Fault) → told y ≡ begin_fault s es cs x t
+      → ◌≡◌ {A = Located} (record { number = (told y).number; detail = (told y).detail; start = 0; end = 0 }) (place_for s es cs x t)
+  place_none y e = go (told y).number (told_speaks y) (ap (λ (r : Refusal). r.number) e)
     where
-      go : (n : ℕ) → (n ≡ 0 → ⊥) → n ≡ (begin_fault s es cs x t).number →
-          ◌≡◌ {A = Located} (record { number = f.number; detail = f.detail; start = 0; end = 0 }) (place_for s es cs x t)
-      go zero w h = absurd (w refl)
+      go : (n : ℕ) → 1 ≤ n → n ≡ (begin_fault s es cs x t).number →
+          ◌≡◌ {A = Located} (record { number = (told y).number; detail = (told y).detail; start = 0; end = 0 }) (place_for s es cs x t)
+      go zero w h = absurd (omega arith)
       go (suc n) w h = rw (e, sym h, found_start, found_of)
 
-  module _ (z : f.number ≡ 0) (span : Span) (q : span ≡ span_for (slips_of s es) t) where
+  module _ (e : accepted ≡ begin_fault s es cs x t) (span : Span) (q : span ≡ span_for (slips_of s es) t) where
     O : OwnIndex s es x
-    O = own_index s es cs x t f e z
+    O = own_index s es cs x t e
 
     start_is : span.start ≡ start_at (slips_of s es) t
     start_is = rw q
@@ -136,10 +139,10 @@ module _ (s es cs x t : List ℕ) (f : Refusal) (e : f ≡ begin_fault s es cs x
     end_small = omega (arith, found_fits, count)
 
     silent : (begin_fault s es cs x t).number ≡ 0
-    silent = rw e at z
+    silent = ap (λ (r : Refusal). r.number) (sym e)
 
     pub found_good : (p : ℕ × ℕ) →
-        Beginning s es cs x t p (take (span.end - span.start) (drop span.start x)) (p.0, span.start * 2 + p.1) f.number f.detail
+        Beginning s es cs x t p (take (span.end - span.start) (drop span.start x)) (p.0, span.start * 2 + p.1) 0 0
     found_good p =
         let ss = slips_of s es in
         let part : take (span.end - span.start) (drop span.start x) ≡ stretch_for ss t =
@@ -148,9 +151,15 @@ module _ (s es cs x t : List ℕ) (f : Refusal) (e : f ≡ begin_fault s es cs x
         record {
           found_is = part ∙ rw (silent, found_of);
           place_is = ap (λ (n : ℕ). (p.0, n * entry_bytes + p.1)) (start_is ∙ rw (silent, found_start));
-          number_is = rw e;
-          detail_is = rw e;
+          number_is = sym silent;
+          detail_is = ap (λ (r : Refusal). r.detail) e;
         }
 
-    pub place_good : ◌≡◌ {A = Located} (record { number = f.number; detail = f.detail; start = span.start; end = span.end }) (place_for s es cs x t)
-    place_good = rw (q, e, silent, found_start, found_of)
+    pub place_good : ◌≡◌ {A = Located} (record { number = 0; detail = 0; start = span.start; end = span.end }) (place_for s es cs x t)
+    place_good =
+        rw (q, silent, found_start, found_of) (ap told_detail (ap (λ (r : Refusal). r.detail) e))
+      where
+        told_detail : ℕ → Located
+        told_detail d =
+            let ss = slips_of s es in
+            record { number = 0; detail = d; start = start_at ss t; end = start_at ss t + length (stretch_for ss t) }

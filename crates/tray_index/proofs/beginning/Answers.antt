@@ -1,23 +1,23 @@
-use Rattle.tray_index.proofs.Asking.{own_index, found_none, found_rises, found_fits, start_bytes, found_good}
+use Rattle.std.proofs.lemmas.Result.{err_from_is_err_and}
+use Rattle.tray_index.proofs.Asking.{found_none, found_rises, found_fits, start_bytes, found_good}
 use Rattle.tray_index.proofs.beginning.Goals as goal
 
-pub returns-then-fault-ne0 : goal.returns-then-fault-ne0
-returns-then-fault-ne0 c = search found_none
+pub returns-in_err-span : goal.returns-in_err-span
+returns-in_err-span c =
+    let p = err_from_is_err_and c.from_residual.result c.from_residual.ensures.1 in
+    rw (p.1, p.2) (found_none _ _ _ _ _ _ c.in_err-span.ensures.fault c.args.index.ref_ptr)
 
-pub slips_starting-span-requires : goal.slips_starting-span-requires
-slips_starting-span-requires c = search own_index
+pub offset_bounds-index-span : goal.offset_bounds-index-span
+offset_bounds-index-span c = record { fits = start_bytes _ _ _ _ _ c.in_ok-span.ensures.fault _ c.in_ok-span.ensures.span }
 
-pub offset_bounds-index-start : goal.offset_bounds-index-start
-offset_bounds-index-start c = search start_bytes
+pub slice_bounds-result-count : goal.slice_bounds-result-count
+slice_bounds-result-count c = found_rises _ _ _ _ _ c.in_ok-span.ensures.fault _ c.in_ok-span.ensures.span
 
-pub slice_bounds-result-count-2 : goal.slice_bounds-result-count-2
-slice_bounds-result-count-2 c = search found_rises
+pub slice_bounds-result-start : goal.slice_bounds-result-start
+slice_bounds-result-start c = found_rises _ _ _ _ _ c.in_ok-span.ensures.fault _ c.in_ok-span.ensures.span
 
-pub slice_bounds-result-start-2 : goal.slice_bounds-result-start-2
-slice_bounds-result-start-2 c = search found_rises
-
-pub slice_bounds-result-end-2 : goal.slice_bounds-result-end-2
-slice_bounds-result-end-2 c = search found_fits
+pub slice_bounds-result-end : goal.slice_bounds-result-end
+slice_bounds-result-end c = found_fits _ _ _ _ _ c.in_ok-span.ensures.fault _ c.in_ok-span.ensures.span
 
 pub returns : goal.returns
-returns c = search found_good
+returns c = found_good _ _ _ _ _ c.in_ok-span.ensures.fault _ c.in_ok-span.ensures.span c.args.index.ref_ptr

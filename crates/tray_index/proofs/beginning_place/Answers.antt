@@ -1,17 +1,17 @@
-use Rattle.tray_index.proofs.Asking.{own_index, place_none, place_good, start_small, end_small}
+use Rattle.std.proofs.lemmas.Result.{err_from_is_err_and}
+use Rattle.tray_index.proofs.Asking.{place_none, place_good, start_small, end_small}
 use Rattle.tray_index.proofs.beginning_place.Goals as goal
 
-pub returns-then-fault-ne0 : goal.returns-then-fault-ne0
-returns-then-fault-ne0 c = search place_none
-
-pub slips_starting-span-requires : goal.slips_starting-span-requires
-slips_starting-span-requires c = search own_index
+pub returns-in_err-place : goal.returns-in_err-place
+returns-in_err-place c =
+    let p = err_from_is_err_and c.from_residual.result c.from_residual.ensures.1 in
+    rw (p.1, p.2) (place_none _ _ _ _ _ _ c.in_err-place.ensures.fault)
 
 pub overflow_cast-result : goal.overflow_cast-result
-overflow_cast-result c = search (start_small, end_small)
+overflow_cast-result c = record { fits = start_small _ _ _ _ _ c.in_ok-place.ensures.fault _ c.in_ok-place.ensures.span }
 
 pub overflow_cast-result-2 : goal.overflow_cast-result-2
-overflow_cast-result-2 c = search (start_small, end_small)
+overflow_cast-result-2 c = record { fits = end_small _ _ _ _ _ c.in_ok-place.ensures.fault _ c.in_ok-place.ensures.span }
 
 pub returns : goal.returns
-returns c = search place_good
+returns c = place_good _ _ _ _ _ c.in_ok-place.ensures.fault _ c.in_ok-place.ensures.span

@@ -5,8 +5,8 @@ use Rattle.tray_index.proofs.entry_fits.Goals as goal
 pub returns-then-here-eq0 : goal.returns-then-here-eq0
 returns-then-here-eq0 c = search fits-zero
 
-pub returns-then-ends-here : goal.returns-then-ends-here
-returns-then-ends-here c = search fits_above
+pub returns-then-tray-here : goal.returns-then-tray-here
+returns-then-tray-here c = search fits_above
 
 pub returns-then-i-eq0 : goal.returns-then-i-eq0
 returns-then-i-eq0 c = search fits-first
