@@ -3,6 +3,7 @@
 
 mod codes;
 pub mod fields;
+pub mod room;
 pub mod rows;
 pub mod sums;
 pub mod tray;

@@ -39,9 +39,3 @@ pub fn blanks(slips: usize) -> ArrayVec<u8, SLIPS> {
     sides.truncate(slips);
     sides
 }
-
-// So much of a room as a line asks for, and all of it where that is more.
-pub fn part<T>(room: &mut [T], asked: u32) -> &mut [T] {
-    let n = room.len().min(asked as usize);
-    &mut room[..n]
-}
