@@ -4,6 +4,7 @@ ghost use Rattle.std.specs.Prelude.{◌≡◌, ◌<◌, ◌≤◌, ◌-◌, leng
 use crate::codes::{Code, Codes, Entries, Run};
 use crate::tray::{Coded, SLIPS, blanks};
 use arrayvec::ArrayVec;
+use trays::BLANK_SIDE;
 
 // What is left of a line.
 #[derive(Clone, Copy)]
@@ -12,12 +13,12 @@ pub struct Fields<'a> {
 }
 
 impl<'a> Fields<'a> {
-    // The fields after the tag and the blank behind it.
-    pub fn of(line: &'a [u8]) -> Fields<'a> {
+    // The tag of a line, a blank if it is empty, and the fields behind it.
+    pub fn of(line: &'a [u8]) -> (u8, Fields<'a>) {
         let mut fields = Fields { rest: line };
+        let tag = fields.byte();
         fields.byte();
-        fields.byte();
-        fields
+        (tag, fields)
     }
 
     // The next byte, a blank after the end.
@@ -82,10 +83,13 @@ impl<'a> Fields<'a> {
         letters
     }
 
-    // The side that the next field codes, 0 if there is none.
-    pub fn side(&mut self) -> u8 {
-        let sides: ArrayVec<u8, 1> = self.text();
-        sides.as_slice().first().copied().unwrap_or(0)
+    // The side that the next field codes, 0 if there is none. A line without sides names the blank side.
+    pub fn side(&mut self, sided: bool) -> u8 {
+        if !sided {
+            return BLANK_SIDE;
+        }
+        let side: ArrayVec<u8, 1> = self.text();
+        side.as_slice().first().copied().unwrap_or(0)
     }
 
     // The sides that the next field lists, if the line lists sides.
