@@ -73,15 +73,10 @@ fn try_flat(tray: Tray, rooms: Rooms, lists: Lists) {
     let legend = part(&mut legend, rooms.legend);
     let joins = part(&mut joins, lists.joins);
     let places = part(&mut places, lists.places);
-    let Tray {
-        letters,
-        ends,
-        sides,
-    } = tray;
     let a = flat_calls::compose_flat(
-        letters,
-        ends,
-        sides,
+        tray.letters,
+        tray.ends,
+        tray.sides,
         rooms.settings,
         work,
         legend,

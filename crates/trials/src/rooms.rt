@@ -18,9 +18,11 @@ pub struct Rooms {
 impl Rooms {
     // The next fields, where this side is named.
     pub fn of(fields: &mut Fields, side: u8) -> Rooms {
-        let least = fields.number();
         Rooms {
-            settings: Settings { least, side },
+            settings: Settings {
+                least: fields.number(),
+                side,
+            },
             work: fields.number(),
             legend: fields.number(),
         }

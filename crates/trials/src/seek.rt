@@ -20,14 +20,16 @@ fn answer(a: Shortest) {
 fn try_tray(tray: Tray, rooms: Rooms) {
     let mut work = [CELL_MARK; WORK];
     let mut legend = [BYTE_MARK; LEGEND];
-    let Tray {
-        letters,
-        ends,
-        sides,
-    } = tray;
     let work = part(&mut work, rooms.work);
     let legend = part(&mut legend, rooms.legend);
-    let a = shortest_legend::shortest_legend(letters, ends, sides, rooms.settings, work, legend);
+    let a = shortest_legend::shortest_legend(
+        tray.letters,
+        tray.ends,
+        tray.sides,
+        rooms.settings,
+        work,
+        legend,
+    );
     answer(a);
     bracketed(part(legend, a.legend));
     put(sums::of(legend));

@@ -26,12 +26,8 @@ fn slip(tray: Tray, i: u32) {
 }
 
 fn pair(tray: Tray, asked: Asked) {
-    let Tray {
-        letters,
-        ends,
-        sides,
-    } = tray;
-    let found = tray_ask::pair_overlap(letters, ends, sides, asked.left, asked.right, asked.least);
+    let Asked { least, left, right } = asked;
+    let found = tray_ask::pair_overlap(tray.letters, tray.ends, tray.sides, left, right, least);
     refusal(found.number, found.detail);
     put(found.letters);
 }

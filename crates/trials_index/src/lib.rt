@@ -29,16 +29,19 @@ fn entries(list: &[u16]) {
 
 // The stretch itself. The two lent numbers hold 255 before, so that it shows if they are not written.
 fn stretch(tray: Tray, index: &[u16], typed: &[u8]) {
-    let Tray {
-        letters,
-        ends,
-        sides,
-    } = tray;
     let mut number: u8 = 255;
     let mut detail: u32 = 255;
-    let part = tray_index::beginning(letters, ends, sides, index, typed, &mut number, &mut detail);
+    let found = tray_index::beginning(
+        tray.letters,
+        tray.ends,
+        tray.sides,
+        index,
+        typed,
+        &mut number,
+        &mut detail,
+    );
     refusal(number, detail);
-    entries(part);
+    entries(found);
 }
 
 // Where the stretch starts and ends.

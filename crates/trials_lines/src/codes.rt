@@ -6,14 +6,14 @@ use crate::fields::Fields;
 
 // How many times a letter stands, or an end.
 #[derive(Clone, Copy)]
-pub enum Code {
+pub(crate) enum Code {
     Letters(u32, u8),
     Ends(u32),
 }
 
 // The codes that are left of a field: each is a count or none, and a comma, a byte in hexadecimal digits, or a sign.
 #[derive(Clone, Copy)]
-pub struct Codes<'a>(pub Fields<'a>);
+pub(crate) struct Codes<'a>(pub(crate) Fields<'a>);
 
 impl<'a> Iterator for Codes<'a> {
     type Item = Code;
@@ -37,14 +37,14 @@ impl<'a> Iterator for Codes<'a> {
 
 // So many numbers, the first as large as the step from each to the next.
 #[derive(Clone, Copy)]
-pub struct Run {
-    pub times: u32,
-    pub step: u16,
+pub(crate) struct Run {
+    pub(crate) times: u32,
+    pub(crate) step: u16,
 }
 
 // The entries that are left of a list of numbers: 3, which is 1x3, or 12x3.
 #[derive(Clone, Copy)]
-pub struct Entries<'a>(pub Fields<'a>);
+pub(crate) struct Entries<'a>(pub(crate) Fields<'a>);
 
 impl<'a> Iterator for Entries<'a> {
     type Item = Run;
@@ -58,7 +58,9 @@ impl<'a> Iterator for Entries<'a> {
         }
         let first = entries.decimal().unwrap_or(0);
         let (times, step) = if entries.byte() == b'x' {
-            (first, entries.number())
+            let step = entries.decimal().unwrap_or(0);
+            entries.byte();
+            (first, step)
         } else {
             (1, first)
         };

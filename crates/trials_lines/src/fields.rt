@@ -67,15 +67,13 @@ impl<'a> Fields<'a> {
     }
 
     // The number of the next field, 0 if there is none.
-    pub fn number(&mut self) -> u32
-        ensures { length self.new.rest.now ≤ length self.old.rest.now }
-    {
+    pub fn number(&mut self) -> u32 {
         let number = self.decimal().unwrap_or(0);
         self.byte();
         number
     }
 
-    // The bytes that the next field codes, as far as there is room.
+    // The bytes that the next field codes, as far as there is room. There is none for ends.
     pub fn text<const N: usize>(&mut self) -> ArrayVec<u8, N> {
         let mut letters = ArrayVec::new();
         let mut ends: ArrayVec<u16, 0> = ArrayVec::new();

@@ -19,6 +19,5 @@ pub fn each_read<const ROOM: usize, R: Read, F: Fn(&[u8])>(reader: &mut R, row: 
 {
     let mut buf = [0; ROOM];
     let came = input::read_all(reader, &mut buf);
-    let n = came.count;
-    each(&buf[..n], row);
+    each(&buf[..came.count], row);
 }

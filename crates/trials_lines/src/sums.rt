@@ -28,12 +28,6 @@ impl Mix for u8 {
     }
 }
 
-impl Mix for bool {
-    fn mixed(&self, sum: u32) -> u32 {
-        u32::from(*self).mixed(sum)
-    }
-}
-
 impl Mix for Join {
     fn mixed(&self, sum: u32) -> u32 {
         go_on(sum, &[self.left, self.right, self.overlap])
@@ -42,9 +36,9 @@ impl Mix for Join {
 
 impl Mix for Place {
     fn mixed(&self, sum: u32) -> u32 {
-        let at = go_on(sum, &[self.slip, self.place]);
-        let compared = self.compared.mixed(self.kept.mixed(at));
-        self.side.mixed(compared)
+        let kept = u16::from(self.kept);
+        let cells = go_on(sum, &[self.slip, self.place, kept, self.compared]);
+        self.side.mixed(cells)
     }
 }
 
