@@ -4,7 +4,7 @@ use answers::Shortest;
 use trials_lines::fields::Fields;
 use trials_lines::room::{BYTE_MARK, CELL_MARK, part};
 use trials_lines::tray::Tray;
-use trials_lines::writing::{bracketed, put, refusal};
+use trials_lines::writing::{bracketed, put, put_all, refusal};
 use trials_lines::{sums, writing};
 
 fn answer(a: Shortest) {
@@ -12,9 +12,7 @@ fn answer(a: Shortest) {
     refusal(a.number, a.detail);
     put(a.legend);
     put(a.count);
-    for slip in a.order {
-        put(u32::from(slip));
-    }
+    put_all(&a.order);
 }
 
 fn try_tray(tray: Tray, rooms: Rooms) {

@@ -1,7 +1,8 @@
 // Asking of a tray: whether it is accepted, one slip, and one pair. Sides are handed in for the pair alone.
+use crate::calls;
 use trials_lines::fields::Fields;
 use trials_lines::tray::Tray;
-use trials_lines::writing::{bracketed, put, refusal};
+use trials_lines::writing::{bracketed, put_all, refusal};
 
 // The least overlap, and the two slips of a pair, of which the left one is asked for by itself too.
 #[derive(Clone, Copy)]
@@ -16,20 +17,10 @@ fn check(tray: Tray) {
     refusal(fault.number, fault.detail);
 }
 
-// The two lent numbers hold 255 before, so that it shows if they are not written.
 fn slip(tray: Tray, i: u32) {
-    let mut number: u8 = 255;
-    let mut detail: u32 = 255;
-    let part = tray_ask::slip_letters(tray.letters, tray.ends, i, &mut number, &mut detail);
-    refusal(number, detail);
-    bracketed(part);
-}
-
-fn pair(tray: Tray, asked: Asked) {
-    let Asked { least, left, right } = asked;
-    let found = tray_ask::pair_overlap(tray.letters, tray.ends, tray.sides, left, right, least);
-    refusal(found.number, found.detail);
-    put(found.letters);
+    let (refused, letters) = calls::slip(tray, i);
+    put_all(&refused);
+    bracketed(letters);
 }
 
 fn try_tray(tray: Tray, asked: Asked) {
@@ -38,7 +29,7 @@ fn try_tray(tray: Tray, asked: Asked) {
     io::write_all(1, b";");
     slip(tray, asked.left);
     io::write_all(1, b";");
-    pair(tray, asked);
+    put_all(&calls::pair(tray, asked.left, asked.right, asked.least));
 }
 
 // The list of sides comes first, if there is one.

@@ -7,7 +7,7 @@ use trials_lines::fields::Fields;
 use trials_lines::room::{CELL_MARK, part};
 use trials_lines::sums;
 use trials_lines::tray::{LETTERS, SLIPS, Tray};
-use trials_lines::writing::{put, refusal};
+use trials_lines::writing::{put, put_all, refusal};
 
 // The index in a lent list, and the sum of the whole list.
 fn build(tray: Tray, room: u32) {
@@ -21,9 +21,7 @@ fn build(tray: Tray, room: u32) {
 // Writes the entries of a list.
 fn entries(list: &[u16]) {
     io::write_all(1, b" [");
-    for entry in list {
-        put(u32::from(*entry));
-    }
+    put_all(list);
     io::write_all(1, b"]");
 }
 

@@ -6,6 +6,12 @@ pub fn put(n: u32) {
     io::print_decimal(1, u64::from(n));
 }
 
+pub fn put_all<T: Copy + Into<u32>>(run: &[T]) {
+    for n in run {
+        put((*n).into());
+    }
+}
+
 // A refusal, 0 0 for none.
 pub fn refusal(number: u8, detail: u32) {
     put(u32::from(number));
