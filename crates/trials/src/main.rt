@@ -17,26 +17,27 @@
 // What was lent is filled with marks before a call, and its sum after it is written.
 #![tactic(auto)]
 
-ghost use Rattle.std.specs.Prelude.{◌≡◌, length};
-
-use trials_lines::table;
+use trials_lines::fields::Fields;
+use trials_lines::rows;
 
 mod compose;
 mod find;
+mod rooms;
 mod seek;
 
+// At most this many bytes are read.
+const ROOM: usize = 3407872;
+
 fn row(line: &[u8]) {
-    match table::byte_at(line, 0) {
-        b'C' => compose::row(line),
-        b'c' => compose::side_row(line),
-        b'L' => seek::row(line),
-        b'l' => seek::side_row(line),
-        b'F' => find::row(line),
-        b'A' => trials_ask::ask::row(line),
-        b'a' => trials_ask::ask::side_row(line),
-        b'T' => trials_trays::read::row(line),
-        b'M' => trials_trays::merge::row(line),
-        b'm' => trials_trays::merge::side_row(line),
+    let (tag, fields) = Fields::of(line);
+    let sided = tag.is_ascii_lowercase();
+    match tag {
+        b'C' | b'c' => compose::row(fields, sided),
+        b'L' | b'l' => seek::row(fields, sided),
+        b'F' => find::row(fields),
+        b'A' | b'a' => trials_ask::ask::row(fields, sided),
+        b'T' => trials_trays::read::row(fields),
+        b'M' | b'm' => trials_trays::merge::row(fields, sided),
         b'S' => trials_ask::ask::signs(),
         b'-' => {
             io::write_all(1, line);
@@ -48,25 +49,6 @@ fn row(line: &[u8]) {
     io::write_all(1, b"\n");
 }
 
-fn rows(s: &[u8]) {
-    let mut at: usize = 0;
-    while at < s.len() {
-        let end = table::find(s, at, b'\n');
-        row(&s[at..end]);
-        at = end + 1;
-    }
-}
-
-// Room for the input.
-fn space() -> [u8; 3407872]
-    ensures { 3407872 ≡ length result }
-{
-    [0; 3407872]
-}
-
 fn main(rt: HostRuntime) {
-    let mut buf = space();
-    let came = input::read_all(&mut rt.stdin(), &mut buf);
-    let n = came.count;
-    rows(&buf[..n]);
+    rows::each_read::<ROOM, _, _>(&mut rt.stdin(), row);
 }

@@ -2,4 +2,5 @@
 #![tactic(auto)]
 
 pub mod ask;
+mod calls;
 pub mod pairs;

@@ -8,14 +8,16 @@
 // What was lent is filled with marks before a call, and its sum after it is written.
 #![tactic(auto)]
 
-ghost use Rattle.std.specs.Prelude.{◌≡◌, length};
+use trials_lines::fields::Fields;
+use trials_lines::rows;
 
-use trials_lines::table;
+// At most this many bytes are read.
+const ROOM: usize = 262144;
 
 fn row(line: &[u8]) {
-    match table::byte_at(line, 0) {
-        b'I' => trials_index::row(line),
-        b'i' => trials_index::side_row(line),
+    let (tag, fields) = Fields::of(line);
+    match tag {
+        b'I' | b'i' => trials_index::row(fields, tag.is_ascii_lowercase()),
         b'-' => {
             io::write_all(1, line);
         }
@@ -26,25 +28,6 @@ fn row(line: &[u8]) {
     io::write_all(1, b"\n");
 }
 
-fn rows(s: &[u8]) {
-    let mut at: usize = 0;
-    while at < s.len() {
-        let end = table::find(s, at, b'\n');
-        row(&s[at..end]);
-        at = end + 1;
-    }
-}
-
-// Room for the input.
-fn space() -> [u8; 262144]
-    ensures { 262144 ≡ length result }
-{
-    [0; 262144]
-}
-
 fn main(rt: HostRuntime) {
-    let mut buf = space();
-    let came = input::read_all(&mut rt.stdin(), &mut buf);
-    let n = came.count;
-    rows(&buf[..n]);
+    rows::each_read::<ROOM, _, _>(&mut rt.stdin(), row);
 }

@@ -3,12 +3,18 @@ use crate::sums;
 
 pub fn put(n: u32) {
     io::write_all(1, b" ");
-    io::print_decimal(1, n as u64);
+    io::print_decimal(1, u64::from(n));
+}
+
+pub fn put_all<T: Copy + Into<u32>>(run: &[T]) {
+    for n in run {
+        put((*n).into());
+    }
 }
 
 // A refusal, 0 0 for none.
 pub fn refusal(number: u8, detail: u32) {
-    put(number as u32);
+    put(u32::from(number));
     put(detail);
 }
 
@@ -24,6 +30,6 @@ pub fn work(number: u8, cells: &[u16]) {
         0 | 8 | 9 | 14 | 20 => {
             io::write_all(1, b" -");
         }
-        _ => put(sums::cells(cells)),
+        _ => put(sums::of(cells)),
     }
 }
