@@ -2,15 +2,13 @@
 --   put_is     == bytes written after the first `at`
 --   put_none   == nothing written
 --   put_byte   == one byte
---   put_part   == a part `&mut out[at..]`, to which bytes are copied
 --   put_more   == what is written behind what is written
 use mathlib.Core.Path.{◌≡◌, refl, sym, ◌∙◌}
-use mathlib.Core.List.{List, [], ◌∷◌, ◌++◌, append_assoc, append-nil}
-use Prim.Native.Nat.{ℕ, ◌+◌, ◌-◌, ◌≤◌, ◌<◌}
+use mathlib.Core.List.{List, [], ◌∷◌, ◌++◌, append_assoc}
+use Prim.Native.Nat.{ℕ, ◌+◌, ◌≤◌, ◌<◌}
 use native.Mathlib.Omega.{arith}
-use borrow.Rule.Slice.PartMut.{put_mid}
-use lib.ListN.{length, take, drop, set, length-append, length-drop, take-append-drop, drop_of_length-le}
-use lib.Seq.{length-take-le, take-length, take_all, take_at, drop_at, drop-drop, drop-cons, set_split}
+use lib.ListN.{length, take, drop, set, length-append, length-drop, take-append-drop}
+use lib.Seq.{length-take-le, take_at, drop_at, drop-drop, drop-cons, set_split}
 use Rattle.sheet_columns.specs.Steps.Wrote.{written_behind, Wrote}
 
 behind-length : (at : ℕ) (ys old : List ℕ) → at + length ys ≤ length old → length (written_behind at ys old) ≡ length old
@@ -51,16 +49,3 @@ put_more {at} {m} {n} {r} {q} {xs} {ys} {a} {b} {c} p o =
       size = o.size ∙ p.size;
       next = omega arith;
     }
-
--- the part that is lent, and what comes back
-module _ (at : ℕ) (ys old part part' : List ℕ) (v : part ≡ take (length old - at) (drop at old)) (h : at + length ys ≤ length old) where
-  part_is : part ≡ drop at old
-  part_is = v ∙ take_all (length old - at) (drop at old) (rw length-drop (omega arith))
-
-  pub put_part : (n : ℕ) → part' ≡ take (length ys) ys ++ drop (length ys) part → n ≡ length ys
-      → Wrote at (length ys) ys old (put_mid at (length old - at) old part') (at + n)
-  put_part n e many =
-      let all : length (drop at old) ≤ length old - at = rw length-drop (omega arith) in
-      rw many
-      (put_is at (length ys) ys old (put_mid at (length old - at) old part')
-      (rw (e, take-length, part_is, drop_of_length-le (drop at old) {i = length old - at} all, append-nil)) refl h)

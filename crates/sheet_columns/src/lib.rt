@@ -20,10 +20,7 @@ fn digit(d: usize) -> u8
 pub fn sign(mark: usize) -> u8
     ensures { result ≡ S.sign_of mark }
 {
-    if mark == 0 {
-        return b'S';
-    }
-    b'K'
+    if mark == 0 { b'S' } else { b'K' }
 }
 
 pub fn put_byte(out: &mut [u8], at: usize, byte: u8) -> usize
@@ -38,19 +35,17 @@ pub fn put_text(out: &mut [u8], at: usize, text: &[u8]) -> usize
     requires { at + length text.now ≤ length out.old }
     ensures { W.Wrote at (length text.now) text.now out.old out.new result }
 {
-    at + tables::copy(text, &mut out[at..])
+    let next = at + text.len();
+    out[at..next].copy_from_slice(text);
+    next
 }
 
 fn put_blanks(out: &mut [u8], at: usize, n: usize) -> usize
     requires { at + n ≤ length out.old }
     ensures { W.Wrote at n (replicate n blank) out.old out.new result }
 {
-    let mut next = at;
-    let mut i: usize = 0;
-    while i < n {
-        next = put_byte(out, next, BLANK);
-        i += 1;
-    }
+    let next = at + n;
+    out[at..next].fill(BLANK);
     next
 }
 

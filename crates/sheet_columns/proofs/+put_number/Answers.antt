@@ -1,4 +1,4 @@
-use Rattle.sheet_columns.proofs.ColumnLoops.{number_small, number_more}
+use Rattle.sheet_columns.proofs.Numbers.{number_small, number_more}
 use Rattle.sheet_columns.proofs.+put_number.Goals as goal
 
 pub returns-then-n-lt10 : goal.returns-then-n-lt10
