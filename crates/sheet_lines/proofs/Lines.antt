@@ -15,7 +15,7 @@ use Rattle.sheet_rule.specs.Sheets.{column, slip_line, join_line, sign_of, find_
 use Rattle.sheet_rule.specs.Sheets.{slip_line_at, join_line_at, found_line_at, compose_lines, find_lines, place_width, count_width}
 use Rattle.sheet_rule.specs.Sheets.{detail_width, slip_size, join_size, find_size, found_size, refused_size}
 use Rattle.sheet_columns.specs.Steps.Wrote.{Wrote}
-use Rattle.sheet_lines.specs.Steps.Lines.{three_columns, Ended, Headed, SlipsFit, JoinsFit, ComposeAsks}
+use Rattle.sheet_lines.specs.Steps.Lines.{three_columns, Ended, Headed}
 use Rattle.sheet_rule.specs.Lent.{Printed}
 use Rattle.sheet_columns.proofs.Puts.{put_more}
 
@@ -45,28 +45,26 @@ module _ (at r : ℕ) (o o₁ o₂ o₃ : List ℕ) where
   three_put w a b c n₁ n₂ p q s = put_more p (put_more q s)
 
   module _ (o₄ : List ℕ) (n₁ n₂ n₃ : ℕ) where
-    pub refused_put : (number detail d : ℕ) → d ≡ detail → Wrote 0 7 (word "REFUSED") o o₁ n₁ → Wrote n₁ 4 (column 4 number) o₁ o₂ n₂ →
-        Wrote n₂ detail_width (column detail_width d) o₂ o₃ n₃ → Wrote n₃ 1 (lf ∷ []) o₃ o₄ r → Printed (refused_line (refusal number detail)) o o₄ r
-    refused_put number detail d e p q s t = rw (← e) (printed refused_size r _ o o₄ (put_more p (put_more q (put_more s t))))
+    pub refused_put : (number detail n : ℕ) → n ≡ number → Wrote 0 7 (word "REFUSED") o o₁ n₁ → Wrote n₁ 4 (column 4 n) o₁ o₂ n₂ →
+        Wrote n₂ detail_width (column detail_width detail) o₂ o₃ n₃ → Wrote n₃ 1 (lf ∷ []) o₃ o₄ r → Printed (refused_line (refusal number detail)) o o₄ r
+    refused_put number detail n e p q s t = rw (← e) (printed refused_size r _ o o₄ (put_more p (put_more q (put_more s t))))
 
     module _ (o₅ : List ℕ) (n₄ : ℕ) where
-      pub head_put : (b : ℕ) (c : Composed) (x y z u v : ℕ) → x ≡ c.slips → y ≡ c.kept → z ≡ c.letters → u ≡ c.saved → v ≡ c.legend →
-          Wrote at 4 (word "TRAY") o o₁ n₁ → Wrote n₁ 4 (column 4 x) o₁ o₂ n₂ → Wrote n₂ 4 (column 4 y) o₂ o₃ n₃ →
-          Wrote n₃ 15 (three_columns 5 z u v) o₃ o₄ n₄ → Ended b n₄ o₄ o₅ r → Headed b c at o o₅ r
-      head_put b c x y z u v ex ey ez eu ev p q s t w =
-          rw (← ex, ← ey, ← ez, ← eu, ← ev)
-          (record { wrote = simp append_assoc at (put_more p (put_more q (put_more s (put_more t w.wrote)))); most = w.most })
+      pub head_put : (b : ℕ) (c : Composed) → Wrote at 4 (word "TRAY") o o₁ n₁ → Wrote n₁ 4 (column 4 c.slips) o₁ o₂ n₂ →
+          Wrote n₂ 4 (column 4 c.kept) o₂ o₃ n₃ → Wrote n₃ 15 (three_columns 5 c.letters c.saved c.legend) o₃ o₄ n₄ → Ended b n₄ o₄ o₅ r →
+          Headed b c at o o₅ r
+      head_put b c p q s t w =
+          record { wrote = simp append_assoc at (put_more p (put_more q (put_more s (put_more t w.wrote)))); most = w.most }
 
       pub find_put : (n m k : ℕ) → Wrote at 4 (word "FIND") o o₁ n₁ → Wrote n₁ place_width (column place_width n) o₁ o₂ n₂ →
           Wrote n₂ place_width (column place_width m) o₂ o₃ n₃ → Wrote n₃ count_width (column count_width k) o₃ o₄ n₄ → Wrote n₄ 1 (lf ∷ []) o₄ o₅ r →
           Wrote at find_size (find_line n m k) o o₅ r
       find_put n m k p q s t u = put_more p (put_more q (put_more s (put_more t u)))
 
-      pub compose_put : (b : ℕ) (c : Composed) (es js ps t : List ℕ) (k m : ℕ) → k ≡ c.slips → m ≡ c.joins → Headed b c 0 o o₁ n₁ →
-          Wrote n₁ (slip_size * k) (lines (slip_line_at es ps) k) o₁ o₂ n₂ → Wrote n₂ (join_size * m) (lines (join_line_at js) m) o₂ o₃ n₃ →
+      pub compose_put : (b : ℕ) (c : Composed) (es js ps t : List ℕ) → Headed b c 0 o o₁ n₁ →
+          Wrote n₁ (slip_size * c.slips) (lines (slip_line_at es ps) c.slips) o₁ o₂ n₂ → Wrote n₂ (join_size * c.joins) (lines (join_line_at js) c.joins) o₂ o₃ n₃ →
           Wrote n₃ (length t) t o₃ o₄ n₄ → Wrote n₄ 1 (lf ∷ []) o₄ o₅ r → Printed (compose_lines b c es js ps t) o o₅ r
-      compose_put b c es js ps t k m ek em p q s u v =
-          printed _ r _ o o₅ (put_more p.wrote (put_more (rw ek at q) (put_more (rw em at s) (put_more u v))))
+      compose_put b c es js ps t p q s u v = printed _ r _ o o₅ (put_more p.wrote (put_more q (put_more s (put_more u v))))
 
       pub slip-put : (o₆ : List ℕ) (n₅ i n p k m : ℕ) → k ≡ sign_of m → Wrote at 4 (column 4 i) o o₁ n₁ → Wrote n₁ 4 (column 4 n) o₁ o₂ n₂ →
           Wrote n₂ 5 (column 5 p) o₂ o₃ n₃ → Wrote n₃ 1 (blank ∷ []) o₃ o₄ n₄ → Wrote n₄ 1 (k ∷ []) o₄ o₅ n₅ → Wrote n₅ 1 (lf ∷ []) o₅ o₆ r →
@@ -80,11 +78,3 @@ find_all r n₁ n m k o o₁ o₂ ns p q = printed _ r _ o o₂ (put_more p q)
 pub join-put : (at r n l x s : ℕ) (o o₁ o₂ : List ℕ) → Wrote at 12 (three_columns 4 l x s) o o₁ n → Wrote n 1 (lf ∷ []) o₁ o₂ r →
     Wrote at join_size (join_line l x s) o o₂ r
 join-put at r n l x s o o₁ o₂ p q = simp append_assoc at (put_more p q)
-
--- what compose_lines asks, for the counts as the code has them
-module _ (c : Composed) (es js ps t : List ℕ) (room k : ℕ) (F : ComposeAsks c es js ps t room) where
-  pub slips_whole : k ≡ c.slips → SlipsFit es ps k
-  slips_whole e = rw e F.slips
-
-  pub joins_whole : k ≡ c.joins → JoinsFit js k
-  joins_whole e = rw e F.joins

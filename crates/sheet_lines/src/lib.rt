@@ -2,7 +2,7 @@
 // Each function writes after the first `at` bytes and answers where the next byte goes.
 #![tactic(auto)]
 
-ghost use Rattle.std.specs.Prelude.{◌≡◌, ◌+◌, ◌*◌, ◌^◌, ◌≤◌, ◌<◌, length, get_or};
+ghost use Rattle.std.specs.Prelude.{◌≡◌, ◌+◌, ◌*◌, ◌^◌, ◌≤◌, ◌<◌, length};
 ghost use Rattle.trays.specs.Faults.{refusal};
 ghost use Rattle.sheet_rule.specs.Sheets as S;
 ghost use Rattle.sheet_columns.specs.Steps.Wrote as W;
@@ -11,8 +11,13 @@ ghost use Rattle.sheet_lines.specs.Steps.Lines as P;
 
 use answers::{Composed, JOIN_CELLS, RECORD_CELLS};
 use file_rule::{BLANK, LF};
-use tables::{whole, wide};
 use trays::BLANK_SIDE;
+
+// Columns of a slip's number or length, of a count of slips, and of a refusal's number.
+const SLIP_WIDTH: usize = 4;
+
+// Columns of a count of letters, and of a place in a legend.
+const SUM_WIDTH: usize = 5;
 
 // Columns of the letters, moves and end places of `find`.
 const PLACE_WIDTH: usize = 4;
@@ -22,20 +27,6 @@ const COUNT_WIDTH: usize = 6;
 
 // Columns of a refusal's detail.
 const DETAIL_WIDTH: usize = 6;
-
-fn small(xs: &[u16], i: usize) -> usize
-    requires { i < length xs.now }
-    ensures { result ≡ get_or xs.now i 0 }
-{
-    wide(xs[i])
-}
-
-fn large(xs: &[u32], i: usize) -> usize
-    requires { i < length xs.now }
-    ensures { result ≡ get_or xs.now i 0 }
-{
-    whole(xs[i])
-}
 
 // Three numbers, each in `width` columns.
 fn put_three(out: &mut [u8], at: usize, width: usize, a: usize, b: usize, c: usize) -> usize
@@ -66,12 +57,12 @@ fn tray_line(out: &mut [u8], at: usize, side: u8, c: Composed) -> usize
     ensures { P.Headed side c at out.old out.new result }
 {
     let slips = sheet_columns::put_text(out, at, b"TRAY");
-    let kept = sheet_columns::put_number(out, slips, 4, whole(c.slips));
-    let sums = sheet_columns::put_number(out, kept, 4, whole(c.kept));
-    let letters = whole(c.letters);
-    let saved = whole(c.saved);
-    let legend = whole(c.legend);
-    let end = put_three(out, sums, 5, letters, saved, legend);
+    let kept = sheet_columns::put_number(out, slips, SLIP_WIDTH, c.slips as usize);
+    let sums = sheet_columns::put_number(out, kept, SLIP_WIDTH, c.kept as usize);
+    let letters = c.letters as usize;
+    let saved = c.saved as usize;
+    let legend = c.legend as usize;
+    let end = put_three(out, sums, SUM_WIDTH, letters, saved, legend);
     put_end(out, end, side)
 }
 
@@ -86,9 +77,9 @@ fn slip_line(
     requires { (slip < 10 ^ 4) × (letters < 10 ^ 4) × (place < 10 ^ 5) × (at + S.slip_size ≤ length out.old) }
     ensures { W.Wrote at S.slip_size (S.slip_line slip letters place (S.sign_of mark)) out.old out.new result }
 {
-    let a = sheet_columns::put_number(out, at, 4, slip);
-    let b = sheet_columns::put_number(out, a, 4, letters);
-    let c = sheet_columns::put_number(out, b, 5, place);
+    let a = sheet_columns::put_number(out, at, SLIP_WIDTH, slip);
+    let b = sheet_columns::put_number(out, a, SLIP_WIDTH, letters);
+    let c = sheet_columns::put_number(out, b, SUM_WIDTH, place);
     let d = sheet_columns::put_byte(out, c, BLANK);
     let e = sheet_columns::put_byte(out, d, sheet_columns::sign(mark));
     sheet_columns::put_byte(out, e, LF)
@@ -101,15 +92,13 @@ fn slip_lines(out: &mut [u8], at: usize, ends: &[u16], records: &[u16], n: usize
         out.new result }
 {
     let mut next = at;
-    let mut i: usize = 0;
-    while i < n {
+    for i in 0..n {
         let k = RECORD_CELLS * i;
-        let slip = small(records, k);
-        let place = small(records, k + 1);
-        let mark = small(records, k + 2);
+        let slip = usize::from(records[k]);
+        let place = usize::from(records[k + 1]);
+        let mark = usize::from(records[k + 2]);
         let span = slips::slip_span(ends, slip);
         next = slip_line(out, next, slip, span.end - span.start, place, mark);
-        i += 1;
     }
     next
 }
@@ -119,7 +108,7 @@ fn join_line(out: &mut [u8], at: usize, left: usize, right: usize, shared: usize
     requires { (left < 10 ^ 4) × (right < 10 ^ 4) × (shared < 10 ^ 4) × (at + S.join_size ≤ length out.old) }
     ensures { W.Wrote at S.join_size (S.join_line left right shared) out.old out.new result }
 {
-    let last = put_three(out, at, 4, left, right, shared);
+    let last = put_three(out, at, SLIP_WIDTH, left, right, shared);
     sheet_columns::put_byte(out, last, LF)
 }
 
@@ -129,14 +118,12 @@ fn join_lines(out: &mut [u8], at: usize, joins: &[u16], n: usize) -> usize
     ensures { W.Wrote at (S.join_size * n) (S.lines (S.join_line_at joins.now) n) out.old out.new result }
 {
     let mut next = at;
-    let mut i: usize = 0;
-    while i < n {
+    for i in 0..n {
         let k = JOIN_CELLS * i;
-        let left = small(joins, k);
-        let right = small(joins, k + 1);
-        let shared = small(joins, k + 2);
+        let left = usize::from(joins[k]);
+        let right = usize::from(joins[k + 1]);
+        let shared = usize::from(joins[k + 2]);
         next = join_line(out, next, left, right, shared);
-        i += 1;
     }
     next
 }
@@ -156,8 +143,8 @@ pub fn compose_lines(
         out.old out.new result }
 {
     let slips = tray_line(out, 0, side, c);
-    let pairs = slip_lines(out, slips, ends, records, whole(c.slips));
-    let text = join_lines(out, pairs, joins, whole(c.joins));
+    let pairs = slip_lines(out, slips, ends, records, c.slips as usize);
+    let text = join_lines(out, pairs, joins, c.joins as usize);
     let last = sheet_columns::put_text(out, text, legend);
     sheet_columns::put_byte(out, last, LF)
 }
@@ -179,7 +166,7 @@ fn found_line(out: &mut [u8], at: usize, end: usize, slip: usize) -> usize
     ensures { W.Wrote at S.found_size (S.found_line end slip) out.old out.new result }
 {
     let a = sheet_columns::put_number(out, at, PLACE_WIDTH, end);
-    let b = sheet_columns::put_number(out, a, 4, slip);
+    let b = sheet_columns::put_number(out, a, SLIP_WIDTH, slip);
     sheet_columns::put_byte(out, b, LF)
 }
 
@@ -189,13 +176,9 @@ fn found_lines(out: &mut [u8], at: usize, found: &[u32], count: usize) -> usize
     ensures { W.Wrote at (S.found_size * count) (S.lines (S.found_line_at found.now) count) out.old out.new result }
 {
     let mut next = at;
-    let mut i: usize = 0;
-    while i < count {
+    for i in 0..count {
         let k = 2 * i;
-        let end = large(found, k);
-        let slip = large(found, k + 1);
-        next = found_line(out, next, end, slip);
-        i += 1;
+        next = found_line(out, next, found[k] as usize, found[k + 1] as usize);
     }
     next
 }
@@ -221,7 +204,7 @@ pub fn refused_line(number: u8, detail: u32, out: &mut [u8]) -> usize
     ensures { L.Printed (S.refused_line (refusal number detail)) out.old out.new result }
 {
     let a = sheet_columns::put_text(out, 0, b"REFUSED");
-    let b = sheet_columns::put_number(out, a, 4, number as usize);
-    let c = sheet_columns::put_number(out, b, DETAIL_WIDTH, whole(detail));
+    let b = sheet_columns::put_number(out, a, SLIP_WIDTH, usize::from(number));
+    let c = sheet_columns::put_number(out, b, DETAIL_WIDTH, detail as usize);
     sheet_columns::put_byte(out, c, LF)
 }
