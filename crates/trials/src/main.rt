@@ -66,7 +66,6 @@ fn space() -> [u8; 3407872]
 
 fn main(rt: HostRuntime) {
     let mut buf = space();
-    let came = input::read_all(&mut rt.stdin(), &mut buf);
-    let n = came.count;
+    let n = input::count_of(input::read_all(&mut rt.stdin(), &mut buf));
     rows(&buf[..n]);
 }

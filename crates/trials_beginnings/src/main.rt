@@ -44,7 +44,6 @@ fn space() -> [u8; 262144]
 
 fn main(rt: HostRuntime) {
     let mut buf = space();
-    let came = input::read_all(&mut rt.stdin(), &mut buf);
-    let n = came.count;
+    let n = input::count_of(input::read_all(&mut rt.stdin(), &mut buf));
     rows(&buf[..n]);
 }
