@@ -4,30 +4,15 @@
 ghost use Rattle.std.specs.Prelude.{◌≡◌};
 ghost use Rattle.fold_rule.specs.Folding as F;
 
-// The capital of a small letter; any other byte as it is.
-fn upper(b: u8) -> u8
-    ensures { result ≡ F.upper b }
-{
-    if b < b'a' {
-        return b;
-    }
-    if b'z' < b {
-        return b;
-    }
-    b - 32
-}
-
 // The letter that the die has for a byte: V for U, I for J.
 fn die_sign(b: u8) -> u8
     ensures { result ≡ F.die_sign b }
 {
-    if b == b'U' {
-        return b'V';
+    match b {
+        b'U' => b'V',
+        b'J' => b'I',
+        _ => b,
     }
-    if b == b'J' {
-        return b'I';
-    }
-    b
 }
 
 // The sign that a byte is filed as; 0 where it is no sign.
@@ -35,12 +20,8 @@ fn die_sign(b: u8) -> u8
 fn rule(b: u8) -> u8
     ensures { result ≡ F.fold b }
 {
-    let c = die_sign(upper(b));
-    let good = tray_check::is_letter(c);
-    if good {
-        return c;
-    }
-    0
+    let c = die_sign(b.to_ascii_uppercase());
+    if tray_check::is_letter(c) { c } else { 0 }
 }
 
 // An entry on a line of its own.
@@ -56,10 +37,8 @@ fn print_entry(sign: u8) {
 }
 
 fn print_entries() {
-    let mut i: usize = 0;
-    while i < 256 {
-        print_entry(rule(i as u8));
-        i += 1;
+    for b in 0..=u8::MAX {
+        print_entry(rule(b));
     }
 }
 
