@@ -22,6 +22,9 @@ use Rattle.sheet_columns.proofs.Puts.{put_more}
 pub printed : (n r : ℕ) (ys old new : List ℕ) → Wrote 0 n ys old new r → Printed ys old new r
 printed n r ys old new p = record { is = p.is; count = omega arith; fits = omega arith }
 
+pub shown : (ys old mid new : List ℕ) (r : ℕ) → new ≡ mid → Printed ys old mid r → Printed ys old new r
+shown ys old mid new r e p = rw e p
+
 -- the end of a header
 module _ (b at r : ℕ) (o o₁ : List ℕ) where
   pub end_blank : b ≡ blank_side → Wrote at 1 (lf ∷ []) o o₁ r → Ended b at o o₁ r

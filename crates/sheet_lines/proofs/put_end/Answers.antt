@@ -1,5 +1,12 @@
-use Rattle.sheet_lines.proofs.Lines.{end_marked}
+use Rattle.sheet_lines.proofs.Lines.{end_blank, end_marked}
 use Rattle.sheet_lines.proofs.put_end.Goals as goal
+use Rattle.sheet_lines.proofs.put_end.Goals.{then-side-ne-BLANK_SIDE, else-side-ne-BLANK_SIDE}
 
-pub returns : goal.returns
-returns c = search end_marked
+pub returns-clause-wrote : goal.returns-clause-wrote
+returns-clause-wrote c =
+    elim c.if-side-ne-BLANK_SIDE.branch [
+      | then-side-ne-BLANK_SIDE w ↦
+          end_marked _ _ _ _ _ w.if-side-ne-BLANK_SIDE.true _ _ _ _ w.byte.ensures.wrote w.byte-then-side-ne-BLANK_SIDE.ensures.wrote
+          (rw w.sheet-is at c.byte-2.ensures.wrote)
+      | else-side-ne-BLANK_SIDE w ↦ let x = rw w.sheet-is at c.byte-2.ensures.wrote in search (end_blank, x)
+    ]

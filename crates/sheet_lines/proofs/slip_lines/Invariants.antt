@@ -1,8 +1,12 @@
--- Invariant: the lines of the first i records stand in `out` from `at` up to `next`, and the rest of `out` is as it was.
+-- Invariant: the lines of the first i records are written, and the sheet is in the same buffer.
+use mathlib.Core.Path.{◌≡◌}
 use Prim.Native.Nat.{◌*◌}
 use Rattle.sheet_rule.specs.Sheets.{slip_size, lines, slip_line_at}
-use Rattle.sheet_columns.specs.Steps.Wrote.{Wrote}
+use Rattle.sheet_columns.specs.Steps.Wrote.{Writes}
 use Rattle.sheet_lines.proofs.slip_lines.Given as goal
 
 abbrev pub invariant-loop-i : goal.invariant-loop-i
-invariant-loop-i l = Wrote l.at (slip_size * l.i) (lines (slip_line_at l.ends l.records) l.i) l.initial.out l.out l.next
+invariant-loop-i l = record {
+  wrote : Writes (slip_size * l.i) (lines (slip_line_at l.ends l.records) l.i) l.initial.sheet l.sheet;
+  same_reference : l.sheet.out.ghost_name ≡ l.initial.sheet.out.ghost_name;
+}
