@@ -4,6 +4,8 @@
 ghost use Rattle.std.specs.Prelude.{◌≡◌};
 ghost use Rattle.fold_rule.specs.Folding as F;
 
+use std::io;
+
 // The letter that the die has for a byte: V for U, I for J.
 fn die_sign(b: u8) -> u8
     ensures { result ≡ F.die_sign b }
@@ -25,29 +27,24 @@ fn rule(b: u8) -> u8
 }
 
 // An entry on a line of its own.
-fn print_entry(sign: u8) {
-    if sign == 0 {
-        io::write_all(1, b"    0,\n");
-        return;
+fn print_entry(rt: &impl Print, sign: u8) -> io::Result<()> {
+    match sign {
+        0 => rt.println("    0,"),
+        _ => println!(rt; "    b'{}',", char::from(sign)),
     }
-    let quoted = [sign];
-    io::write_all(1, b"    b'");
-    io::write_all(1, &quoted);
-    io::write_all(1, b"',\n");
 }
 
-fn print_entries() {
+fn print_table(rt: &impl Print) -> io::Result<()> {
+    rt.println(
+        "// The sign that each byte of a tray file or a text file is filed as; 0 where it is no sign. Printed by `fold_table`.",
+    )?;
+    rt.println("pub const FOLD: [u8; 256] = [")?;
     for b in 0..=u8::MAX {
-        print_entry(rule(b));
+        print_entry(rt, rule(b))?;
     }
+    rt.println("];")
 }
 
-fn main() {
-    io::write_all(
-        1,
-        b"// The sign that each byte of a tray file or a text file is filed as; 0 where it is no sign. Printed by `fold_table`.\n",
-    );
-    io::write_all(1, b"pub const FOLD: [u8; 256] = [\n");
-    print_entries();
-    io::write_all(1, b"];\n");
+fn main(rt: HostRuntime) {
+    let _ = print_table(&rt);
 }
