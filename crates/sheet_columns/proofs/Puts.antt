@@ -2,14 +2,15 @@
 --   put_is     == bytes written after the first `at`
 --   put_none   == nothing written
 --   put_byte   == one byte
---   put_more   == what is written behind what is written
+--   put_more, writes_more == what is written behind what is written
 use mathlib.Core.Path.{◌≡◌, refl, sym, ◌∙◌}
 use mathlib.Core.List.{List, [], ◌∷◌, ◌++◌, append_assoc}
 use Prim.Native.Nat.{ℕ, ◌+◌, ◌≤◌, ◌<◌}
 use native.Mathlib.Omega.{arith}
 use lib.ListN.{length, take, drop, set, length-append, length-drop, take-append-drop}
 use lib.Seq.{length-take-le, take_at, drop_at, drop-drop, drop-cons, set_split}
-use Rattle.sheet_columns.specs.Steps.Wrote.{written_behind, Wrote}
+use Rattle.sheet_columns.specs.declared.Sheet.{Sheet}
+use Rattle.sheet_columns.specs.Steps.Wrote.{written_behind, Wrote, Writes}
 
 behind-length : (at : ℕ) (ys old : List ℕ) → at + length ys ≤ length old → length (written_behind at ys old) ≡ length old
 behind-length at ys old h =
@@ -49,3 +50,6 @@ put_more {at} {m} {n} {r} {q} {xs} {ys} {a} {b} {c} p o =
       size = o.size ∙ p.size;
       next = omega arith;
     }
+
+pub writes_more : {m n : ℕ} {xs ys : List ℕ} {a b c : Sheet} → Writes m xs a b → Writes n ys b c → Writes (m + n) (xs ++ ys) a c
+writes_more p o = record { wrote = put_more p.wrote o.wrote; same_buffer = o.same_buffer ∙ p.same_buffer }

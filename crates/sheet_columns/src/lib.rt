@@ -32,8 +32,7 @@ pub fn sign(mark: usize) -> u8
 impl Sheet<'_> {
     pub fn byte(&mut self, byte: u8)
         requires { Room 1 self.old }
-        ensures wrote { Writes 1 (byte ∷ []) self.old self.new }
-        ensures same_reference { self.new.out.ghost_name ≡ self.old.out.ghost_name }
+        ensures { Writes 1 (byte ∷ []) self.old self.new }
     {
         self.out[self.at] = byte;
         self.at += 1;
@@ -41,8 +40,7 @@ impl Sheet<'_> {
 
     pub fn text(&mut self, text: &[u8])
         requires { Room (length text.now) self.old }
-        ensures wrote { Writes (length text.now) text.now self.old self.new }
-        ensures same_reference { self.new.out.ghost_name ≡ self.old.out.ghost_name }
+        ensures { Writes (length text.now) text.now self.old self.new }
     {
         let next = self.at + text.len();
         self.out[self.at..next].copy_from_slice(text);
@@ -51,8 +49,7 @@ impl Sheet<'_> {
 
     fn blanks(&mut self, n: usize)
         requires { Room n self.old }
-        ensures wrote { Writes n (replicate n blank) self.old self.new }
-        ensures same_reference { self.new.out.ghost_name ≡ self.old.out.ghost_name }
+        ensures { Writes n (replicate n blank) self.old self.new }
     {
         let next = self.at + n;
         self.out[self.at..next].fill(BLANK);
@@ -62,8 +59,7 @@ impl Sheet<'_> {
     // Writes `n` right-justified in `width` columns: a number of one digit after blanks, another one after its tenth.
     pub fn number(&mut self, width: usize, n: usize)
         requires { (1 ≤ width) × (n < 10 ^ width) × Room width self.old }
-        ensures wrote { Writes width (S.column width n) self.old self.new }
-        ensures same_reference { self.new.out.ghost_name ≡ self.old.out.ghost_name }
+        ensures { Writes width (S.column width n) self.old self.new }
     {
         if n < 10 {
             self.blanks(width - 1);

@@ -31,8 +31,7 @@ const DETAIL_WIDTH: usize = 6;
 // Three numbers, each in `width` columns.
 fn put_three(sheet: &mut Sheet, width: usize, a: usize, b: usize, c: usize)
     requires { (1 ≤ width) × (a < 10 ^ width) × (b < 10 ^ width) × (c < 10 ^ width) × Room (width + (width + width)) sheet.old }
-    ensures wrote { Writes (width + (width + width)) (P.three_columns width a b c) sheet.old sheet.new }
-    ensures same_reference { sheet.new.out.ghost_name ≡ sheet.old.out.ghost_name }
+    ensures { Writes (width + (width + width)) (P.three_columns width a b c) sheet.old sheet.new }
 {
     sheet.number(width, a);
     sheet.number(width, b);
@@ -42,8 +41,7 @@ fn put_three(sheet: &mut Sheet, width: usize, a: usize, b: usize, c: usize)
 // The end of a header: for O and R a blank and the letter, then LF.
 fn put_end(sheet: &mut Sheet, side: u8)
     requires { Room P.end_room sheet.old }
-    ensures wrote { P.Ended side sheet.old.at sheet.old.out.now sheet.new.out.now sheet.new.at }
-    ensures same_reference { sheet.new.out.ghost_name ≡ sheet.old.out.ghost_name }
+    ensures { P.Ended side sheet.old sheet.new }
 {
     if side != BLANK_SIDE {
         sheet.byte(BLANK);
@@ -55,8 +53,7 @@ fn put_end(sheet: &mut Sheet, side: u8)
 // The header of a side's sheet.
 fn tray_line(sheet: &mut Sheet, side: u8, c: Composed)
     requires { P.HeaderFits c × Room S.side_size sheet.old }
-    ensures wrote { P.Headed side c sheet.old.at sheet.old.out.now sheet.new.out.now sheet.new.at }
-    ensures same_reference { sheet.new.out.ghost_name ≡ sheet.old.out.ghost_name }
+    ensures { P.Headed side c sheet.old sheet.new }
 {
     let letters = c.letters as usize;
     let saved = c.saved as usize;
@@ -70,8 +67,7 @@ fn tray_line(sheet: &mut Sheet, side: u8, c: Composed)
 
 fn slip_line(sheet: &mut Sheet, slip: usize, letters: usize, place: usize, mark: usize)
     requires { (slip < 10 ^ 4) × (letters < 10 ^ 4) × (place < 10 ^ 5) × Room S.slip_size sheet.old }
-    ensures wrote { Writes S.slip_size (S.slip_line slip letters place (S.sign_of mark)) sheet.old sheet.new }
-    ensures same_reference { sheet.new.out.ghost_name ≡ sheet.old.out.ghost_name }
+    ensures { Writes S.slip_size (S.slip_line slip letters place (S.sign_of mark)) sheet.old sheet.new }
 {
     sheet.number(SLIP_WIDTH, slip);
     sheet.number(SLIP_WIDTH, letters);
@@ -84,8 +80,7 @@ fn slip_line(sheet: &mut Sheet, slip: usize, letters: usize, place: usize, mark:
 // A line for each of `n` records of places, from `RECORD_CELLS` numbers a record: slip, place, 1 if it is kept. The ends tell how long a slip is.
 fn slip_lines(sheet: &mut Sheet, ends: &[u16], records: &[u16], n: usize)
     requires { P.SlipsFit ends.now records.now n × Room (S.slip_size * n) sheet.old }
-    ensures wrote { Writes (S.slip_size * n) (S.lines (S.slip_line_at ends.now records.now) n) sheet.old sheet.new }
-    ensures same_reference { sheet.new.out.ghost_name ≡ sheet.old.out.ghost_name }
+    ensures { Writes (S.slip_size * n) (S.lines (S.slip_line_at ends.now records.now) n) sheet.old sheet.new }
 {
     for i in 0..n {
         let k = RECORD_CELLS * i;
@@ -100,8 +95,7 @@ fn slip_lines(sheet: &mut Sheet, ends: &[u16], records: &[u16], n: usize)
 // The line of a join: three numbers in 4 columns each.
 fn join_line(sheet: &mut Sheet, left: usize, right: usize, shared: usize)
     requires { (left < 10 ^ 4) × (right < 10 ^ 4) × (shared < 10 ^ 4) × Room S.join_size sheet.old }
-    ensures wrote { Writes S.join_size (S.join_line left right shared) sheet.old sheet.new }
-    ensures same_reference { sheet.new.out.ghost_name ≡ sheet.old.out.ghost_name }
+    ensures { Writes S.join_size (S.join_line left right shared) sheet.old sheet.new }
 {
     put_three(sheet, SLIP_WIDTH, left, right, shared);
     sheet.byte(LF);
@@ -110,8 +104,7 @@ fn join_line(sheet: &mut Sheet, left: usize, right: usize, shared: usize)
 // A line for each of `n` joins, from `JOIN_CELLS` numbers a join: left slip, right slip, overlap.
 fn join_lines(sheet: &mut Sheet, joins: &[u16], n: usize)
     requires { P.JoinsFit joins.now n × Room (S.join_size * n) sheet.old }
-    ensures wrote { Writes (S.join_size * n) (S.lines (S.join_line_at joins.now) n) sheet.old sheet.new }
-    ensures same_reference { sheet.new.out.ghost_name ≡ sheet.old.out.ghost_name }
+    ensures { Writes (S.join_size * n) (S.lines (S.join_line_at joins.now) n) sheet.old sheet.new }
 {
     for i in 0..n {
         let k = JOIN_CELLS * i;
@@ -148,8 +141,7 @@ pub fn compose_lines(
 // The header of a `find` sheet.
 fn find_line(sheet: &mut Sheet, letters: usize, moves: usize, count: usize)
     requires { (letters < 10 ^ S.place_width) × (moves < 10 ^ S.place_width) × (count < 10 ^ S.count_width) × Room S.find_size sheet.old }
-    ensures wrote { Writes S.find_size (S.find_line letters moves count) sheet.old sheet.new }
-    ensures same_reference { sheet.new.out.ghost_name ≡ sheet.old.out.ghost_name }
+    ensures { Writes S.find_size (S.find_line letters moves count) sheet.old sheet.new }
 {
     sheet.text(b"FIND");
     sheet.number(PLACE_WIDTH, letters);
@@ -160,8 +152,7 @@ fn find_line(sheet: &mut Sheet, letters: usize, moves: usize, count: usize)
 
 fn found_line(sheet: &mut Sheet, end: usize, slip: usize)
     requires { (end < 10 ^ S.place_width) × (slip < 10 ^ 4) × Room S.found_size sheet.old }
-    ensures wrote { Writes S.found_size (S.found_line end slip) sheet.old sheet.new }
-    ensures same_reference { sheet.new.out.ghost_name ≡ sheet.old.out.ghost_name }
+    ensures { Writes S.found_size (S.found_line end slip) sheet.old sheet.new }
 {
     sheet.number(PLACE_WIDTH, end);
     sheet.number(SLIP_WIDTH, slip);
@@ -171,8 +162,7 @@ fn found_line(sheet: &mut Sheet, end: usize, slip: usize)
 // A line for each of `count` occurrences, from two numbers an occurrence: end place, slip.
 fn found_lines(sheet: &mut Sheet, found: &[u32], count: usize)
     requires { P.FoundFit found.now count × Room (S.found_size * count) sheet.old }
-    ensures wrote { Writes (S.found_size * count) (S.lines (S.found_line_at found.now) count) sheet.old sheet.new }
-    ensures same_reference { sheet.new.out.ghost_name ≡ sheet.old.out.ghost_name }
+    ensures { Writes (S.found_size * count) (S.lines (S.found_line_at found.now) count) sheet.old sheet.new }
 {
     for i in 0..count {
         let k = 2 * i;

@@ -1,5 +1,5 @@
 use Rattle.sheet_lines.proofs.Lines.{join-put}
 use Rattle.sheet_lines.proofs.join_line.Goals as goal
 
-pub returns-clause-wrote : goal.returns-clause-wrote
-returns-clause-wrote c = search join-put
+pub returns : goal.returns
+returns c = search join-put

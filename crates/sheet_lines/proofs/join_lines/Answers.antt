@@ -1,6 +1,5 @@
-use Rattle.std.proofs.Common.{rules}
 use Rattle.sheet_lines.proofs.LineLoops.{join_turn}
 use Rattle.sheet_lines.proofs.join_lines.Goals as goal
 
 pub loop-i-preserved : goal.loop-i-preserved
-loop-i-preserved c = record { wrote = search join_turn; same_reference = search rules }
+loop-i-preserved c = search join_turn

@@ -1,5 +1,5 @@
 use Rattle.sheet_lines.proofs.Lines.{head_put}
 use Rattle.sheet_lines.proofs.tray_line.Goals as goal
 
-pub returns-clause-wrote : goal.returns-clause-wrote
-returns-clause-wrote c = search head_put
+pub returns : goal.returns
+returns c = search head_put
