@@ -4,8 +4,6 @@
 use file_rule::{ENDS_NEED, MAX_FILE};
 use layout::WORK_NEED;
 use sheet_rule::COMPOSE_ROOM;
-use std::env::FillError;
-use std::rt::Env;
 use trays::MAX_LETTERS;
 
 // Writes the sheets of a file. There are as many sides as ends.
@@ -25,8 +23,7 @@ fn print_sheet<R: Print + Eprint>(rt: &R, file: &[u8]) {
         &mut legend,
         &mut out,
     );
-    let written = rt.write_all(&out[..n]);
-    if written.is_err() {
+    if rt.write_all(&out[..n]).is_err() {
         let _ = rt.eprintln("compose: the sheet could not be written");
     }
 }
@@ -34,25 +31,16 @@ fn print_sheet<R: Print + Eprint>(rt: &R, file: &[u8]) {
 // One byte more than a tray file may have is read, so that a longer one is seen.
 fn print_input(rt: &HostRuntime) {
     let mut file = [0u8; MAX_FILE + 1];
-    let came = input::read_all(&mut rt.stdin(), &mut file);
-    if came.failed {
-        let _ = rt.println("NO FILE");
-        return;
-    }
-    let n = came.count;
-    print_sheet(rt, &file[..n]);
-}
-
-// Whether an argument was given. The program's own name is argument 0.
-fn has_argument(rt: &impl Env) -> bool {
-    match rt.arg(1, &mut [0u8; 1]) {
-        Err(FillError::NotPresent) => false,
-        _ => true,
+    match input::read_all(&mut rt.stdin(), &mut file) {
+        Ok(n) => print_sheet(rt, &file[..n]),
+        Err(_) => {
+            let _ = rt.println("NO FILE");
+        }
     }
 }
 
 fn main(rt: HostRuntime) {
-    if has_argument(&rt) {
+    if input::has_argument(&rt) {
         let _ = rt.eprintln("compose takes no argument; run it as: compose < TRAY-FILE");
         return;
     }

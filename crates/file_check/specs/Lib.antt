@@ -1,3 +1,2 @@
--- What the reader promises; and steps, which only proofs need.
+-- What the reader promises.
 pub mod Readers
-pub mod Steps

@@ -1,70 +1,60 @@
--- Numbers in columns, turn by turn: what each loop keeps is the definition at what is left of the columns.
---   number-..  == the digits, from the left on; v < 10 ^ i after i of them
---   field-..   == the blanks before them
-use mathlib.Core.Path.{◌≡◌, ◌∙◌}
-use mathlib.Core.List.{List, ◌∷◌}
-use Prim.Native.Nat.{ℕ, suc, ◌+◌, ◌-◌, ◌*◌, ◌^◌, ◌≤◌, ◌<◌}
-use mir.Syntax.{w64}
-use mir.Val.{Fits}
-use borrow.Author.Tests.{le-leb, lt-leb, eq-eqb, ne_eqb}
-use native.Mathlib.Nat.{pow-suc, pow-le-pow_right}
-use native.Mathlib.Numerals.{add-one}
+-- The number in columns: behind the blanks before it, it is the number of what is left.
+--   skip     == the blanks do not count
+--   field-.. == the columns hold no digit, or digits from the place i on
+use mathlib.Core.Path.{◌≡◌, refl, sym}
+use mathlib.Core.List.{List, [], ◌∷◌}
+use Prim.Native.Nat.{ℕ, suc, ◌-◌, ◌≤◌, ◌<◌}
+use borrow.Author.Tests.{lt-leb, eq-eqb, ne_eqb, eqb-true}
+use native.Mathlib.Numerals.{one-add}
 use native.Mathlib.Omega.{arith}
+use Rattle.std.specs.Prelude.{Some, None, true, false, not, ◌&&◌, position}
+use Rattle.std.specs.List.{position_or_len}
+use Rattle.std.proofs.lemmas.List.Quantifiers.{position-Some}
+use Rattle.words.proofs.Tests.{by_test, not_both}
+use Rattle.file_line.proofs.Places.{place_of, place_none}
 use lib.ListN.{length, get_or, take, drop, length-drop, drop_of_length-le}
 use lib.Seq.{drop-cons, take_all}
+use lib.Dec.{eqb, leb}
 use Rattle.file_rule.specs.Lines.{blank, number, field}
 
-module _ (ds : List ℕ) (v i : ℕ) (h : i < length ds) (k : number 0 ds ≡ number v (drop i ds)) where
-  pub number_low : get_or ds i 0 < 48 → 0 ≡ number 0 ds
-  number_low l = rw (k, drop-cons ds i 0, lt-leb 48 _ l, number)
+-- the place of the first column that is not blank, or how many columns there are
+abbrev at_typed : List ℕ → ℕ
+at_typed cs = position_or_len (λ c. not (eqb c blank)) cs
 
-  module _ (l : 48 ≤ get_or ds i 0) where
-    pub number_high : 57 < get_or ds i 0 → 0 ≡ number 0 ds
-    number_high m = rw (k, drop-cons ds i 0, le-leb 48 _ l, lt-leb _ 57 m, number)
+skip : (cs : List ℕ) → field cs ≡ field (drop (at_typed cs) cs)
+skip [] = refl
+skip (c ∷ cs) = by_test (eqb c blank) (λ e. rw (e, field, one-add) (skip cs)) (λ e. rw e)
 
-    pub number_more : (w : ℕ) → get_or ds i 0 ≤ 57 → w ≡ get_or ds i 0 - 48 → number 0 ds ≡ number (10 * v + w) (drop (i + 1) ds)
-    number_more w m e = rw (add-one i, e) (k ∙ rw (drop-cons ds i 0, le-leb 48 _ l, le-leb _ 57 m, number))
+pub field_none : (cs : List ℕ) → None ≡ position (λ c. not (eqb c blank)) cs → 0 ≡ field cs
+field_none cs e = rw (skip cs, drop_of_length-le cs (place_none (λ c. not (eqb c blank)) cs e))
 
-pub number_all : (ds : List ℕ) (v i : ℕ) → length ds ≤ i → number 0 ds ≡ number v (drop i ds) → v + 1 ≡ number 0 ds
-number_all ds v i h k = rw (k, drop_of_length-le ds h, add-one)
+module _ (cs : List ℕ) (i : ℕ) (e : Some i ≡ position (λ c. not (eqb c blank)) cs) where
+  there : (i ≡ at_typed cs) × (i < length cs)
+  there = place_of (λ c. not (eqb c blank)) cs i e
 
-pub number_grows : (v i d w : ℕ) → v < 10 ^ i → d ≤ 57 → w ≡ d - 48 → 10 * v + w < 10 ^ (i + 1)
-number_grows v i d w h l e = rw (add-one i, pow-suc 10 i) (omega arith)
+  typed : get_or cs i 0 ≡ blank → ⊥
+  typed z =
+      let h = position-Some (λ c. not (eqb c blank)) cs i 0 (sym e) in
+      let b : not (eqb (get_or cs i 0) blank) ≡ false = rw (eq-eqb _ _ z) refl in
+      not_both _ h.1 b
 
--- four digits fit
-module _ (ds : List ℕ) (v i : ℕ) (h : v < 10 ^ i) (m : length ds ≤ 4) where
-  small : i ≤ length ds → v < 10000
-  small l =
-      let q : i ≤ 4 = omega arith in
-      let p : 10 ^ i ≤ 10 ^ 4 = pow-le-pow_right (omega arith) q in
-      omega arith
+  from : field cs ≡ field (drop i cs)
+  from = rw there.0 (skip cs)
 
-  pub number-times : i < length ds → Fits w64 (10 * v)
-  number-times l = record { fits = omega (arith, small (omega arith)) }
+  -- the columns from i on
+  abbrev rest : List ℕ
+  rest = take (length cs - i) (drop i cs)
 
-  pub number_plus : (w : ℕ) → i < length ds → get_or ds i 0 ≤ 57 → w ≡ get_or ds i 0 - 48 → Fits w64 (10 * v + w)
-  number_plus w l d e = record { fits = omega (arith, small (omega arith)) }
+  rest_is : rest ≡ get_or cs i 0 ∷ drop (suc i) cs
+  rest_is = let h : i < length cs = there.1 in rw (take_all (length cs - i) (drop i cs) (rw length-drop (omega arith))) (drop-cons cs i 0 h)
 
-  pub number_fits : i ≤ length ds → Fits w64 (v + 1)
-  number_fits l = record { fits = omega (arith, small l) }
+  field_is :
+      field cs ≡ elim (eqb (get_or cs i 0) 48 && leb 1 (length (drop (suc i) cs))) [ true ↦ 0 | false ↦ number 0 (get_or cs i 0 ∷ drop (suc i) cs) ]
+  field_is = let h : i < length cs = there.1 in rw (from, drop-cons cs i 0 h, ne_eqb _ _ typed, field)
 
--- the byte d stands at i
-drop-is : (ds : List ℕ) (i d : ℕ) → i < length ds → get_or ds i 0 ≡ d → drop i ds ≡ d ∷ drop (suc i) ds
-drop-is ds i d h e = rw (← e) (drop-cons ds i 0 h)
-
-module _ (cs : List ℕ) (i : ℕ) (h : i < length cs) (k : field cs ≡ field (drop i cs)) where
-  pub field-blank : get_or cs i 0 ≡ blank → field cs ≡ field (drop (i + 1) cs)
-  field-blank e = rw add-one (k ∙ rw (drop-cons cs i 0, eq-eqb _ _ e, field))
-
-  pub field-digits : (n : ℕ) → (get_or cs i 0 ≡ blank → ⊥) → (get_or cs i 0 ≡ 48 → ⊥) → n ≡ number 0 (take (length cs - i) (drop i cs)) → n ≡ field cs
-  field-digits n e z w = rw (w, take_all (length cs - i) (drop i cs) (rw length-drop (omega arith)), k, drop-cons cs i 0, ne_eqb _ _ e, ne_eqb _ _ z, field)
-
-  module _ (z : get_or cs i 0 ≡ 48) where
-    pub field_leading : i + 1 < length cs → 0 ≡ field cs
-    field_leading l = rw (k, drop-is cs i 48 h z, le-leb 1 (length (drop (suc i) cs)) (rw length-drop (omega arith)), field)
-
-    pub field-zero : length cs ≤ i + 1 → 1 ≡ field cs
-    field-zero l = rw (k, drop-is cs i 48 h z, drop_of_length-le cs {i = suc i} (omega arith))
-
-pub field_none : (cs : List ℕ) (i : ℕ) → length cs ≤ i → field cs ≡ field (drop i cs) → 0 ≡ field cs
-field_none cs i h k = rw (k, drop_of_length-le cs h)
+  pub field-digits : (n : ℕ) → (get_or rest 0 0 ≡ 48 → length rest ≤ 1) → n ≡ number 0 rest → n ≡ field cs
+  field-digits n z w =
+      rw field_is
+      (by_test (eqb (get_or cs i 0) 48)
+      (λ e. let l : length (drop (suc i) cs) < 1 = omega (arith, rw rest_is at (z (rw rest_is (eqb-true _ _ e)))) in rw (e, lt-leb 1 _ l) (rw rest_is at w))
+      (λ e. rw e (rw rest_is at w)))

@@ -1,4 +1,5 @@
--- The loops of the parser, and the ways through it.
-pub mod Fields
+-- What the parser finds, and the ways through it.
+pub mod Places
 pub mod LineEnds
+pub mod Fields
 pub mod LineRows

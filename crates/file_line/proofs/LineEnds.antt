@@ -1,31 +1,32 @@
--- Where the first line from a place on ends: the loop that looks for the LF, and that it stands in the file.
---   end-..   == the loop stands at i, and no LF stands between `at` and it
-use mathlib.Core.Path.{◌≡◌, ap}
+-- Where the first line of a text ends: behind its first LF, or with the text, if it has none. And that it ends in the file.
+--   at_lf  == the place of the first LF, or the length of a text without one
+use mathlib.Core.Path.{◌≡◌, refl}
 use mathlib.Core.List.{List, [], ◌∷◌}
-use Prim.Native.Nat.{ℕ, suc, ◌+◌, ◌≤◌, ◌<◌}
-use borrow.Author.Tests.{eq-eqb, ne_eqb}
-use native.Mathlib.Numerals.{add-one}
+use Prim.Native.Nat.{ℕ, ◌+◌, ◌≤◌, ◌<◌}
 use native.Mathlib.Omega.{arith}
-use lib.ListN.{length, get_or, drop, length-drop, drop_of_length-le}
-use lib.Seq.{drop-cons}
+use lib.Dec.{eqb}
+use lib.ListN.{length, drop, length-drop}
+use Rattle.std.specs.Prelude.{Some, None}
+use Rattle.std.specs.List.{position_or_len, position}
+use Rattle.words.proofs.Tests.{by_test}
+use Rattle.file_line.proofs.Places.{place_of, place_none}
 use Rattle.file_rule.specs.Lines.{lf, first_line}
 use Rattle.file_rule.proofs.FirstLines.{first-lf, first_more, first-length}
 
--- the loop stands at i, and no LF stands between `at` and it
-module _ (s : List ℕ) (at i : ℕ) (k : at + length (first_line (drop at s)) ≡ i + length (first_line (drop i s))) where
-  pub end_here : i < length s → get_or s i 0 ≡ lf → i + 1 ≡ at + length (first_line (drop at s))
-  end_here h e =
-      let p : first_line (drop i s) ≡ get_or s i 0 ∷ [] = rw (drop-cons s i 0) (first-lf (get_or s i 0) (drop (suc i) s) (eq-eqb (get_or s i 0) lf e)) in
-      omega (arith, ap length p)
+abbrev at_lf : List ℕ → ℕ
+at_lf s = position_or_len (λ b. eqb b lf) s
 
-  pub end_more : i < length s → (get_or s i 0 ≡ lf → ⊥) → at + length (first_line (drop at s)) ≡ i + 1 + length (first_line (drop (i + 1) s))
-  end_more h e =
-      let p : first_line (drop i s) ≡ get_or s i 0 ∷ first_line (drop (suc i) s) =
-      rw (drop-cons s i 0) (first_more (get_or s i 0) (drop (suc i) s) (ne_eqb (get_or s i 0) lf e)) in
-      rw (add-one i) (omega (arith, ap length p))
+ends : (s : List ℕ) → (at_lf s < length s → at_lf s + 1 ≡ length (first_line s)) × (length s ≤ at_lf s → length s ≡ length (first_line s))
+ends [] = (λ h. omega arith, λ h. refl)
+ends (b ∷ s) =
+    by_test (eqb b lf) (λ e. rw (e, first-lf b s e) (λ h. refl, λ h. omega arith))
+    (λ e. rw (e, first_more b s e) (λ h. omega (arith, (ends s).0), λ h. omega (arith, (ends s).1)))
 
-  pub end_none : length s ≤ i → i ≡ at + length (first_line (drop at s))
-  end_none h = let p : length (first_line (drop i s)) ≡ 0 = rw (drop_of_length-le s h) in omega arith
+pub ends_at : (s : List ℕ) (i : ℕ) → Some i ≡ position (λ b. eqb b lf) s → i + 1 ≡ length (first_line s)
+ends_at s i e = let h = place_of (λ b. eqb b lf) s i e in omega (arith, h.0, (ends s).0 (omega (arith, h.0, h.1)))
+
+pub ends_so : (s : List ℕ) → None ≡ position (λ b. eqb b lf) s → length s ≡ length (first_line s)
+ends_so s e = (ends s).1 (place_none (λ b. eqb b lf) s e)
 
 pub end_within : (s : List ℕ) (at next : ℕ) → at < length s → next ≡ at + length (first_line (drop at s)) → next ≤ length s
 end_within s at next h e = omega (arith, first-length (drop at s), length-drop at s)

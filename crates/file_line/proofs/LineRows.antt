@@ -1,19 +1,18 @@
 -- The ways through the check of a line, and the parser's answer.
 --   line-..   == what each test of line_fault says of rows 17, 18, 19
---   parse-..  == the answers of line_at
+--   parse_line == the answer of line_at
 use mathlib.Core.Path.{◌≡◌, refl, sym, ◌∙◌}
-use mathlib.Core.Bool.{Bool, true, false}
+use mathlib.Core.Bool.{true, false, and-false}
 use mathlib.Core.List.{List}
 use Prim.Native.Nat.{ℕ, suc, ◌+◌, ◌-◌, ◌≤◌, ◌<◌}
 use borrow.Author.Tests.{le-leb, lt-leb, eq-eqb, ne_eqb}
-use native.Mathlib.Nat.{add-zero, add-sub_cancel_left}
+use native.Mathlib.Nat.{add-sub_cancel_left}
 use native.Mathlib.Omega.{arith}
-use lib.Dec.{eqb}
-use lib.ListN.{length, get_or, take, drop, drop_of_length-le}
+use lib.ListN.{length, get_or, take, drop}
 use Rattle.words.specs.Lists.{last_or}
 use Rattle.trays.specs.Sides.{is_side}
 use Rattle.tray_check.proofs.CheckLoops.{last_some}
-use Rattle.file_rule.specs.Lines.{lf, field, first_line, side_field, is_laid_out}
+use Rattle.file_rule.specs.Lines.{lf, first_line, slip_field, length_field, side_field, is_laid_out}
 use Rattle.file_rule.specs.Faults.{line_fault}
 use Rattle.file_rule.specs.declared.Line.{Line}
 use Rattle.file_line.specs.Steps.Parsed.{line_at}
@@ -24,42 +23,40 @@ module _ (l : List ℕ) (k : ℕ) where
   pub line_short : length l < 10 → 17 ≡ (line_fault k l).number
   line_short h = rw (lt-leb 10 (length l) h)
 
-  module _ (h : 10 ≤ length l) where
-    pub line_open : (get_or l (length l - 1) 0 ≡ lf → ⊥) → 17 ≡ (line_fault k l).number
-    line_open e = rw (le-leb 10 (length l) h, ← last_some l (get_or l (length l - 1) 0) (omega arith) refl, ne_eqb _ _ e)
+  -- what a line of 10 bytes at least ends with
+  last_is : 10 ≤ length l → last_or 0 l ≡ get_or l (length l - 1) 0
+  last_is h = sym (last_some l (get_or l (length l - 1) 0) (omega arith) refl)
 
-    module _ (e : get_or l (length l - 1) 0 ≡ lf) (slip : ℕ) (s : slip ≡ field (take 4 l)) where
-      ended : eqb (last_or 0 l) lf ≡ true
-      ended = eq-eqb (last_or 0 l) lf (sym (last_some l (get_or l (length l - 1) 0) (omega arith) refl) ∙ e)
+  pub line_open : 10 ≤ length l → (get_or l (length l - 1) 0 ≡ lf → ⊥) → 17 ≡ (line_fault k l).number
+  line_open h e = rw (le-leb 10 (length l) h, ne_eqb (last_or 0 l) lf (λ q. e (sym (last_is h) ∙ q)))
 
-      pub line-slip : slip ≡ 0 → 17 ≡ (line_fault k l).number
-      line-slip z = rw (le-leb 10 (length l) h, ended, ← s, z)
+  pub line_side : is_side (side_field l) ≡ false → 17 ≡ (line_fault k l).number
+  line_side q = simp (q, and-false)
 
-      module _ (z : slip ≡ 0 → ⊥) (stated : ℕ) (t : stated ≡ field (take 4 (drop 4 l))) where
-        pub line_stated : stated ≡ 0 → 17 ≡ (line_fault k l).number
-        line_stated y = rw (le-leb 10 (length l) h, ended, ← s, le-leb 1 slip (omega arith), ← t, y)
+  module _ (h : 10 ≤ length l) (e : get_or l (length l - 1) 0 ≡ lf) (q : is_side (side_field l) ≡ true)
+      (slip : ℕ) (s : suc slip ≡ slip_field l) (stated : ℕ) (t : suc stated ≡ length_field l) where
+    laid : is_laid_out l ≡ true
+    laid =
+        rw (
+          le-leb 10 (length l) h,
+          eq-eqb (last_or 0 l) lf (last_is h ∙ e),
+          ← s,
+          le-leb 1 (suc slip) (omega arith),
+          ← t,
+          le-leb 1 (suc stated) (omega arith),
+          q,
+        )
 
-        module _ (y : stated ≡ 0 → ⊥) (b : Bool) (q : b ≡ is_side (side_field l)) where
-          to_side : is_laid_out l ≡ b
-          to_side = rw (le-leb 10 (length l) h, ended, ← s, le-leb 1 slip (omega arith), ← t, le-leb 1 stated (omega arith), ← q)
+    pub line-number : (slip ≡ k → ⊥) → 18 ≡ (line_fault k l).number
+    line-number n = rw (laid, ← s, ne_eqb (suc slip) (suc k) (λ q. n (omega arith)))
 
-          pub line-column : b ≡ false → 17 ≡ (line_fault k l).number
-          line-column c = rw (to_side ∙ c)
+    module _ (n : slip ≡ k) where
+      pub line-length : (stated ≡ length l - 10 → ⊥) → 19 ≡ (line_fault k l).number
+      line-length m =
+          rw (laid, ← s, eq-eqb (suc slip) (suc k) (omega arith), ← t, letters-length l, ne_eqb (suc stated) (suc (length l - 10)) (λ q. m (omega arith)))
 
-          module _ (c : b ≡ true) where
-            laid : is_laid_out l ≡ true
-            laid = to_side ∙ c
-
-            pub line-number : (slip - 1 ≡ k → ⊥) → 18 ≡ (line_fault k l).number
-            line-number n = rw (laid, ← s, ne_eqb slip (suc k) (λ q. n (omega arith)))
-
-            module _ (n : slip - 1 ≡ k) where
-              pub line-length : (stated - 1 ≡ length l - 10 → ⊥) → 19 ≡ (line_fault k l).number
-              line-length m =
-                  rw (laid, ← s, eq-eqb slip (suc k) (omega arith), ← t, letters-length l, ne_eqb stated (suc (length l - 10)) (λ q. m (omega arith)))
-
-              pub line_good : stated - 1 ≡ length l - 10 → 0 ≡ (line_fault k l).number
-              line_good m = rw (laid, ← s, eq-eqb slip (suc k) (omega arith), ← t, letters-length l, eq-eqb stated (suc (length l - 10)) (omega arith))
+      pub line_good : stated ≡ length l - 10 → 0 ≡ (line_fault k l).number
+      line_good m = rw (laid, ← s, eq-eqb (suc slip) (suc k) (omega arith), ← t, letters-length l, eq-eqb (suc stated) (suc (length l - 10)) (omega arith))
 
 -- the line that starts at `at` ends before `next`
 pub parse_line : (s : List ℕ) (at k next fault : ℕ) → next ≡ at + length (first_line (drop at s))
@@ -67,6 +64,3 @@ pub parse_line : (s : List ℕ) (at k next fault : ℕ) → next ≡ at + length
 parse_line s at k next fault e f =
     let p : take (next - at) (drop at s) ≡ first_line (drop at s) = rw (e, add-sub_cancel_left) (first-take (drop at s)) in
     rw (f, p, e)
-
-pub parse_behind : (s : List ℕ) (at k : ℕ) → length s ≤ at → ◌≡◌ {A = Line} (record { fault = 17; next = at }) (line_at s at k)
-parse_behind s at k h = rw (drop_of_length-le s h, add-zero)

@@ -1,10 +1,10 @@
 // The parser of a tray file's lines.
 #![tactic(auto)]
 
-ghost use Rattle.std.specs.Prelude.{◌≡◌, ◌+◌, ◌≤◌, length, drop};
+ghost use Rattle.std.specs.Prelude.{◌≡◌, ◌==◌, not, ◌+◌, ◌≤◌, length, drop, position};
 ghost use Rattle.file_rule.specs.Lines as L;
 ghost use Rattle.file_rule.specs.Faults as F;
-ghost use Rattle.file_line.specs.Steps.Parsed.{line_at};
+ghost use Rattle.file_line.specs.Steps.Parsed.{line_at, plus_one};
 
 use file_rule::{BLANK, LF, Line};
 
@@ -13,54 +13,39 @@ pub const SIDE_COLUMN: usize = 8;
 
 pub const LETTERS_COLUMN: usize = 9;
 
-fn wide(x: u8) -> usize
-    ensures { result ≡ x }
-{
-    x as usize
-}
-
-// 1 + the number that digits write; 0 if one of the bytes is no digit.
-fn number(digits: &[u8]) -> usize
+// The number that digits write; none if one of the bytes is no digit.
+fn number(digits: &[u8]) -> Option<usize>
     requires { length digits.now ≤ 4 }
-    ensures { result ≡ L.number 0 digits.now }
+    ensures { plus_one result ≡ L.number 0 digits.now }
 {
     let mut v: usize = 0;
-    let mut i: usize = 0;
-    while i < digits.len() {
-        let d = digits[i];
-        if d < b'0' {
-            return 0;
+    for d in digits {
+        if !d.is_ascii_digit() {
+            return None;
         }
-        if b'9' < d {
-            return 0;
-        }
-        v = 10 * v + wide(d - b'0');
-        i += 1;
+        v = 10 * v + usize::from(*d - b'0');
     }
-    v + 1
+    Some(v)
 }
 
-// 1 + the number that columns hold, right-justified and without leading zeros; 0 if they hold none.
-fn field(columns: &[u8]) -> usize
-    requires { length columns.now ≤ 4 }
-    ensures { result ≡ L.field columns.now }
+// Where the first column stands that is not blank.
+fn typed_from(columns: &[u8]) -> Option<usize>
+    ensures { result ≡ position (λ c. not (c == L.blank)) columns.now }
 {
-    let mut i: usize = 0;
-    while i < columns.len() {
-        let c = columns[i];
-        if c == BLANK {
-            i += 1;
-        } else {
-            if c != b'0' {
-                return number(&columns[i..]);
-            }
-            if i + 1 < columns.len() {
-                return 0;
-            }
-            return 1;
-        }
+    columns.iter().position(|c| *c != BLANK)
+}
+
+// The number that columns hold, right-justified and without leading zeros.
+fn field(columns: &[u8]) -> Option<usize>
+    requires { length columns.now ≤ 4 }
+    ensures { plus_one result ≡ L.field columns.now }
+{
+    let start = typed_from(columns)?;
+    let digits = &columns[start..];
+    if digits.len() > 1 && digits[0] == b'0' {
+        return None;
     }
-    0
+    number(digits)
 }
 
 // What refuses a line, with its LF, as line k: 17, 18, 19, or 0.
@@ -68,31 +53,35 @@ fn line_fault(line: &[u8], k: usize) -> u8
     ensures { result ≡ (F.line_fault k line.now).number }
 {
     let n = line.len();
-    if n < 10 {
+    if n < 10 || line[n - 1] != LF || !tray_check::is_side(line[SIDE_COLUMN]) {
         return 17;
     }
-    if line[n - 1] != LF {
+    let (Some(slip), Some(stated)) = (field(&line[..4]), field(&line[4..8])) else {
         return 17;
+    };
+    if slip != k {
+        return 18;
     }
-    let slip = field(&line[0..4]);
-    if slip == 0 {
-        return 17;
+    if stated != n - 10 {
+        return 19;
     }
-    let stated = field(&line[4..8]);
-    if stated == 0 {
-        return 17;
-    }
-    let good = tray_check::is_side(line[SIDE_COLUMN]);
-    if good {
-        if slip - 1 != k {
-            return 18;
-        }
-        if stated - 1 != n - 10 {
-            return 19;
-        }
-        0
-    } else {
-        17
+    0
+}
+
+// Where the first LF of a text stands.
+fn lf_at(text: &[u8]) -> Option<usize>
+    ensures { result ≡ position (λ b. b == L.lf) text.now }
+{
+    text.iter().position(|b| *b == LF)
+}
+
+// How long the first line of a text is: with its LF, or up to the text's end.
+fn line_length(text: &[u8]) -> usize
+    ensures { result ≡ length (L.first_line text.now) }
+{
+    match lf_at(text) {
+        Some(i) => i + 1,
+        None => text.len(),
     }
 }
 
@@ -100,14 +89,10 @@ fn line_fault(line: &[u8], k: usize) -> u8
 pub fn line_end(file: &[u8], at: usize) -> usize
     ensures { result ≡ at + length (L.first_line (drop at file.now)) }
 {
-    let mut i = at;
-    while i < file.len() {
-        if file[i] == LF {
-            return i + 1;
-        }
-        i += 1;
+    match file.get(at..) {
+        Some(rest) => at + line_length(rest),
+        None => at,
     }
-    i
 }
 
 // The line parser: line k, which starts at a place of the file. Behind the file's end the line is empty.

@@ -14,13 +14,7 @@ use trays::{Refusal, Written, refuse};
 fn check_file(file: &[u8], letters: usize, ends: usize, sides: usize) -> Refusal
     ensures { result ≡ F.read_fault file.now letters ends sides }
 {
-    if letters < MAX_FILE {
-        return refuse(15, 0);
-    }
-    if ends < ENDS_NEED {
-        return refuse(15, 0);
-    }
-    if sides < ENDS_NEED {
+    if letters < MAX_FILE || ends < ENDS_NEED || sides < ENDS_NEED {
         return refuse(15, 0);
     }
     if MAX_FILE < file.len() {
@@ -38,6 +32,7 @@ fn copy_file(file: &[u8], letters: &mut [u8], ends: &mut [u16], sides: &mut [u8]
     let mut at: usize = 0;
     let mut count: usize = 0;
     let mut slips: usize = 0;
+    // kept: each line says where the next one starts, so there is no range to go over
     while at < file.len() {
         let next = file_line::line_end(file, at);
         // a good line has its letters after the side, and an LF after them

@@ -5,10 +5,9 @@ use file_rule::{ENDS_NEED, MAX_FILE};
 use layout::WORK_NEED;
 use sheet_of_files::LISTED;
 use sheet_rule::FIND_ROOM;
-use std::env::FillError;
 use std::fs::File;
 use std::io::Read;
-use std::rt::{Env, Files};
+use std::rt::Files;
 use trays::MAX_TEXT;
 
 // Writes the sheet of a tray file and a text file. The sides of the slips are read and left: all slips are looked for.
@@ -29,8 +28,7 @@ fn print_sheet<R: Print + Eprint>(rt: &R, tray: &[u8], text: &mut [u8]) {
         &mut found,
         &mut out,
     );
-    let written = rt.write_all(&out[..n]);
-    if written.is_err() {
+    if rt.write_all(&out[..n]).is_err() {
         let _ = rt.eprintln("find: the sheet could not be written");
     }
 }
@@ -45,13 +43,10 @@ fn print_files<R: Print + Eprint, F: Read>(rt: &R, tray: &mut F, text: &mut F) {
     let mut text_file = [0u8; MAX_TEXT + 2];
     let tray_came = input::read_all(tray, &mut tray_file);
     let text_came = input::read_all(text, &mut text_file);
-    if tray_came.failed || text_came.failed {
-        no_file(rt);
-        return;
+    match (tray_came, text_came) {
+        (Ok(n), Ok(m)) => print_sheet(rt, &tray_file[..n], &mut text_file[..m]),
+        _ => no_file(rt),
     }
-    let n = tray_came.count;
-    let m = text_came.count;
-    print_sheet(rt, &tray_file[..n], &mut text_file[..m]);
 }
 
 // Both are opened before either is checked.
@@ -64,16 +59,8 @@ fn print_folder<R: Files + Print + Eprint>(rt: &R) {
     }
 }
 
-// Whether an argument was given. The program's own name is argument 0.
-fn has_argument(rt: &impl Env) -> bool {
-    match rt.arg(1, &mut [0u8; 1]) {
-        Err(FillError::NotPresent) => false,
-        _ => true,
-    }
-}
-
 fn main(rt: HostRuntime) {
-    if has_argument(&rt) {
+    if input::has_argument(&rt) {
         let _ = rt.eprintln(
             "find takes no argument; run it in the folder that has TRAY.TXT and TEXT.TXT",
         );

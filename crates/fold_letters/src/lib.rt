@@ -1,7 +1,7 @@
 // Letters of tray files and text files, filed by the table of folding.
 #![tactic(auto)]
 
-ghost use Rattle.std.specs.Prelude.{◌≡◌, map, ◌≤◌, ◌<◌, length};
+ghost use Rattle.std.specs.Prelude.{◌≡◌, map, ◌≤◌, length};
 ghost use Rattle.words.specs.Lists.{over};
 ghost use Rattle.fold_rule.specs.Folding.{fold};
 ghost use Rattle.fold_letters.specs.Steps.Entries.{Folds};
@@ -17,23 +17,14 @@ fn entries() -> [u8; 256]
     FOLD
 }
 
-// A byte as an index into the table.
-fn index(b: u8) -> usize
-    ensures { (result ≡ b) × (result < 256) }
-{
-    b as usize
-}
-
 // Letters are filed into the first part of a buffer.
 pub fn file_letters(from: &[u8], to: &mut [u8])
     requires { length from.now ≤ length to.old }
     ensures { to.new ≡ over (map fold from.now) to.old }
 {
     let signs = entries();
-    let mut i: usize = 0;
-    while i < from.len() {
-        to[i] = signs[index(from[i])];
-        i += 1;
+    for (i, b) in from.iter().enumerate() {
+        to[i] = signs[usize::from(*b)];
     }
 }
 
@@ -42,9 +33,7 @@ pub fn fold_in_place(text: &mut [u8])
     ensures { text.new ≡ map fold text.old }
 {
     let signs = entries();
-    let mut i: usize = 0;
-    while i < text.len() {
-        text[i] = signs[index(text[i])];
-        i += 1;
+    for b in text.iter_mut() {
+        *b = signs[usize::from(*b)];
     }
 }

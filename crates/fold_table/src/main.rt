@@ -4,30 +4,17 @@
 ghost use Rattle.std.specs.Prelude.{◌≡◌};
 ghost use Rattle.fold_rule.specs.Folding as F;
 
-// The capital of a small letter; any other byte as it is.
-fn upper(b: u8) -> u8
-    ensures { result ≡ F.upper b }
-{
-    if b < b'a' {
-        return b;
-    }
-    if b'z' < b {
-        return b;
-    }
-    b - 32
-}
+use std::io;
 
 // The letter that the die has for a byte: V for U, I for J.
 fn die_sign(b: u8) -> u8
     ensures { result ≡ F.die_sign b }
 {
-    if b == b'U' {
-        return b'V';
+    match b {
+        b'U' => b'V',
+        b'J' => b'I',
+        _ => b,
     }
-    if b == b'J' {
-        return b'I';
-    }
-    b
 }
 
 // The sign that a byte is filed as; 0 where it is no sign.
@@ -35,40 +22,29 @@ fn die_sign(b: u8) -> u8
 fn rule(b: u8) -> u8
     ensures { result ≡ F.fold b }
 {
-    let c = die_sign(upper(b));
-    let good = tray_check::is_letter(c);
-    if good {
-        return c;
-    }
-    0
+    let c = die_sign(b.to_ascii_uppercase());
+    if tray_check::is_letter(c) { c } else { 0 }
 }
 
 // An entry on a line of its own.
-fn print_entry(sign: u8) {
-    if sign == 0 {
-        io::write_all(1, b"    0,\n");
-        return;
-    }
-    let quoted = [sign];
-    io::write_all(1, b"    b'");
-    io::write_all(1, &quoted);
-    io::write_all(1, b"',\n");
-}
-
-fn print_entries() {
-    let mut i: usize = 0;
-    while i < 256 {
-        print_entry(rule(i as u8));
-        i += 1;
+fn print_entry(rt: &impl Print, sign: u8) -> io::Result<()> {
+    match sign {
+        0 => rt.println("    0,"),
+        _ => println!(rt; "    b'{}',", char::from(sign)),
     }
 }
 
-fn main() {
-    io::write_all(
-        1,
-        b"// The sign that each byte of a tray file or a text file is filed as; 0 where it is no sign. Printed by `fold_table`.\n",
-    );
-    io::write_all(1, b"pub const FOLD: [u8; 256] = [\n");
-    print_entries();
-    io::write_all(1, b"];\n");
+fn print_table(rt: &impl Print) -> io::Result<()> {
+    rt.println(
+        "// The sign that each byte of a tray file or a text file is filed as; 0 where it is no sign. Printed by `fold_table`.",
+    )?;
+    rt.println("pub const FOLD: [u8; 256] = [")?;
+    for b in 0..=u8::MAX {
+        print_entry(rt, rule(b))?;
+    }
+    rt.println("];")
+}
+
+fn main(rt: HostRuntime) {
+    let _ = print_table(&rt);
 }

@@ -1,3 +1,3 @@
 -- Laws of a lent buffer written part by part.
 pub mod Puts
-pub mod ColumnLoops
+pub mod Numbers

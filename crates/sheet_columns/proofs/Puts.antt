@@ -2,16 +2,15 @@
 --   put_is     == bytes written after the first `at`
 --   put_none   == nothing written
 --   put_byte   == one byte
---   put_part   == a part `&mut out[at..]`, to which bytes are copied
---   put_more   == what is written behind what is written
+--   put_more, writes_more == what is written behind what is written
 use mathlib.Core.Path.{◌≡◌, refl, sym, ◌∙◌}
-use mathlib.Core.List.{List, [], ◌∷◌, ◌++◌, append_assoc, append-nil}
-use Prim.Native.Nat.{ℕ, ◌+◌, ◌-◌, ◌≤◌, ◌<◌}
+use mathlib.Core.List.{List, [], ◌∷◌, ◌++◌, append_assoc}
+use Prim.Native.Nat.{ℕ, ◌+◌, ◌≤◌, ◌<◌}
 use native.Mathlib.Omega.{arith}
-use borrow.Rule.Slice.PartMut.{put_mid}
-use lib.ListN.{length, take, drop, set, length-append, length-drop, take-append-drop, drop_of_length-le}
-use lib.Seq.{length-take-le, take-length, take_all, take_at, drop_at, drop-drop, drop-cons, set_split}
-use Rattle.sheet_columns.specs.Steps.Wrote.{written_behind, Wrote}
+use lib.ListN.{length, take, drop, set, length-append, length-drop, take-append-drop}
+use lib.Seq.{length-take-le, take_at, drop_at, drop-drop, drop-cons, set_split}
+use Rattle.sheet_columns.specs.declared.Sheet.{Sheet}
+use Rattle.sheet_columns.specs.Steps.Wrote.{written_behind, Wrote, Writes}
 
 behind-length : (at : ℕ) (ys old : List ℕ) → at + length ys ≤ length old → length (written_behind at ys old) ≡ length old
 behind-length at ys old h =
@@ -52,15 +51,5 @@ put_more {at} {m} {n} {r} {q} {xs} {ys} {a} {b} {c} p o =
       next = omega arith;
     }
 
--- the part that is lent, and what comes back
-module _ (at : ℕ) (ys old part part' : List ℕ) (v : part ≡ take (length old - at) (drop at old)) (h : at + length ys ≤ length old) where
-  part_is : part ≡ drop at old
-  part_is = v ∙ take_all (length old - at) (drop at old) (rw length-drop (omega arith))
-
-  pub put_part : (n : ℕ) → part' ≡ take (length ys) ys ++ drop (length ys) part → n ≡ length ys
-      → Wrote at (length ys) ys old (put_mid at (length old - at) old part') (at + n)
-  put_part n e many =
-      let all : length (drop at old) ≤ length old - at = rw length-drop (omega arith) in
-      rw many
-      (put_is at (length ys) ys old (put_mid at (length old - at) old part')
-      (rw (e, take-length, part_is, drop_of_length-le (drop at old) {i = length old - at} all, append-nil)) refl h)
+pub writes_more : {m n : ℕ} {xs ys : List ℕ} {a b c : Sheet} → Writes m xs a b → Writes n ys b c → Writes (m + n) (xs ++ ys) a c
+writes_more p o = record { wrote = put_more p.wrote o.wrote; same_buffer = o.same_buffer ∙ p.same_buffer }

@@ -1,13 +1,19 @@
-// Bytes, words and numbers in columns, written into a lent buffer.
-// Each function writes after the first `at` bytes and answers where the next byte goes.
+// A sheet that is being written into a lent buffer: bytes, words, and numbers in columns.
 #![tactic(auto)]
 
-ghost use Rattle.std.specs.Prelude.{◌≡◌, [], ◌∷◌, ◌+◌, ◌^◌, ◌≤◌, ◌<◌, length, replicate};
+ghost use Rattle.std.specs.Prelude.{◌≡◌, [], ◌∷◌, ◌^◌, ◌≤◌, ◌<◌, length, replicate};
 ghost use Rattle.file_rule.specs.Lines.{blank};
 ghost use Rattle.sheet_rule.specs.Sheets as S;
-ghost use Rattle.sheet_columns.specs.Steps.Wrote as W;
+ghost use Rattle.sheet_columns.specs.Steps.Wrote.{Room, Writes};
 
 use file_rule::BLANK;
+
+// A lent buffer, and where the next byte of the sheet goes.
+#[derive(Drop)]
+pub struct Sheet<'a> {
+    pub out: &'a mut [u8],
+    pub at: usize,
+}
 
 fn digit(d: usize) -> u8
     requires { d < 10 }
@@ -20,49 +26,46 @@ fn digit(d: usize) -> u8
 pub fn sign(mark: usize) -> u8
     ensures { result ≡ S.sign_of mark }
 {
-    if mark == 0 {
-        return b'S';
+    if mark == 0 { b'S' } else { b'K' }
+}
+
+impl Sheet<'_> {
+    pub fn byte(&mut self, byte: u8)
+        requires { Room 1 self.old }
+        ensures { Writes 1 (byte ∷ []) self.old self.new }
+    {
+        self.out[self.at] = byte;
+        self.at += 1;
     }
-    b'K'
-}
 
-pub fn put_byte(out: &mut [u8], at: usize, byte: u8) -> usize
-    requires { at + 1 ≤ length out.old }
-    ensures { W.Wrote at 1 (byte ∷ []) out.old out.new result }
-{
-    out[at] = byte;
-    at + 1
-}
-
-pub fn put_text(out: &mut [u8], at: usize, text: &[u8]) -> usize
-    requires { at + length text.now ≤ length out.old }
-    ensures { W.Wrote at (length text.now) text.now out.old out.new result }
-{
-    at + tables::copy(text, &mut out[at..])
-}
-
-fn put_blanks(out: &mut [u8], at: usize, n: usize) -> usize
-    requires { at + n ≤ length out.old }
-    ensures { W.Wrote at n (replicate n blank) out.old out.new result }
-{
-    let mut next = at;
-    let mut i: usize = 0;
-    while i < n {
-        next = put_byte(out, next, BLANK);
-        i += 1;
+    pub fn text(&mut self, text: &[u8])
+        requires { Room (length text.now) self.old }
+        ensures { Writes (length text.now) text.now self.old self.new }
+    {
+        let next = self.at + text.len();
+        self.out[self.at..next].copy_from_slice(text);
+        self.at = next;
     }
-    next
-}
 
-// Writes `n` right-justified in `width` columns: a number of one digit after blanks, another one after its tenth.
-pub fn put_number(out: &mut [u8], at: usize, width: usize, n: usize) -> usize
-    requires { (1 ≤ width) × (n < 10 ^ width) × (at + width ≤ length out.old) }
-    ensures { W.Wrote at width (S.column width n) out.old out.new result }
-{
-    if n < 10 {
-        let last = put_blanks(out, at, width - 1);
-        return put_byte(out, last, digit(n));
+    fn blanks(&mut self, n: usize)
+        requires { Room n self.old }
+        ensures { Writes n (replicate n blank) self.old self.new }
+    {
+        let next = self.at + n;
+        self.out[self.at..next].fill(BLANK);
+        self.at = next;
     }
-    let last = put_number(out, at, width - 1, n / 10);
-    put_byte(out, last, digit(n % 10))
+
+    // Writes `n` right-justified in `width` columns: a number of one digit after blanks, another one after its tenth.
+    pub fn number(&mut self, width: usize, n: usize)
+        requires { (1 ≤ width) × (n < 10 ^ width) × Room width self.old }
+        ensures { Writes width (S.column width n) self.old self.new }
+    {
+        if n < 10 {
+            self.blanks(width - 1);
+        } else {
+            self.number(width - 1, n / 10);
+        }
+        self.byte(digit(n % 10));
+    }
 }

@@ -1,26 +1,25 @@
--- The loops that write lines, one more turn and the end of each.
+-- The loops that write lines, one more turn of each.
 --   lines_more   == one line more
---   lines_turn, lines_end  == the loops
+--   lines_turn   == one more turn
 --   slip_turn, join_turn, found_turn  == one more turn of the three loops that write lines
 use mathlib.Core.Path.{◌≡◌, ◌∙◌, ap}
 use mathlib.Core.List.{List, [], ◌∷◌, ◌++◌, append-nil}
-use Prim.Native.Nat.{ℕ, zero, suc, ◌+◌, ◌-◌, ◌*◌, ◌^◌, ◌≤◌, ◌<◌}
+use Prim.Native.Nat.{ℕ, zero, suc, ◌+◌, ◌-◌, ◌*◌}
 use native.Mathlib.Nat.{add-zero, mul-suc}
 use native.Mathlib.Numerals.{add-one}
 use native.Mathlib.Omega.{arith}
-use lib.ListN.{length, get_or}
+use lib.ListN.{get_or}
 use Rattle.words.specs.Lists.{each, up_from}
 use Rattle.words.proofs.Members.{each_append}
 use Rattle.trays.specs.declared.Span.{Span}
 use Rattle.trays.specs.Slips.{span_of}
 use Rattle.answers.specs.Composing.{join_cells, record_cells}
 use Rattle.sheet_rule.specs.Sheets.{slip_line, join_line, sign_of, found_line, lines}
-use Rattle.sheet_rule.specs.Sheets.{slip_line_at, join_line_at, found_line_at, place_width, slip_size, join_size, found_size}
-use Rattle.sheet_columns.specs.Steps.Wrote.{Wrote}
-use Rattle.sheet_lines.specs.Steps.Lines.{SlipsFit, JoinsFit, FoundFit}
-use Rattle.sheet_columns.proofs.Puts.{put_more}
+use Rattle.sheet_rule.specs.Sheets.{slip_line_at, join_line_at, found_line_at, slip_size, join_size, found_size}
+use Rattle.sheet_columns.specs.declared.Sheet.{Sheet}
+use Rattle.sheet_columns.specs.Steps.Wrote.{Writes}
+use Rattle.sheet_columns.proofs.Puts.{writes_more}
 
--- lines
 up_from_more : (i n : ℕ) → up_from i (suc n) ≡ up_from i n ++ ((i + n) ∷ [])
 up_from_more i zero = rw (add-zero i)
 up_from_more i (suc n) = ap (λ l. i ∷ l) (up_from_more (suc i) n ∙ let e : suc i + n ≡ i + suc n = omega arith in rw e)
@@ -30,80 +29,23 @@ lines_more f n =
     let e : 0 + n ≡ n = omega arith in
     rw (add-one n) (ap (each f) (up_from_more 0 n)) ∙ each_append f (up_from 0 n) ((0 + n) ∷ []) ∙ rw (e, append-nil)
 
-lines_turn : (f : ℕ → List ℕ) (w at i next r : ℕ) (a b c : List ℕ) → Wrote at (w * i) (lines f i) a b next → Wrote next w (f i) b c r →
-    Wrote at (w * (i + 1)) (lines f (i + 1)) a c r
-lines_turn f w at i next r a b c p q =
+lines_turn : (f : ℕ → List ℕ) (w i : ℕ) (s o r : Sheet) → Writes (w * i) (lines f i) s o → Writes w (f i) o r → Writes (w * (i + 1)) (lines f (i + 1)) s r
+lines_turn f w i s o r p q =
     let e : w * (i + 1) ≡ w * i + w = rw (add-one i) (mul-suc w i) in
-    rw (lines_more f i, e) (put_more p q)
+    rw (lines_more f i, e) (writes_more p q)
 
-lines_end : (f : ℕ → List ℕ) (w at i n r : ℕ) (a b : List ℕ) → i ≤ n → n ≤ i → Wrote at (w * i) (lines f i) a b r → Wrote at (w * n) (lines f n) a b r
-lines_end f w at i n r a b h g p = let e : n ≡ i = omega arith in rw e p
-
--- slips
-module _ (es ps : List ℕ) (n i k : ℕ) (F : SlipsFit es ps n) (h : i < n) (e : k ≡ get_or ps (record_cells * i) 0) where
-  pub slip-some : 1 ≤ k
-  slip-some = rw e (F.some i h)
-
-  pub slip-there : k ≤ length es
-  slip-there = rw e (F.there i h)
-
-  pub slip_few : k < 10 ^ 4
-  slip_few = omega (arith, slip-there, F.few)
-
-  module _ (p : Span) (q : p ≡ span_of es k) where
-    pub span_rises : p.start ≤ p.end
-    span_rises = rw q (F.rise k slip-some slip-there)
-
-    pub span_small : p.end - p.start < 10 ^ 4
-    span_small = rw q (omega (arith, F.small k slip-some slip-there))
-
-pub slip_placed : (es ps : List ℕ) (n i x : ℕ) → SlipsFit es ps n → i < n → x ≡ get_or ps (record_cells * i + 1) 0 → x < 10 ^ 5
-slip_placed es ps n i x F h e = rw e (F.placed i h)
-
-pub slip_turn : (es ps : List ℕ) (i slip place mark at next r : ℕ) (p : Span) (o o₁ o₂ : List ℕ) → slip ≡ get_or ps (record_cells * i) 0 →
+pub slip_turn : (es ps : List ℕ) (i slip place mark : ℕ) (p : Span) (s o r : Sheet) → slip ≡ get_or ps (record_cells * i) 0 →
     place ≡ get_or ps (record_cells * i + 1) 0 → mark ≡ get_or ps (record_cells * i + 2) 0 → p ≡ span_of es slip →
-    Wrote at (slip_size * i) (lines (slip_line_at es ps) i) o o₁ next → Wrote next slip_size (slip_line slip (p.end - p.start) place (sign_of mark)) o₁ o₂ r →
-    Wrote at (slip_size * (i + 1)) (lines (slip_line_at es ps) (i + 1)) o o₂ r
-slip_turn es ps i slip place mark at next r p o o₁ o₂ a b c q x y =
-    lines_turn (slip_line_at es ps) slip_size at i next r o o₁ o₂ x (rw (q, a, b, c) at y)
+    Writes (slip_size * i) (lines (slip_line_at es ps) i) s o → Writes slip_size (slip_line slip (p.end - p.start) place (sign_of mark)) o r →
+    Writes (slip_size * (i + 1)) (lines (slip_line_at es ps) (i + 1)) s r
+slip_turn es ps i slip place mark p s o r a b c q x y = lines_turn (slip_line_at es ps) slip_size i s o r x (rw (q, a, b, c) at y)
 
-pub slips_end : (es ps : List ℕ) (n at i r : ℕ) (o o₁ : List ℕ) → i ≤ n → n ≤ i → Wrote at (slip_size * i) (lines (slip_line_at es ps) i) o o₁ r →
-    Wrote at (slip_size * n) (lines (slip_line_at es ps) n) o o₁ r
-slips_end es ps n at i r o o₁ = lines_end (slip_line_at es ps) slip_size at i n r o o₁
+pub join_turn : (js : List ℕ) (i left right shared : ℕ) (s o r : Sheet) → left ≡ get_or js (join_cells * i) 0 →
+    right ≡ get_or js (join_cells * i + 1) 0 → shared ≡ get_or js (join_cells * i + 2) 0 → Writes (join_size * i) (lines (join_line_at js) i) s o →
+    Writes join_size (join_line left right shared) o r → Writes (join_size * (i + 1)) (lines (join_line_at js) (i + 1)) s r
+join_turn js i left right shared s o r a b c x y = lines_turn (join_line_at js) join_size i s o r x (rw (a, b, c) at y)
 
--- joins
-module _ (js : List ℕ) (n i : ℕ) (F : JoinsFit js n) (h : i < n) where
-  pub join-left : (x : ℕ) → x ≡ get_or js (join_cells * i) 0 → x < 10 ^ 4
-  join-left x e = rw e (F.small (join_cells * i) (omega arith))
-
-  pub join_right : (x : ℕ) → x ≡ get_or js (join_cells * i + 1) 0 → x < 10 ^ 4
-  join_right x e = rw e (F.small (join_cells * i + 1) (omega arith))
-
-  pub join_shared : (x : ℕ) → x ≡ get_or js (join_cells * i + 2) 0 → x < 10 ^ 4
-  join_shared x e = rw e (F.small (join_cells * i + 2) (omega arith))
-
-pub join_turn : (js : List ℕ) (i at next r left right shared : ℕ) (o o₁ o₂ : List ℕ) → left ≡ get_or js (join_cells * i) 0 →
-    right ≡ get_or js (join_cells * i + 1) 0 → shared ≡ get_or js (join_cells * i + 2) 0 → Wrote at (join_size * i) (lines (join_line_at js) i) o o₁ next →
-    Wrote next join_size (join_line left right shared) o₁ o₂ r → Wrote at (join_size * (i + 1)) (lines (join_line_at js) (i + 1)) o o₂ r
-join_turn js i at next r left right shared o o₁ o₂ a b c x y = lines_turn (join_line_at js) join_size at i next r o o₁ o₂ x (rw (a, b, c) at y)
-
-pub joins_end : (js : List ℕ) (n at i r : ℕ) (o o₁ : List ℕ) → i ≤ n → n ≤ i → Wrote at (join_size * i) (lines (join_line_at js) i) o o₁ r →
-    Wrote at (join_size * n) (lines (join_line_at js) n) o o₁ r
-joins_end js n at i r o o₁ = lines_end (join_line_at js) join_size at i n r o o₁
-
--- occurrences
-module _ (ns : List ℕ) (k i : ℕ) (F : FoundFit ns k) (h : i < k) where
-  pub found_place : (x : ℕ) → x ≡ get_or ns (2 * i) 0 → x < 10 ^ place_width
-  found_place x e = rw e (F.places i h)
-
-  pub found_slip : (x : ℕ) → x ≡ get_or ns (2 * i + 1) 0 → x < 10 ^ 4
-  found_slip x e = rw e (F.slips i h)
-
-pub found_turn : (ns : List ℕ) (i at next r end slip : ℕ) (o o₁ o₂ : List ℕ) → end ≡ get_or ns (2 * i) 0 → slip ≡ get_or ns (2 * i + 1) 0 →
-    Wrote at (found_size * i) (lines (found_line_at ns) i) o o₁ next → Wrote next found_size (found_line end slip) o₁ o₂ r →
-    Wrote at (found_size * (i + 1)) (lines (found_line_at ns) (i + 1)) o o₂ r
-found_turn ns i at next r end slip o o₁ o₂ a b x y = lines_turn (found_line_at ns) found_size at i next r o o₁ o₂ x (rw (a, b) at y)
-
-pub founds_end : (ns : List ℕ) (k at i r : ℕ) (o o₁ : List ℕ) → i ≤ k → k ≤ i → Wrote at (found_size * i) (lines (found_line_at ns) i) o o₁ r →
-    Wrote at (found_size * k) (lines (found_line_at ns) k) o o₁ r
-founds_end ns k at i r o o₁ = lines_end (found_line_at ns) found_size at i k r o o₁
+pub found_turn : (ns : List ℕ) (i end slip : ℕ) (s o r : Sheet) → end ≡ get_or ns (2 * i) 0 → slip ≡ get_or ns (2 * i + 1) 0 →
+    Writes (found_size * i) (lines (found_line_at ns) i) s o → Writes found_size (found_line end slip) o r →
+    Writes (found_size * (i + 1)) (lines (found_line_at ns) (i + 1)) s r
+found_turn ns i end slip s o r a b x y = lines_turn (found_line_at ns) found_size i s o r x (rw (a, b) at y)

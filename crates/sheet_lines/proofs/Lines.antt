@@ -14,77 +14,71 @@ use Rattle.trays.specs.Sides.{blank_side}
 use Rattle.sheet_rule.specs.Sheets.{column, slip_line, join_line, sign_of, find_line, found_line, refused_line, lines}
 use Rattle.sheet_rule.specs.Sheets.{slip_line_at, join_line_at, found_line_at, compose_lines, find_lines, place_width, count_width}
 use Rattle.sheet_rule.specs.Sheets.{detail_width, slip_size, join_size, find_size, found_size, refused_size}
-use Rattle.sheet_columns.specs.Steps.Wrote.{Wrote}
-use Rattle.sheet_lines.specs.Steps.Lines.{three_columns, Ended, Headed, SlipsFit, JoinsFit, ComposeAsks}
+use Rattle.sheet_columns.specs.declared.Sheet.{Sheet}
+use Rattle.sheet_columns.specs.Steps.Wrote.{Wrote, Writes}
+use Rattle.sheet_lines.specs.Steps.Lines.{three_columns, head_size, Ended, Headed}
 use Rattle.sheet_rule.specs.Lent.{Printed}
-use Rattle.sheet_columns.proofs.Puts.{put_more}
+use Rattle.sheet_columns.proofs.Puts.{writes_more}
 
 pub printed : (n r : ℕ) (ys old new : List ℕ) → Wrote 0 n ys old new r → Printed ys old new r
 printed n r ys old new p = record { is = p.is; count = omega arith; fits = omega arith }
 
+-- the whole sheet, in a buffer that held what new is afterwards
+pub shown : {n : ℕ} {ys : List ℕ} {s s' : Sheet} {new : List ℕ} → s.at ≡ 0 → Writes n ys s s' → new ≡ s'.out.now → Printed ys s.out.now new s'.at
+shown {n} {ys} {s} {s'} {new} z p e = rw e (printed n s'.at ys s.out.now s'.out.now (rw z at p.wrote))
+
 -- the end of a header
-module _ (b at r : ℕ) (o o₁ : List ℕ) where
-  pub end_blank : b ≡ blank_side → Wrote at 1 (lf ∷ []) o o₁ r → Ended b at o o₁ r
+module _ (b : ℕ) (s r : Sheet) where
+  pub end_blank : b ≡ blank_side → Writes 1 (lf ∷ []) s r → Ended b s r
   end_blank e p = rw e (record { wrote = p; most = omega arith })
 
-  pub end_marked : (b ≡ blank_side → ⊥) → (o₂ o₃ : List ℕ) (n m : ℕ) → Wrote at 1 (blank ∷ []) o o₂ n → Wrote n 1 (b ∷ []) o₂ o₃ m
-      → Wrote m 1 (lf ∷ []) o₃ o₁ r → Ended b at o o₁ r
-  end_marked e o₂ o₃ n m p q s =
-      let w = put_more p (put_more q s) in
+  pub end_marked : (b ≡ blank_side → ⊥) → (o o₁ : Sheet) → Writes 1 (blank ∷ []) s o → Writes 1 (b ∷ []) o o₁ → Writes 1 (lf ∷ []) o₁ r → Ended b s r
+  end_marked e o o₁ p q x =
+      let w = writes_more p (writes_more q x) in
       let t = ne_eqb b blank_side e in
       record { wrote = rw t w; most = rw t (omega arith) }
 
--- o, o₁, .. are what the buffer holds before and after each part, at, n₁, .. where the parts begin
-module _ (at r : ℕ) (o o₁ o₂ o₃ : List ℕ) where
-  pub found_put : (e i n₁ n₂ : ℕ) → Wrote at place_width (column place_width e) o o₁ n₁ → Wrote n₁ 4 (column 4 i) o₁ o₂ n₂ → Wrote n₂ 1 (lf ∷ []) o₂ o₃ r →
-      Wrote at found_size (found_line e i) o o₃ r
-  found_put e i n₁ n₂ p q s = put_more p (put_more q s)
+-- s, o, o₁, .. are the sheet before and after each part
+module _ (s o o₁ r : Sheet) where
+  pub found_put : (e i : ℕ) → Writes place_width (column place_width e) s o → Writes 4 (column 4 i) o o₁ → Writes 1 (lf ∷ []) o₁ r →
+      Writes found_size (found_line e i) s r
+  found_put e i p q t = writes_more p (writes_more q t)
 
-  pub three_put : (w a b c n₁ n₂ : ℕ) → Wrote at w (column w a) o o₁ n₁ → Wrote n₁ w (column w b) o₁ o₂ n₂ → Wrote n₂ w (column w c) o₂ o₃ r →
-      Wrote at (w + (w + w)) (three_columns w a b c) o o₃ r
-  three_put w a b c n₁ n₂ p q s = put_more p (put_more q s)
+  pub three_put : (w a b c : ℕ) → Writes w (column w a) s o → Writes w (column w b) o o₁ → Writes w (column w c) o₁ r →
+      Writes (w + (w + w)) (three_columns w a b c) s r
+  three_put w a b c p q t = writes_more p (writes_more q t)
 
-  module _ (o₄ : List ℕ) (n₁ n₂ n₃ : ℕ) where
-    pub refused_put : (number detail d : ℕ) → d ≡ detail → Wrote 0 7 (word "REFUSED") o o₁ n₁ → Wrote n₁ 4 (column 4 number) o₁ o₂ n₂ →
-        Wrote n₂ detail_width (column detail_width d) o₂ o₃ n₃ → Wrote n₃ 1 (lf ∷ []) o₃ o₄ r → Printed (refused_line (refusal number detail)) o o₄ r
-    refused_put number detail d e p q s t = rw (← e) (printed refused_size r _ o o₄ (put_more p (put_more q (put_more s t))))
+  module _ (o₂ : Sheet) where
+    pub refused_put : (number detail n : ℕ) → n ≡ number → Writes 7 (word "REFUSED") s o → Writes 4 (column 4 n) o o₁ →
+        Writes detail_width (column detail_width detail) o₁ o₂ → Writes 1 (lf ∷ []) o₂ r → Writes refused_size (refused_line (refusal number detail)) s r
+    refused_put number detail n e p q t u = rw (← e) (writes_more p (writes_more q (writes_more t u)))
 
-    module _ (o₅ : List ℕ) (n₄ : ℕ) where
-      pub head_put : (b : ℕ) (c : Composed) (x y z u v : ℕ) → x ≡ c.slips → y ≡ c.kept → z ≡ c.letters → u ≡ c.saved → v ≡ c.legend →
-          Wrote at 4 (word "TRAY") o o₁ n₁ → Wrote n₁ 4 (column 4 x) o₁ o₂ n₂ → Wrote n₂ 4 (column 4 y) o₂ o₃ n₃ →
-          Wrote n₃ 15 (three_columns 5 z u v) o₃ o₄ n₄ → Ended b n₄ o₄ o₅ r → Headed b c at o o₅ r
-      head_put b c x y z u v ex ey ez eu ev p q s t w =
-          rw (← ex, ← ey, ← ez, ← eu, ← ev)
-          (record { wrote = simp append_assoc at (put_more p (put_more q (put_more s (put_more t w.wrote)))); most = w.most })
+    module _ (o₃ : Sheet) where
+      pub head_put : (b : ℕ) (c : Composed) → Writes 4 (word "TRAY") s o → Writes 4 (column 4 c.slips) o o₁ → Writes 4 (column 4 c.kept) o₁ o₂ →
+          Writes 15 (three_columns 5 c.letters c.saved c.legend) o₂ o₃ → Ended b o₃ r → Headed b c s r
+      head_put b c p q t u w =
+          record { wrote = simp append_assoc at (writes_more p (writes_more q (writes_more t (writes_more u w.wrote)))); most = w.most }
 
-      pub find_put : (n m k : ℕ) → Wrote at 4 (word "FIND") o o₁ n₁ → Wrote n₁ place_width (column place_width n) o₁ o₂ n₂ →
-          Wrote n₂ place_width (column place_width m) o₂ o₃ n₃ → Wrote n₃ count_width (column count_width k) o₃ o₄ n₄ → Wrote n₄ 1 (lf ∷ []) o₄ o₅ r →
-          Wrote at find_size (find_line n m k) o o₅ r
-      find_put n m k p q s t u = put_more p (put_more q (put_more s (put_more t u)))
+      pub find_put : (n m k : ℕ) → Writes 4 (word "FIND") s o → Writes place_width (column place_width n) o o₁ →
+          Writes place_width (column place_width m) o₁ o₂ → Writes count_width (column count_width k) o₂ o₃ → Writes 1 (lf ∷ []) o₃ r →
+          Writes find_size (find_line n m k) s r
+      find_put n m k p q t u v = writes_more p (writes_more q (writes_more t (writes_more u v)))
 
-      pub compose_put : (b : ℕ) (c : Composed) (es js ps t : List ℕ) (k m : ℕ) → k ≡ c.slips → m ≡ c.joins → Headed b c 0 o o₁ n₁ →
-          Wrote n₁ (slip_size * k) (lines (slip_line_at es ps) k) o₁ o₂ n₂ → Wrote n₂ (join_size * m) (lines (join_line_at js) m) o₂ o₃ n₃ →
-          Wrote n₃ (length t) t o₃ o₄ n₄ → Wrote n₄ 1 (lf ∷ []) o₄ o₅ r → Printed (compose_lines b c es js ps t) o o₅ r
-      compose_put b c es js ps t k m ek em p q s u v =
-          printed _ r _ o o₅ (put_more p.wrote (put_more (rw ek at q) (put_more (rw em at s) (put_more u v))))
+      pub slip-put : (o₄ : Sheet) (i n p k m : ℕ) → k ≡ sign_of m → Writes 4 (column 4 i) s o → Writes 4 (column 4 n) o o₁ →
+          Writes 5 (column 5 p) o₁ o₂ → Writes 1 (blank ∷ []) o₂ o₃ → Writes 1 (k ∷ []) o₃ o₄ → Writes 1 (lf ∷ []) o₄ r →
+          Writes slip_size (slip_line i n p (sign_of m)) s r
+      slip-put o₄ i n p k m e a b c d f g =
+          rw (← e) (writes_more a (writes_more b (writes_more c (writes_more d (writes_more f g)))))
 
-      pub slip-put : (o₆ : List ℕ) (n₅ i n p k m : ℕ) → k ≡ sign_of m → Wrote at 4 (column 4 i) o o₁ n₁ → Wrote n₁ 4 (column 4 n) o₁ o₂ n₂ →
-          Wrote n₂ 5 (column 5 p) o₂ o₃ n₃ → Wrote n₃ 1 (blank ∷ []) o₃ o₄ n₄ → Wrote n₄ 1 (k ∷ []) o₄ o₅ n₅ → Wrote n₅ 1 (lf ∷ []) o₅ o₆ r →
-          Wrote at slip_size (slip_line i n p (sign_of m)) o o₆ r
-      slip-put o₆ n₅ i n p k m e a b c d f g = rw (← e) (put_more a (put_more b (put_more c (put_more d (put_more f g)))))
+pub compose_put : {s o o₁ o₂ o₃ r : Sheet} (b : ℕ) (c : Composed) (es js ps t : List ℕ) → Headed b c s o →
+    Writes (slip_size * c.slips) (lines (slip_line_at es ps) c.slips) o o₁ → Writes (join_size * c.joins) (lines (join_line_at js) c.joins) o₁ o₂ →
+    Writes (length t) t o₂ o₃ → Writes 1 (lf ∷ []) o₃ r →
+    Writes (head_size b + (slip_size * c.slips + (join_size * c.joins + (length t + 1)))) (compose_lines b c es js ps t) s r
+compose_put b c es js ps t p q x u v = writes_more p.wrote (writes_more q (writes_more x (writes_more u v)))
 
-pub find_all : (r n₁ n m k : ℕ) (o o₁ o₂ ns : List ℕ) → Wrote 0 find_size (find_line n m k) o o₁ n₁ →
-    Wrote n₁ (found_size * k) (lines (found_line_at ns) k) o₁ o₂ r → Printed (find_lines n m k ns) o o₂ r
-find_all r n₁ n m k o o₁ o₂ ns p q = printed _ r _ o o₂ (put_more p q)
+pub find_all : {s o r : Sheet} (n m k : ℕ) (ns : List ℕ) → Writes find_size (find_line n m k) s o →
+    Writes (found_size * k) (lines (found_line_at ns) k) o r → Writes (find_size + found_size * k) (find_lines n m k ns) s r
+find_all n m k ns p q = writes_more p q
 
-pub join-put : (at r n l x s : ℕ) (o o₁ o₂ : List ℕ) → Wrote at 12 (three_columns 4 l x s) o o₁ n → Wrote n 1 (lf ∷ []) o₁ o₂ r →
-    Wrote at join_size (join_line l x s) o o₂ r
-join-put at r n l x s o o₁ o₂ p q = simp append_assoc at (put_more p q)
-
--- what compose_lines asks, for the counts as the code has them
-module _ (c : Composed) (es js ps t : List ℕ) (room k : ℕ) (F : ComposeAsks c es js ps t room) where
-  pub slips_whole : k ≡ c.slips → SlipsFit es ps k
-  slips_whole e = rw e F.slips
-
-  pub joins_whole : k ≡ c.joins → JoinsFit js k
-  joins_whole e = rw e F.joins
+pub join-put : (s o r : Sheet) (l x n : ℕ) → Writes 12 (three_columns 4 l x n) s o → Writes 1 (lf ∷ []) o r → Writes join_size (join_line l x n) s r
+join-put s o r l x n p q = simp append_assoc at (writes_more p q)

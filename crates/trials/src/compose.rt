@@ -73,7 +73,7 @@ fn try_flat(tray: Tray, rooms: Rooms, lists: Lists) {
     let legend = part(&mut legend, rooms.legend);
     let joins = part(&mut joins, lists.joins);
     let places = part(&mut places, lists.places);
-    let a = flat_calls::compose_flat(
+    let a = Composed::from(flat_calls::compose_flat(
         tray.letters,
         tray.ends,
         tray.sides,
@@ -82,7 +82,7 @@ fn try_flat(tray: Tray, rooms: Rooms, lists: Lists) {
         legend,
         joins,
         places,
-    );
+    ));
     io::write_all(1, b"C");
     answer(a);
     bracketed(part(legend, a.legend));
@@ -107,7 +107,7 @@ fn try_records<const N: usize>(tray: Tray, rooms: Rooms)
         [JOIN_MARK; N],
         [PLACE_MARK; N],
     );
-    let a = made.answer;
+    let a = Composed::from(made.answer);
     io::write_all(1, b" R");
     answer(a);
     lent(

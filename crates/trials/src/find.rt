@@ -2,8 +2,9 @@
 ghost use Rattle.std.specs.Prelude.{◌<◌, ◌^◌};
 
 use crate::rooms::WORK;
-use answers::{Found, MAX_TEXT, Search};
+use answers::{Found, Search};
 use arrayvec::ArrayVec;
+use trays::MAX_TEXT;
 use trials_lines::fields::Fields;
 use trials_lines::room::{CELL_MARK, part};
 use trials_lines::tray::{LETTERS, Tray};
@@ -49,7 +50,7 @@ fn try_flat(tray: Tray, text: &[u8], rooms: Rooms) {
     let list = part(&mut list, rooms.list);
     let a = flat_calls::find_flat(tray.letters, tray.ends, text, work, list);
     io::write_all(1, b"F");
-    answer(a, sums::of(list), work);
+    answer(Search::from(a), sums::of(list), work);
 }
 
 // Over a list of this many records.
@@ -60,7 +61,7 @@ fn try_records<const N: usize>(tray: Tray, text: &[u8], rooms: Rooms)
     let work = part(&mut work, rooms.work);
     let made = trials_records::find(tray.letters, tray.ends, text, work, [FOUND_MARK; N]);
     io::write_all(1, b" R");
-    answer(made.answer, sums::of(&made.found), work);
+    answer(Search::from(made.answer), sums::of(&made.found), work);
 }
 
 fn try_text(tray: Tray, text: &[u8], rooms: Rooms) {

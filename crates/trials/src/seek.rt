@@ -20,14 +20,14 @@ fn try_tray(tray: Tray, rooms: Rooms) {
     let mut legend = [BYTE_MARK; LEGEND];
     let work = part(&mut work, rooms.work);
     let legend = part(&mut legend, rooms.legend);
-    let a = shortest_legend::shortest_legend(
+    let a = Shortest::from(shortest_legend::shortest_legend(
         tray.letters,
         tray.ends,
         tray.sides,
         rooms.settings,
         work,
         legend,
-    );
+    ));
     answer(a);
     bracketed(part(legend, a.legend));
     put(sums::of(legend));

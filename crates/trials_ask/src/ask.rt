@@ -1,5 +1,6 @@
 // Asking of a tray: whether it is accepted, one slip, and one pair. Sides are handed in for the pair alone.
 use crate::calls;
+use trays::Refusal;
 use trials_lines::fields::Fields;
 use trials_lines::tray::Tray;
 use trials_lines::writing::{bracketed, put_all, refusal};
@@ -13,8 +14,9 @@ struct Asked {
 }
 
 fn check(tray: Tray) {
-    let fault = tray_check::check_tray(tray.letters, tray.ends);
-    refusal(fault.number, fault.detail);
+    let checked = tray_check::check_tray(tray.letters, tray.ends);
+    let answer = Refusal::from(checked.map(|_| ()));
+    refusal(answer.number, answer.detail);
 }
 
 fn slip(tray: Tray, i: u32) {
@@ -47,8 +49,7 @@ pub fn row(mut fields: Fields, sided: bool) {
 // Writes a byte if a tray of that one letter is accepted.
 fn sign(byte: u8) {
     let one = [byte];
-    let fault = tray_check::check_tray(&one, &[1]);
-    if fault.number == 0 {
+    if tray_check::check_tray(&one, &[1]).is_ok() {
         io::write_all(1, &one);
     }
 }

@@ -3,6 +3,7 @@
 #![tactic(auto)]
 
 use arrayvec::ArrayVec;
+use trays::{Located, Refusal};
 use trials_lines::fields::Fields;
 use trials_lines::room::{CELL_MARK, part};
 use trials_lines::sums;
@@ -13,8 +14,9 @@ use trials_lines::writing::{put, put_all, refusal};
 fn build(tray: Tray, room: u32) {
     let mut index = [CELL_MARK; SLIPS];
     let index = part(&mut index, room);
-    let fault = tray_index::build_index(tray.letters, tray.ends, tray.sides, index);
-    refusal(fault.number, fault.detail);
+    let built = tray_index::build_index(tray.letters, tray.ends, tray.sides, index);
+    let answer = Refusal::from(built);
+    refusal(answer.number, answer.detail);
     put(sums::of(index));
 }
 
@@ -25,26 +27,18 @@ fn entries(list: &[u16]) {
     io::write_all(1, b"]");
 }
 
-// The stretch itself. The two lent numbers hold 255 before, so that it shows if they are not written.
+// The stretch itself, empty where it is refused.
 fn stretch(tray: Tray, index: &[u16], typed: &[u8]) {
-    let mut number: u8 = 255;
-    let mut detail: u32 = 255;
-    let found = tray_index::beginning(
-        tray.letters,
-        tray.ends,
-        tray.sides,
-        index,
-        typed,
-        &mut number,
-        &mut detail,
-    );
-    refusal(number, detail);
-    entries(found);
+    let found = tray_index::beginning(tray.letters, tray.ends, tray.sides, index, typed);
+    let answer = Refusal::from(found.map(|_| ()));
+    refusal(answer.number, answer.detail);
+    entries(found.unwrap_or(&[]));
 }
 
 // Where the stretch starts and ends.
 fn place(tray: Tray, index: &[u16], typed: &[u8]) {
-    let found = tray_index::beginning_place(tray.letters, tray.ends, tray.sides, index, typed);
+    let answer = tray_index::beginning_place(tray.letters, tray.ends, tray.sides, index, typed);
+    let found = Located::from(answer);
     refusal(found.number, found.detail);
     put(found.start);
     put(found.end);

@@ -18,6 +18,6 @@ pub fn each_read<const ROOM: usize, R: Read, F: Fn(&[u8])>(reader: &mut R, row: 
     requires size { ROOM < 2 ^ 32 }
 {
     let mut buf = [0; ROOM];
-    let came = input::read_all(reader, &mut buf);
-    each(&buf[..came.count], row);
+    let n = input::count_of(input::read_all(reader, &mut buf));
+    each(&buf[..n], row);
 }

@@ -3,14 +3,15 @@
 
 ghost use Rattle.answers.specs.Records.{ComposeSays};
 ghost use Rattle.answers.specs.Finding.{FindSays};
+ghost use Rattle.answers.specs.Told.{composed_from, search_from};
 
-use answers::{Composed, Found, Join, Place, Search};
-use trays::Settings;
+use answers::{ComposeCounts, FindCounts, Found, Join, Place};
+use trays::{Fault, Settings};
 
 // The answer of composing, and the two lists after the call. Many a tray overfills lists of two records.
 #[derive(Drop)]
 pub struct Composition<const N: usize> {
-    pub answer: Composed,
+    pub answer: Result<ComposeCounts, Fault>,
     pub joins: [Join; N],
     pub places: [Place; N],
 }
@@ -18,7 +19,7 @@ pub struct Composition<const N: usize> {
 // The answer of finding, and the list after the call.
 #[derive(Drop)]
 pub struct Finding<const N: usize> {
-    pub answer: Search,
+    pub answer: Result<FindCounts, Fault>,
     pub found: [Found; N],
 }
 
@@ -33,7 +34,7 @@ pub fn compose<const N: usize>(
     mut places: [Place; N],
 ) -> Composition<N>
     ensures { ComposeSays settings letters.now ends.now sides.now work.old work.new
-        legend.old legend.new joins.entry result.joins places.entry result.places result.answer }
+        legend.old legend.new joins.entry result.joins places.entry result.places (composed_from result.answer) }
 {
     let answer = compose_tray::compose_tray(
         letters,
@@ -60,7 +61,7 @@ pub fn find<const N: usize>(
     mut found: [Found; N],
 ) -> Finding<N>
     ensures { FindSays letters.now ends.now text.now work.old work.new
-        found.entry result.found result.answer }
+        found.entry result.found (search_from result.answer) }
 {
     let answer = find_slips::find_slips(letters, ends, text, work, &mut found);
     Finding { answer, found }

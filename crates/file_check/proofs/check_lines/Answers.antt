@@ -1,21 +1,25 @@
--- Each turn: the line that `next` hands out is the one at which the reader stands, so the check has come one line further, nearer to the end.
+-- The line that `next` hands out is the one at which the reader stands.
 use Rattle.std.proofs.Common.{ap, ◌∙◌}
-use Rattle.file_check.proofs.CheckTurns.{keeps, nearer}
+use Rattle.file_check.proofs.CheckTurns.{goes_on, ends_bad, ends_good}
 use Rattle.file_check.proofs.check_lines.Goals as goal
 
-pub loop-state-smaller : goal.loop-state-smaller
-loop-state-smaller c =
-    let g = c.loop-state.invariant.through.going c.loop-state-test.true in
-    let e = rw c.loop-state.invariant.file_is at c.next-line.ensures.line-is in
-    rw c.next-line.ensures.at_is (nearer c.args.file.now c.loop-state.reader.at c.loop-state.state c.next-line.result g e)
+pub returns-then-line-ne0 : goal.returns-then-line-ne0
+returns-then-line-ne0 c =
+    let e = rw c.loop-reader.invariant.file_is at c.next-line.ensures.line-is in
+    c.refuse.ensures
+    ∙ ends_bad c.args.file.now c.loop-reader.reader.at c.loop-reader.k c.next-line.result c.loop-reader.invariant.passed c.loop-reader-test.true e
+    c.if-line-ne0.true
 
-pub loop-state-preserved : goal.loop-state-preserved
-loop-state-preserved c =
-    let g = c.loop-state.invariant.through.going c.loop-state-test.true in
-    let e = rw c.loop-state.invariant.file_is at c.next-line.ensures.line-is in
+pub loop-reader-preserved : goal.loop-reader-preserved
+loop-reader-preserved c =
+    let e = rw c.loop-reader.invariant.file_is at c.next-line.ensures.line-is in
     record {
-      file_is = ap (λ f. f.now) c.next-line.ensures.file_is ∙ c.loop-state.invariant.file_is;
-      through =
-          rw (c.next-line.ensures.at_is, c.judge-judged.ensures)
-          (keeps c.args.file.now c.loop-state.reader.at c.loop-state.state c.next-line.result g e);
+      file_is = ap (λ f. f.now) c.next-line.ensures.file_is ∙ c.loop-reader.invariant.file_is;
+      passed =
+          rw c.next-line.ensures.at_is
+          (goes_on c.args.file.now c.loop-reader.reader.at c.loop-reader.k c.next-line.result c.loop-reader.invariant.passed c.loop-reader-test.true e
+          c.if-line-ne0.false);
     }
+
+pub returns : goal.returns
+returns c = c.refuse-2.ensures ∙ ends_good c.args.file.now c.loop-reader.reader.at c.loop-reader.k c.loop-reader.invariant.passed c.loop-reader-test.false

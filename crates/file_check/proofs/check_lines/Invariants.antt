@@ -1,13 +1,13 @@
--- The reader stands at `at` in the file, and the check has come to `state`: CheckTurns' Through. The measure is what is left behind `at`.
+-- The reader stands at `at` in the file, before line k, and no line before that has a fault: CheckTurns' Passed. The measure is what is left behind `at`.
 use Rattle.std.proofs.Common.{◌≡◌, length, ◌-◌}
-use Rattle.file_check.proofs.CheckTurns.{Through}
+use Rattle.file_check.proofs.CheckTurns.{Passed}
 use Rattle.file_check.proofs.check_lines.Given as goal
 
-abbrev pub invariant-loop-state : goal.invariant-loop-state
-invariant-loop-state l = record {
+abbrev pub invariant-loop-reader : goal.invariant-loop-reader
+invariant-loop-reader l = record {
   file_is : l.reader.file.now ≡ l.file;
-  through : Through l.file l.reader.at l.state;
+  passed : Passed l.file l.reader.at l.k;
 }
 
-abbrev pub decreases-loop-state : goal.decreases-loop-state
-decreases-loop-state l = length l.file - l.reader.at
+abbrev pub decreases-loop-reader : goal.decreases-loop-reader
+decreases-loop-reader l = length l.file - l.reader.at

@@ -1,18 +1,15 @@
-use Rattle.file_line.proofs.Fields.{field-blank, field-digits, field_leading, field-zero, field_none}
-use borrow.Author.Rules.{rules}
+use Rattle.file_line.proofs.Fields.{field_none, field-digits}
 use Rattle.file_line.proofs.field.Goals as goal
+use Rattle.file_line.proofs.field.Goals.{else-digits-gt1-via-then-digits-gt1+else-digits-eq48, else-digits-gt1-via-else-digits-gt1}
 
-pub loop-i-preserved : goal.loop-i-preserved
-loop-i-preserved c = (search rules, search field-blank)
-
-pub returns-then-c-ne48 : goal.returns-then-c-ne48
-returns-then-c-ne48 c = search field-digits
-
-pub returns-then-i-columns : goal.returns-then-i-columns
-returns-then-i-columns c = search field_leading
-
-pub returns-else-c-eq-BLANK : goal.returns-else-c-eq-BLANK
-returns-else-c-eq-BLANK c = search field-zero
+pub returns-in_err-start : goal.returns-in_err-start
+returns-in_err-start c = rw c.from_residual.ensures (field_none c.args.columns.now c.in_err-start.ensures)
 
 pub returns : goal.returns
-returns c = search field_none
+returns c =
+    elim c.else-digits-gt1.branch [
+      | else-digits-gt1-via-then-digits-gt1+else-digits-eq48 w ↦
+          field-digits c.args.columns.now c.in_ok-start.start c.in_ok-start.ensures _ (λ z. absurd (w.if-digits-eq48.false z)) c.number.ensures
+      | else-digits-gt1-via-else-digits-gt1 w ↦
+          field-digits c.args.columns.now c.in_ok-start.start c.in_ok-start.ensures _ (λ z. w.if-digits-gt1.false) c.number.ensures
+    ]

@@ -1,9 +1,6 @@
 use Rattle.file_line.proofs.LineEnds.{end_within}
-use Rattle.file_line.proofs.LineRows.{parse_behind, parse_line}
+use Rattle.file_line.proofs.LineRows.{parse_line}
 use Rattle.file_line.proofs.line_at.Goals as goal
-
-pub returns-then-file-at : goal.returns-then-file-at
-returns-then-file-at c = search parse_behind
 
 pub slice_bounds-line_fault-end : goal.slice_bounds-line_fault-end
 slice_bounds-line_fault-end c = search end_within

@@ -1,8 +1,13 @@
--- What one read answers.
---   More done size r  == r counts the `done` bytes that had come and those that came now, within the size of the buffer
-use Rattle.std.specs.Prelude.{ℕ, ◌≤◌}
-use Rattle.input.specs.declared.Came.{Came}
+-- What reading answers.
+--   came r            == how many bytes came, also before a read that failed
+--   More done size n  == n counts the `done` bytes that had come and those that came now, within the size of the buffer
+use Rattle.std.specs.Prelude.{ℕ, ◌≤◌, Result, Ok, Err}
+use Rattle.input.specs.declared.Failed.{Failed}
 
-pub record More (done size : ℕ) (r : Came) : Type 0 where
-  pub from : done ≤ r.count
-  pub within : r.count ≤ size
+abbrev pub came : Result ℕ Failed → ℕ
+came (Ok n) = n
+came (Err f) = f.count
+
+pub record More (done size n : ℕ) : Type 0 where
+  pub from : done ≤ n
+  pub within : n ≤ size

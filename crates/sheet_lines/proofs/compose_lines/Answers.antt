@@ -1,12 +1,10 @@
-use Rattle.sheet_lines.proofs.Lines.{compose_put, slips_whole, joins_whole}
-use borrow.Author.Rules.{rules}
+use Rattle.std.proofs.Common.{rules, refl}
+use Rattle.sheet_lines.proofs.Lines.{shown, compose_put}
 use Rattle.sheet_lines.proofs.compose_lines.Goals as goal
 
-pub slip_lines-pairs-requires : goal.slip_lines-pairs-requires
-slip_lines-pairs-requires c = (search slips_whole, search rules)
-
-pub join_lines-text-requires : goal.join_lines-text-requires
-join_lines-text-requires c = (search joins_whole, search rules)
-
 pub returns : goal.returns
-returns c = search compose_put
+returns c =
+    shown refl
+    (compose_put c.args.side c.args.c c.args.ends.now c.args.joins.now c.args.records.now c.args.legend.now c.tray_line.ensures c.slip_lines.ensures
+    c.join_lines.ensures c.text.ensures c.byte.ensures)
+    (search rules)

@@ -1,11 +1,8 @@
--- Invariant: the lines of the first i joins stand in `out` from `at` up to `next`, and the rest of `out` is as it was.
-use Prim.Native.Nat.{◌-◌, ◌*◌, ◌≤◌}
+-- Invariant: the lines of the first i joins are written.
+use Prim.Native.Nat.{◌*◌}
 use Rattle.sheet_rule.specs.Sheets.{join_size, lines, join_line_at}
-use Rattle.sheet_columns.specs.Steps.Wrote.{Wrote}
+use Rattle.sheet_columns.specs.Steps.Wrote.{Writes}
 use Rattle.sheet_lines.proofs.join_lines.Given as goal
 
 abbrev pub invariant-loop-i : goal.invariant-loop-i
-invariant-loop-i l = (l.i ≤ l.n) × Wrote l.at (join_size * l.i) (lines (join_line_at l.joins) l.i) l.initial.out l.out l.next
-
-abbrev pub decreases-loop-i : goal.decreases-loop-i
-decreases-loop-i l = l.n - l.i
+invariant-loop-i l = Writes (join_size * l.i) (lines (join_line_at l.joins) l.i) l.initial.sheet l.sheet

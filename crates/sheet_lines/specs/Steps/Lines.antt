@@ -1,8 +1,8 @@
 -- What the functions that write lines into a lent buffer ask, and parts of lines that they write.
 --   three_columns w a b c    == three numbers, each in w columns
 --   head_end b               == the end of the header of side b: its mark, and LF; end_room == the bytes that it has at most
---   Ended b                 == it was written after the first `at` bytes of a buffer that held o; r is where the next byte goes
---   Headed b c              == so the header of side b with the numbers of the answer c
+--   Ended b s s'            == it was written as the next bytes of the sheet s, and made it s'
+--   Headed b c s s'         == so the header of side b with the numbers of the answer c
 --   ..Fits, ..Fit           == numbers that fit their columns
 --   ..Asks                  == what a function asks: such numbers, and room for the sheet
 use Rattle.std.specs.Prelude.{List, [], ◌∷◌, ◌++◌, ℕ, ◌+◌, ◌*◌, ◌^◌, ◌≤◌, ◌<◌, length, get_or}
@@ -11,7 +11,8 @@ use Rattle.answers.specs.Composing.{join_cells, record_cells}
 use Rattle.answers.specs.declared.Composed.{Composed}
 use Rattle.file_rule.specs.Lines.{lf}
 use Rattle.sheet_rule.specs.Sheets.{column, side_mark, side_line, mark_size, place_width, count_width, side_size, slip_size, join_size, find_size, found_size}
-use Rattle.sheet_columns.specs.Steps.Wrote.{Wrote}
+use Rattle.sheet_columns.specs.declared.Sheet.{Sheet}
+use Rattle.sheet_columns.specs.Steps.Wrote.{Writes}
 
 abbrev pub three_columns : ℕ → ℕ → ℕ → ℕ → List ℕ
 three_columns w a b c = column w a ++ (column w b ++ column w c)
@@ -22,16 +23,16 @@ head_end b = side_mark b ++ (lf ∷ [])
 abbrev pub end_room : ℕ
 end_room = mark_size + 1
 
-pub record Ended (b at : ℕ) (o o' : List ℕ) (r : ℕ) : Type 0 where
-  pub wrote : Wrote at (length (head_end b)) (head_end b) o o' r
+pub record Ended (b : ℕ) (s s' : Sheet) : Type 0 where
+  pub wrote : Writes (length (head_end b)) (head_end b) s s'
   pub most : length (head_end b) ≤ end_room
 
 -- TRAY, two counts in 4 columns each, three sums in 5 each, and the end
 abbrev pub head_size : ℕ → ℕ
 head_size b = 4 + (4 + (4 + (15 + length (head_end b))))
 
-pub record Headed (b : ℕ) (c : Composed) (at : ℕ) (o o' : List ℕ) (r : ℕ) : Type 0 where
-  pub wrote : Wrote at (head_size b) (side_line c.slips c.kept c.letters c.saved c.legend b) o o' r
+pub record Headed (b : ℕ) (c : Composed) (s s' : Sheet) : Type 0 where
+  pub wrote : Writes (head_size b) (side_line c.slips c.kept c.letters c.saved c.legend b) s s'
   pub most : length (head_end b) ≤ end_room
 
 -- the numbers of the header fit

@@ -1,2 +1,0 @@
--- Steps of the pass that checks a file.
-pub mod Checking
