@@ -9,14 +9,15 @@ use Prim.Native.Nat.{ℕ, suc, ◌+◌, ◌≤◌, ◌<◌}
 use native.Mathlib.Numerals.{add-one}
 use native.Mathlib.Omega.{arith}
 use lib.ListN.{length, drop, length-drop, drop_of_length-le}
-use Rattle.trays.specs.Faults.{refusal, accepted, or_else}
-use Rattle.trays.proofs.Rows.{or_zero, or_some}
+use Rattle.trays.specs.Faults.{accepted, or_else}
+use Rattle.trays.specs.Told.{told, verdict}
+use Rattle.trays.specs.declared.fault.Fault.{Fault}
+use Rattle.trays.proofs.Told.{told-first, told_next}
 use Rattle.file_rule.specs.declared.Line.{Line}
 use Rattle.file_rule.specs.Lines.{lines_of, first_line}
 use Rattle.file_rule.specs.Faults.{line_fault, lines_fault}
 use Rattle.file_rule.proofs.FirstLines.{lines_at, first-length, first_some}
-use Rattle.file_rule.proofs.LineFaults.{fault_detail}
-use Rattle.file_line.specs.Steps.Parsed.{line_at}
+use Rattle.file_line.specs.Steps.Parsed.{IsLine}
 
 pub record Passed (s : List ℕ) (at k : ℕ) : Type 0 where
   pub within : at ≤ length s
@@ -26,15 +27,12 @@ pub record Passed (s : List ℕ) (at k : ℕ) : Type 0 where
 pub ends_good : (s : List ℕ) (at k : ℕ) → Passed s at k → length s ≤ at → accepted ≡ lines_fault 1 (lines_of s)
 ends_good s at k p h = rw (p.same, drop_of_length-le s h)
 
-module _ (s : List ℕ) (at k : ℕ) (l : Line) (p : Passed s at k) (g : at < length s) (e : l ≡ line_at s at k) where
+module _ (s : List ℕ) (at k : ℕ) (l : Line) (p : Passed s at k) (g : at < length s) (e : IsLine s at k l) where
   abbrev line : List ℕ
   line = first_line (drop at s)
 
-  fault_is : (line_fault k line).number ≡ l.fault
-  fault_is = rw e
-
   next_is : l.next ≡ at + length line
-  next_is = rw e
+  next_is = e.next-is
 
   next_after : at < l.next
   next_after = omega (arith, next_is, g, first_some (drop at s) (rw length-drop (omega (arith, g))))
@@ -45,14 +43,12 @@ module _ (s : List ℕ) (at k : ℕ) (l : Line) (p : Passed s at k) (g : at < le
   faults_at : lines_fault 1 (lines_of s) ≡ or_else (line_fault k line) (lines_fault (suc k) (lines_of (drop (at + length line) s)))
   faults_at = p.same ∙ ap (lines_fault k) (lines_at s at g)
 
-  pub ends_bad : (l.fault ≡ 0 → ⊥) → refusal l.fault k ≡ lines_fault 1 (lines_of s)
-  ends_bad z =
-      let y : (line_fault k line).number ≡ 0 → ⊥ = λ q. z (sym fault_is ∙ q) in
-      rw (faults_at, or_some (line_fault k line) _ (omega arith), ← fault_is) (fault_detail k line y)
+  pub ends_bad : (f : Fault) → told f ≡ verdict l.checked → told f ≡ lines_fault 1 (lines_of s)
+  ends_bad f z = told-first f _ _ (z ∙ e.fault-is) ∙ sym faults_at
 
-  pub goes_on : l.fault ≡ 0 → Passed s l.next (k + 1)
+  pub goes_on : accepted ≡ verdict l.checked → Passed s l.next (k + 1)
   goes_on z = record {
     within = next_within;
     few = omega (arith, p.few, next_after);
-    same = rw (add-one k, next_is) (faults_at ∙ or_zero _ _ (fault_is ∙ z));
+    same = rw (add-one k, next_is) (faults_at ∙ sym (told_next _ _ (z ∙ e.fault-is)));
   }

@@ -3,9 +3,9 @@
 use Rattle.std.specs.Prelude.{◌≡◌, ℕ}
 use Rattle.file_rule.specs.declared.Line.{Line}
 use Rattle.file_rule.specs.declared.Reader.{Reader}
-use Rattle.file_line.specs.Steps.Parsed.{line_at}
+use Rattle.file_line.specs.Steps.Parsed.{IsLine}
 
 pub record Handed (r r' : Reader) (k : ℕ) (l : Line) : Type 0 where
-  pub line-is : l ≡ line_at r.file.now r.at k
+  pub line-is : IsLine r.file.now r.at k l
   pub file_is : r'.file ≡ r.file
   pub at_is : r'.at ≡ l.next

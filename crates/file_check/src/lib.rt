@@ -3,15 +3,16 @@
 
 ghost use Rattle.std.specs.Prelude.{◌≡◌, ◌≤◌, length};
 ghost use Rattle.trays.specs.Limits.{max_file};
+ghost use Rattle.trays.specs.Told.{verdict};
 ghost use Rattle.file_rule.specs.Lines as L;
 ghost use Rattle.file_rule.specs.Faults as F;
 ghost use Rattle.file_check.specs.Readers.{Handed};
 
 use file_rule::{Line, Reader};
-use trays::{Refusal, refuse};
+use trays::Fault;
 
 // The line at which a reader stands, as line k. The reader moves past it, past a bad line too.
-fn next<'s, 'a>(r: &'s mut Reader<'a>, k: usize) -> Line
+fn next<'s, 'a>(r: &'s mut Reader<'a>, k: u32) -> Line
     ensures { Handed r.old r.new k result }
 {
     let line = file_line::line_at(r.file, r.at, k);
@@ -20,19 +21,17 @@ fn next<'s, 'a>(r: &'s mut Reader<'a>, k: usize) -> Line
 }
 
 // Refusals 17, 18, 19 of the first bad line: one reader goes through the file.
-pub fn check_lines(file: &[u8]) -> Refusal
+pub fn check_lines(file: &[u8]) -> Result<(), Fault>
     requires { length file.now ≤ max_file }
-    ensures { result ≡ F.lines_fault 1 (L.lines_of file.now) }
+    ensures { verdict result ≡ F.lines_fault 1 (L.lines_of file.now) }
 {
     let mut reader = Reader { file, at: 0 };
-    let mut k: usize = 1;
+    let mut k: u32 = 1;
     // kept: each line says where the next one starts, so there is no range to go over
     while reader.at < file.len() {
         let line = next(&mut reader, k);
-        if line.fault != 0 {
-            return refuse(line.fault, k as u32);
-        }
+        line.checked?;
         k += 1;
     }
-    refuse(0, 0)
+    Ok(())
 }

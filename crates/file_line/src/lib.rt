@@ -4,9 +4,11 @@
 ghost use Rattle.std.specs.Prelude.{◌≡◌, ◌==◌, not, ◌+◌, ◌≤◌, length, drop, position};
 ghost use Rattle.file_rule.specs.Lines as L;
 ghost use Rattle.file_rule.specs.Faults as F;
-ghost use Rattle.file_line.specs.Steps.Parsed.{line_at, plus_one};
+ghost use Rattle.trays.specs.Told.{verdict};
+ghost use Rattle.file_line.specs.Steps.Parsed.{IsLine, plus_one};
 
 use file_rule::{BLANK, LF, Line};
+use trays::Fault;
 
 // Where the side and the letters of a line start, counted from 0: columns 9 and 10.
 pub const SIDE_COLUMN: usize = 8;
@@ -48,24 +50,24 @@ fn field(columns: &[u8]) -> Option<usize>
     number(digits)
 }
 
-// What refuses a line, with its LF, as line k: 17, 18, 19, or 0.
-fn line_fault(line: &[u8], k: usize) -> u8
-    ensures { result ≡ (F.line_fault k line.now).number }
+// Refusals 17, 18, 19 of a line, with its LF, as line k.
+fn check_line(line: &[u8], k: u32) -> Result<(), Fault>
+    ensures { verdict result ≡ F.line_fault k line.now }
 {
     let n = line.len();
     if n < 10 || line[n - 1] != LF || !tray_check::is_side(line[SIDE_COLUMN]) {
-        return 17;
+        return Err(Fault::BadLine(k));
     }
     let (Some(slip), Some(stated)) = (field(&line[..4]), field(&line[4..8])) else {
-        return 17;
+        return Err(Fault::BadLine(k));
     };
-    if slip != k {
-        return 18;
+    if slip != k as usize {
+        return Err(Fault::WrongSlipNumber(k));
     }
     if stated != n - 10 {
-        return 19;
+        return Err(Fault::WrongLength(k));
     }
-    0
+    Ok(())
 }
 
 // Where the first LF of a text stands.
@@ -96,16 +98,16 @@ pub fn line_end(file: &[u8], at: usize) -> usize
 }
 
 // The line parser: line k, which starts at a place of the file. Behind the file's end the line is empty.
-pub fn line_at(file: &[u8], at: usize, k: usize) -> Line
-    ensures { result ≡ line_at file.now at k }
+pub fn line_at(file: &[u8], at: usize, k: u32) -> Line
+    ensures { IsLine file.now at k result }
 {
     if file.len() <= at {
         return Line {
-            fault: 17,
+            checked: Err(Fault::BadLine(k)),
             next: at,
         };
     }
     let next = line_end(file, at);
-    let fault = line_fault(&file[at..next], k);
-    Line { fault, next }
+    let checked = check_line(&file[at..next], k);
+    Line { checked, next }
 }

@@ -5,10 +5,10 @@ use Rattle.file_read.proofs.check_file.Goals as goal
 pub returns-then-letters-lt-MAX_FILE : goal.returns-then-letters-lt-MAX_FILE
 returns-then-letters-lt-MAX_FILE c =
     elim c.then-letters-lt-MAX_FILE.either [
-      | inl h ↦ place-letters _ _ _ _ _ c.refuse.ensures h
+      | inl h ↦ place-letters _ _ _ _ h
       | inr z ↦ elim z [
-        | inl p ↦ place-ends _ _ _ _ p.0 _ c.refuse.ensures p.1
-        | inr p ↦ place_sides _ _ _ _ p.0 p.1 _ c.refuse.ensures p.2
+        | inl p ↦ place-ends _ _ _ _ p.0 p.1
+        | inr p ↦ place_sides _ _ _ _ p.0 p.1 p.2
       ]
     ]
 

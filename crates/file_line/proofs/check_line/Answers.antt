@@ -1,9 +1,9 @@
 -- The facts under a pattern are listed: a search reads no field that is a function.
 use mathlib.Core.Path.{sym}
 use Rattle.file_line.proofs.LineRows.{line_short, line_open, line_side, line-number, line-length, line_good}
-use Rattle.file_line.proofs.line_fault.Goals as goal
-use Rattle.file_line.proofs.line_fault.Goals.{then-n-lt10-via-then-n-lt10, then-n-lt10-via-else-n-lt10+then-line-n-ne-LF}
-use Rattle.file_line.proofs.line_fault.Goals.{then-n-lt10-via-else-n-lt10+else-line-n-ne-LF+then-not-is_side}
+use Rattle.file_line.proofs.check_line.Goals as goal
+use Rattle.file_line.proofs.check_line.Goals.{then-n-lt10-via-then-n-lt10, then-n-lt10-via-else-n-lt10+then-line-n-ne-LF}
+use Rattle.file_line.proofs.check_line.Goals.{then-n-lt10-via-else-n-lt10+else-line-n-ne-LF+then-not-is_side}
 
 pub returns-then-n-lt10 : goal.returns-then-n-lt10
 returns-then-n-lt10 c =
