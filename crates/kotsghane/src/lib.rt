@@ -4,8 +4,8 @@
 ghost use Rattle.kotsghane.specs.Numbers.{SlipExported, PairExported, ReadExported, MergeExported, IndexExported, BeginningExported};
 ghost use Rattle.answers.specs.Exported.{ComposeExported, FindExported, ShortestExported};
 
-use tables::number;
-use trays::Settings;
+use answers::{Composed, Search, Shortest};
+use trays::{Located, Pair, Refusal, Settings, Written};
 
 // Composing the side named, where overlaps of fewer letters than the least count as empty. A join is three numbers (left slip, right slip, overlap), a record
 // of places five (the slip, its place, 1 if it is kept, the letters compared to find the place, and the side). The answer's number, detail, slips, kept slips,
@@ -27,9 +27,12 @@ pub extern "C" fn kotsghane_compose(
         legend.old legend.new joins.old joins.new places.old places.new answer.new }
 {
     let settings = Settings { least, side };
-    let r = flat_calls::compose_flat(letters, ends, sides, settings, work, legend, joins, places);
+    let composed = flat_calls::compose_flat(
+        letters, ends, sides, settings, work, legend, joins, places,
+    );
+    let r = Composed::from(composed);
     *answer = [
-        r.number as u32,
+        u32::from(r.number),
         r.detail,
         r.slips,
         r.kept,
@@ -57,23 +60,24 @@ pub extern "C" fn kotsghane_shortest(
         legend.old legend.new answer.new }
 {
     let settings = Settings { least, side };
-    let r = shortest_legend::shortest_legend(letters, ends, sides, settings, work, legend);
+    let shortest = shortest_legend::shortest_legend(letters, ends, sides, settings, work, legend);
+    let r = Shortest::from(shortest);
     let order = r.order;
     *answer = [
-        r.number as u32,
+        u32::from(r.number),
         r.detail,
         r.legend,
         r.count,
-        number(order[0]),
-        number(order[1]),
-        number(order[2]),
-        number(order[3]),
-        number(order[4]),
-        number(order[5]),
-        number(order[6]),
-        number(order[7]),
-        number(order[8]),
-        number(order[9]),
+        u32::from(order[0]),
+        u32::from(order[1]),
+        u32::from(order[2]),
+        u32::from(order[3]),
+        u32::from(order[4]),
+        u32::from(order[5]),
+        u32::from(order[6]),
+        u32::from(order[7]),
+        u32::from(order[8]),
+        u32::from(order[9]),
     ];
 }
 
@@ -90,8 +94,8 @@ pub extern "C" fn kotsghane_find(
     ensures { FindExported letters.now ends.now text.now work.old work.new
         found.old found.new answer.new }
 {
-    let r = flat_calls::find_flat(letters, ends, text, work, found);
-    *answer = [r.number as u32, r.detail, r.moves, r.count];
+    let r = Search::from(flat_calls::find_flat(letters, ends, text, work, found));
+    *answer = [u32::from(r.number), r.detail, r.moves, r.count];
 }
 
 // Where the letters of one slip start and end in those of the tray: number, detail, start and end are four numbers.
@@ -99,8 +103,8 @@ pub extern "C" fn kotsghane_find(
 pub extern "C" fn kotsghane_slip(letters: &[u8], ends: &[u16], slip: u32, answer: &mut [u32; 4])
     ensures { SlipExported letters.now ends.now slip answer.new }
 {
-    let r = tray_ask::slip_place(letters, ends, slip);
-    *answer = [r.number as u32, r.detail, r.start, r.end];
+    let r = Located::from(tray_ask::slip_place(letters, ends, slip));
+    *answer = [u32::from(r.number), r.detail, r.start, r.end];
 }
 
 // The overlap of a pair of slips, by the same rule, none if they are of different sides: number, detail and the letters shared are three numbers.
@@ -116,8 +120,8 @@ pub extern "C" fn kotsghane_pair(
 )
     ensures { PairExported least letters.now ends.now sides.now left right answer.new }
 {
-    let r = tray_ask::pair_overlap(letters, ends, sides, left, right, least);
-    *answer = [r.number as u32, r.detail, r.letters];
+    let r = Pair::from(tray_ask::pair_overlap(letters, ends, sides, left, right, least));
+    *answer = [u32::from(r.number), r.detail, r.letters];
 }
 
 // Reading a tray file into lent letters, ends and sides: number, detail, letters and slips are four numbers.
@@ -132,8 +136,8 @@ pub extern "C" fn kotsghane_read_tray(
     ensures { ReadExported file.now letters.old letters.new ends.old ends.new
         sides.old sides.new answer.new }
 {
-    let r = file_read::read_tray(file, letters, ends, sides);
-    *answer = [r.number as u32, r.detail, r.letters, r.slips];
+    let r = Written::from(file_read::read_tray(file, letters, ends, sides));
+    *answer = [u32::from(r.number), r.detail, r.letters, r.slips];
 }
 
 // Merging two trays into lent letters, ends and sides: the same four numbers.
@@ -154,11 +158,11 @@ pub extern "C" fn kotsghane_merge(
         sides2.now letters.old letters.new ends.old ends.new sides.old sides.new
         answer.new }
 {
-    let merged = merge_trays::merge_trays(
+    let merged = Written::from(merge_trays::merge_trays(
         letters1, ends1, sides1, letters2, ends2, sides2, letters, ends, sides,
-    );
+    ));
     *answer = [
-        merged.number as u32,
+        u32::from(merged.number),
         merged.detail,
         merged.letters,
         merged.slips,
@@ -177,8 +181,8 @@ pub extern "C" fn kotsghane_index(
     ensures { IndexExported letters.now ends.now sides.now index.old index.new
         answer.new }
 {
-    let built = tray_index::build_index(letters, ends, sides, index);
-    *answer = [built.number as u32, built.detail];
+    let built = Refusal::from(tray_index::build_index(letters, ends, sides, index));
+    *answer = [u32::from(built.number), built.detail];
 }
 
 // Where the slips that start with the typed letters start and end in the index: number, detail, start and end are four numbers.
@@ -194,6 +198,11 @@ pub extern "C" fn kotsghane_beginning(
     ensures { BeginningExported letters.now ends.now sides.now index.now typed.now
         answer.new }
 {
-    let found = tray_index::beginning_place(letters, ends, sides, index, typed);
-    *answer = [found.number as u32, found.detail, found.start, found.end];
+    let found = Located::from(tray_index::beginning_place(letters, ends, sides, index, typed));
+    *answer = [
+        u32::from(found.number),
+        found.detail,
+        found.start,
+        found.end,
+    ];
 }

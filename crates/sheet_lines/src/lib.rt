@@ -2,7 +2,7 @@
 #![tactic(auto)]
 
 ghost use Rattle.std.specs.Prelude.{◌≡◌, ◌+◌, ◌*◌, ◌^◌, ◌≤◌, ◌<◌, length};
-ghost use Rattle.trays.specs.Faults.{refusal};
+ghost use Rattle.trays.specs.Told.{told};
 ghost use Rattle.sheet_rule.specs.Sheets as S;
 ghost use Rattle.sheet_columns.specs.Steps.Wrote.{Room, Writes};
 ghost use Rattle.sheet_rule.specs.Lent as L;
@@ -11,7 +11,7 @@ ghost use Rattle.sheet_lines.specs.Steps.Lines as P;
 use answers::{Composed, JOIN_CELLS, RECORD_CELLS};
 use file_rule::{BLANK, LF};
 use sheet_columns::Sheet;
-use trays::BLANK_SIDE;
+use trays::{BLANK_SIDE, Fault, Refusal};
 
 // Columns of a slip's number or length, of a count of slips, and of a refusal's number.
 const SLIP_WIDTH: usize = 4;
@@ -188,14 +188,15 @@ pub fn find_lines(
 }
 
 // The line of a refusal. Answers how many bytes it has.
-pub fn refused_line(number: u8, detail: u32, out: &mut [u8]) -> usize
-    requires { (detail < 10 ^ S.detail_width) × (S.refused_size ≤ length out.old) }
-    ensures { L.Printed (S.refused_line (refusal number detail)) out.old out.new result }
+pub fn refused_line(fault: Fault, out: &mut [u8]) -> usize
+    requires { ((told fault).detail < 10 ^ S.detail_width) × (S.refused_size ≤ length out.old) }
+    ensures { L.Printed (S.refused_line (told fault)) out.old out.new result }
 {
+    let told = Refusal::from(fault);
     let mut sheet = Sheet { out, at: 0 };
     sheet.text(b"REFUSED");
-    sheet.number(SLIP_WIDTH, usize::from(number));
-    sheet.number(DETAIL_WIDTH, detail as usize);
+    sheet.number(SLIP_WIDTH, usize::from(told.number));
+    sheet.number(DETAIL_WIDTH, told.detail as usize);
     sheet.byte(LF);
     sheet.at
 }

@@ -23,10 +23,10 @@ pub fn compose_sheet(
         sides.old sides.new work.old work.new legend.old legend.new
         out.old out.new result }
 {
-    let read = file_read::read_tray(file, letters, ends, sides);
-    if read.number != 0 {
-        return sheet_lines::refused_line(read.number, read.detail, out);
-    }
+    let read = match file_read::read_tray(file, letters, ends, sides) {
+        Ok(size) => size,
+        Err(fault) => return sheet_lines::refused_line(fault, out),
+    };
     let n = read.letters as usize;
     let k = read.slips as usize;
     sheet_of_tray::tray_sheets(&letters[..n], &ends[..k], &sides[..k], work, legend, out)
@@ -49,12 +49,12 @@ pub fn find_sheet(
         ends.old ends.new sides.old sides.new work.old work.new
         found.old found.new out.old out.new result }
 {
-    let got = file_read::read_tray(tray, letters, ends, sides);
-    if got.number != 0 {
-        return sheet_lines::refused_line(got.number, got.detail, out);
-    }
-    let n = got.letters as usize;
-    let k = got.slips as usize;
+    let read = match file_read::read_tray(tray, letters, ends, sides) {
+        Ok(size) => size,
+        Err(fault) => return sheet_lines::refused_line(fault, out),
+    };
+    let n = read.letters as usize;
+    let k = read.slips as usize;
     let m = sheet_of_text::file_text(text);
     sheet_of_text::text_sheet(
         &letters[..n],

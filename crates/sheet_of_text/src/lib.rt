@@ -42,12 +42,12 @@ pub fn text_sheet(
     ensures { TextSheetSays letters.now ends.now text.now work.old work.new
         found.old found.new out.old out.new result }
 {
-    let a = flat_calls::find_flat(letters, ends, text, work, found);
-    if a.number != 0 {
-        return sheet_lines::refused_line(a.number, a.detail, out);
-    }
-    let moves = a.moves as usize;
-    let count = a.count as usize;
+    let counts = match flat_calls::find_flat(letters, ends, text, work, found) {
+        Ok(counts) => counts,
+        Err(fault) => return sheet_lines::refused_line(fault, out),
+    };
+    let moves = counts.moves as usize;
+    let count = counts.count as usize;
     let numbers = 2 * count;
     sheet_lines::find_lines(text.len(), moves, count, &found[..numbers], out)
 }

@@ -8,7 +8,7 @@ ghost use Rattle.sheet_rule.specs.Sides.{is_shown};
 ghost use Rattle.sheet_rule.specs.Lent.{TrayRoom};
 ghost use Rattle.sheet_of_tray.specs.Steps.Lent.{SideRoom, SideSheetSays, SheetAdded, TraySheetsSays};
 
-use answers::{JOIN_CELLS, RECORD_CELLS};
+use answers::{Composed, JOIN_CELLS, RECORD_CELLS, Room};
 use layout::{NAMED, RECORDS};
 use sheet_rule::SHEET_ROOM;
 use trays::{BLANK_SIDE, MAX_SLIPS, OBVERSE, REVERSE, Settings};
@@ -32,7 +32,12 @@ fn side_sheet(
         legend.old legend.new out.old out.new result }
 {
     let settings = Settings { least: 1, side };
-    let c = compose_side::compose_staged(letters, ends, sides, settings, work, legend, ROWS, ROWS);
+    let room = Room {
+        joins: ROWS,
+        places: ROWS,
+    };
+    let staged = compose_side::compose_staged(letters, ends, sides, settings, work, legend, room);
+    let c = Composed::from(staged);
     let joins = JOIN_CELLS * c.joins as usize;
     let records = RECORD_CELLS * c.slips as usize;
     let text = c.legend as usize;
@@ -100,9 +105,8 @@ pub fn tray_sheets(
     ensures { TraySheetsSays letters.now ends.now sides.now work.old work.new
         legend.old legend.new out.old out.new result }
 {
-    let fault = tray_check::check_sided_tray(letters, ends, sides, 1, BLANK_SIDE);
-    if fault.number != 0 {
-        return sheet_lines::refused_line(fault.number, fault.detail, out);
+    if let Err(fault) = tray_check::check_sided_tray(letters, ends, sides, 1, BLANK_SIDE) {
+        return sheet_lines::refused_line(fault, out);
     }
     let first = add_sheet(letters, ends, sides, BLANK_SIDE, work, legend, out, 0);
     let second = add_sheet(letters, ends, sides, OBVERSE, work, legend, out, first);
