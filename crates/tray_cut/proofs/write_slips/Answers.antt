@@ -8,7 +8,7 @@ loop-i-init c = search writing_none
 
 pub slip_part-part-requires : goal.slip_part-part-requires
 slip_part-part-requires c =
-    turn_real _ _ _ _ _ _ c.requires _ _ _ _ c.loop-i.invariant c.loop-i-test.true _ c.wide-slip.ensures.0
+    turn_real _ _ _ _ _ _ c.requires _ _ _ _ c.loop-i.invariant c.loop-i.in_bounds _ c.from.ensures
 
 pub slice_bounds-copy-count : goal.slice_bounds-copy-count
 slice_bounds-copy-count c = search turn_at
@@ -22,19 +22,19 @@ copy-at-requires c = search turn_room
 pub overflow_add-at : goal.overflow_add-at
 overflow_add-at c =
     -- the letters written so far and those of the slip are within the limit
-    let l = turn_small _ _ _ _ _ _ c.requires _ _ _ _ c.loop-i.invariant c.loop-i-test.true _ c.wide-slip.ensures.0 _ c.slip_part-part.ensures in
+    let l = turn_small _ _ _ _ _ _ c.requires _ _ _ _ c.loop-i.invariant c.loop-i.in_bounds _ c.from.ensures _ c.slip_part-part.ensures in
     record { fits = omega (arith, l, c.copy-at.ensures) }
 
 pub overflow_add-here : goal.overflow_add-here
 overflow_add-here c =
     -- the letters written so far and those of the slip are within the limit
-    let l = turn_small _ _ _ _ _ _ c.requires _ _ _ _ c.loop-i.invariant c.loop-i-test.true _ c.wide-slip.ensures.0 _ c.slip_part-part.ensures in
+    let l = turn_small _ _ _ _ _ _ c.requires _ _ _ _ c.loop-i.invariant c.loop-i.in_bounds _ c.from.ensures _ c.slip_part-part.ensures in
     record { fits = omega (arith, l, c.copy-at.ensures) }
 
 pub narrow-requires : goal.narrow-requires
 narrow-requires c =
     -- the letters written so far and those of the slip are within the limit
-    let l = turn_small _ _ _ _ _ _ c.requires _ _ _ _ c.loop-i.invariant c.loop-i-test.true _ c.wide-slip.ensures.0 _ c.slip_part-part.ensures in
+    let l = turn_small _ _ _ _ _ _ c.requires _ _ _ _ c.loop-i.invariant c.loop-i.in_bounds _ c.from.ensures _ c.slip_part-part.ensures in
     omega (arith, l, c.copy-at.ensures)
 
 pub bounds-bounds-i : goal.bounds-bounds-i

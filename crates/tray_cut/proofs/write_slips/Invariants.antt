@@ -7,5 +7,3 @@ use Rattle.tray_cut.proofs.write_slips.Given as goal
 abbrev pub invariant-loop-i : goal.invariant-loop-i
 invariant-loop-i l = Writing l.tray.letters.now l.tray.ends.now l.slips l.here l.initial.into l.initial.bounds l.into l.bounds l.at l.i
 
-abbrev pub decreases-loop-i : goal.decreases-loop-i
-decreases-loop-i l = length l.slips - l.i
