@@ -46,7 +46,7 @@ pub fn fill_kids(tray: Tray<'_>, work: &mut [u16], n: usize, nodes: usize)
     ensures { C.KidsFilled tray.entry.letters.now tray.entry.ends.now n nodes work.old work.new }
 {
     let mut u = 1;
-    for v in 0..=nodes + 1 {
+    for v in 0..nodes + 2 {
         while hangs_below(work, nodes, u, v) {
             u += 1;
         }
