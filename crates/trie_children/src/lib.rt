@@ -41,6 +41,7 @@ fn hangs_below(work: &[u16], nodes: usize, u: usize, v: usize) -> bool
 }
 
 // Fills KID: parents ascend with their children, so the children of `v` begin at the first node whose parent is not below `v`.
+// kept: the search for it goes on from where the last one stopped, so that all nodes are passed once
 pub fn fill_kids(tray: Tray<'_>, work: &mut [u16], n: usize, nodes: usize)
     requires { Numbered tray.letters.now tray.ends.now n nodes work.old }
     ensures { C.KidsFilled tray.entry.letters.now tray.entry.ends.now n nodes work.old work.new }
