@@ -1,17 +1,17 @@
 -- The overlap and whether its string counts; the overlap of two slips.
 use mathlib.Core.Path.{◌≡◌, sym, ◌∙◌}
-use mathlib.Core.Bool.{Bool, true, false}
+use mathlib.Core.Bool.{Bool, true}
 use mathlib.Core.List.{List}
-use Prim.Native.Nat.{ℕ, ◌≤◌, ◌<◌}
+use Prim.Native.Nat.{ℕ, ◌≤◌}
 use native.Mathlib.Omega.{arith}
 use lib.ListN.{length, take}
 use lib.Seq.{length-take-le}
 use Rattle.words.specs.Words.{overlap, overlap_for}
-use Rattle.words.proofs.Overlaps.{overlap-fits, overlap_for-yes, overlap_for_no, overlap_for-fits}
+use Rattle.words.proofs.Overlaps.{overlap-fits, overlap_for-yes, overlap_for-fits}
 use Rattle.trays.specs.Limits.{max_slip}
 use Rattle.trays.specs.Slips.{slips_of, slip}
 use Rattle.trays.specs.Aside.{not_stops, counted}
-use Rattle.trays.proofs.Stops.{counted_long, counted_short}
+use Rattle.trays.proofs.Stops.{counted_long}
 use Rattle.trays.proofs.Spans.{accepted_spanned}
 use Rattle.slips.specs.Pairs.{TwoSlips, Overlap}
 
@@ -19,16 +19,9 @@ module _ (m : ℕ) (a b : List ℕ) (n : ℕ) (e : n ≡ overlap a b) where
   pub overlap_inside : n ≡ length (take n b)
   overlap_inside = sym (length-take-le n b (omega (arith, overlap-fits a b)))
 
-  pub overlap_short : n < m → 0 ≡ overlap_for (counted m) a b
-  overlap_short h =
-      sym (overlap_for_no (counted m) a b (rw e at (counted_short m (take n b) (omega (arith, overlap_inside)))))
-
   module _ (l : m ≤ n) (r : Bool) (h : r ≡ not_stops (take n b)) where
     long : counted m (take n b) ≡ r
     long = counted_long m (take n b) (omega (arith, overlap_inside)) ∙ sym h
-
-    pub overlap_stops : r ≡ false → 0 ≡ overlap_for (counted m) a b
-    overlap_stops t = sym (overlap_for_no (counted m) a b (rw e at (long ∙ t)))
 
     pub overlap-counted : r ≡ true → n ≡ overlap_for (counted m) a b
     overlap-counted t = e ∙ sym (overlap_for-yes (counted m) a b (rw e at (long ∙ t)))

@@ -7,7 +7,6 @@ ghost use Rattle.trays.specs.Slips as S;
 ghost use Rattle.trays.specs.Aside.{counted};
 ghost use Rattle.slips.specs.Pairs.{TwoSlips, Overlap};
 
-use tables::wide;
 use trays::{Span, Tray, not_stops};
 
 // Where slip `slip` starts and ends in the letters of its tray.
@@ -15,13 +14,14 @@ pub fn slip_span(ends: &[u16], slip: usize) -> Span
     requires { (1 ≤ slip) × (slip ≤ length ends.now) }
     ensures { result ≡ S.span_of ends.now slip }
 {
-    let end = wide(ends[slip - 1]);
-    if slip == 1 {
-        return Span { start: 0, end };
-    }
+    let start = if slip == 1 {
+        0
+    } else {
+        usize::from(ends[slip - 2])
+    };
     Span {
-        start: wide(ends[slip - 2]),
-        end,
+        start,
+        end: usize::from(ends[slip - 1]),
     }
 }
 
@@ -31,9 +31,7 @@ pub fn slip_part<'a>(tray: Tray<'a>, slip: usize) -> &'a [u8]
     ensures { result.now ≡ S.slip (S.slips_of tray.entry.letters.now tray.entry.ends.now) slip }
 {
     let span = slip_span(tray.ends, slip);
-    let start = span.start;
-    let end = span.end;
-    &tray.letters[start..end]
+    &tray.letters[span.start..span.end]
 }
 
 // The overlap of two strings, 0 where it does not count: a shorter one is a prefix of it, and does not count either.
@@ -41,13 +39,10 @@ fn counted_overlap(a: &[u8], b: &[u8], least: usize) -> usize
     ensures { result ≡ overlap_for (counted least) a.now b.now }
 {
     let n = words::overlap(a, b);
-    if n < least {
+    if n < least || !not_stops(&b[..n]) {
         return 0;
     }
-    if not_stops(&b[..n]) {
-        return n;
-    }
-    0
+    n
 }
 
 // The same of two slips, which may be one.
@@ -55,7 +50,5 @@ pub fn slip_overlap(tray: Tray<'_>, left: usize, right: usize, least: usize) -> 
     requires { TwoSlips tray.letters.now tray.ends.now left right }
     ensures { Overlap least tray.entry.letters.now tray.entry.ends.now left right result }
 {
-    let a = slip_part(tray, left);
-    let b = slip_part(tray, right);
-    counted_overlap(a, b, least)
+    counted_overlap(slip_part(tray, left), slip_part(tray, right), least)
 }

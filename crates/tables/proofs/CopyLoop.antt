@@ -1,7 +1,7 @@
 -- The loop that copies cells: at its start, one turn, and its end.
-use mathlib.Core.Path.{◌≡◌, refl, ◌∙◌}
+use mathlib.Core.Path.{◌≡◌, refl}
 use mathlib.Core.List.{List}
-use Prim.Native.Nat.{ℕ, ◌+◌, ◌≤◌, ◌<◌}
+use Prim.Native.Nat.{ℕ, ◌+◌, ◌<◌}
 use native.Mathlib.Omega.{arith}
 use lib.ListN.{get_or, set}
 use Rattle.words.specs.Lists.{over}
@@ -19,6 +19,3 @@ cells_more w old out base i n a h e =
 pub cells_none : (w old : List ℕ) (base : ℕ) → old ≡ over (table w base 0) old
 unfolding table
 cells_none w old base = refl
-
-pub cells_all : (w old out : List ℕ) (base i n : ℕ) → i ≤ n → n ≤ i → out ≡ over (table w base i) old → out ≡ over (table w base n) old
-cells_all w old out base i n a b e = let q : i ≡ n = omega arith in e ∙ rw q

@@ -15,10 +15,10 @@ use Prim.Native.Nat.{ℕ, ◌+◌, ◌-◌, ◌≤◌, ◌<◌, min}
 use native.Mathlib.Decide.{dec_lt}
 use native.Mathlib.Numerals.{add-one}
 use native.Mathlib.Omega.{arith}
-use lib.ListN.{length, get_or, set, take, drop, length-take, length-drop, length-set, replicate, get_or-replicate, take-append-drop}
+use lib.ListN.{length, get_or, set, take, drop, length-take, length-drop, replicate, length-replicate, get_or-replicate, take-append-drop}
 use lib.Seq.{get_or-take, get_or-drop, get_or-set_same, get_or-set_other, take-set-lt, drop-set-add}
 use lib.Seq.{take-suc, take-suc-set, ext_get_or, take_all, length-take-le, take_at, drop_at, take-take}
-use borrow.Rule.Slice.PartMut.{mid_of, mid_len, same_len_mid, take_put, drop_put}
+use borrow.Rule.Slice.PartMut.{put_mid, mid_of, mid_len, same_len_mid, take_put, drop_put}
 use Rattle.words.specs.Lists.{over}
 use Rattle.tables.specs.Tables.{Put, table, Cells, Only, Filled}
 
@@ -68,9 +68,6 @@ pub only-table : {P : ℕ → Type 0} {w w' : List ℕ} (base n : ℕ) → Only 
 only-table {w = w} {w' = w'} base n f d = table_same w w' base n f.same (λ i h. f.kept (base + i) (d i h))
 
 -- one store, as `put` makes it
-pub put-set : (w : List ℕ) (base i x r : ℕ) → r ≡ x → Put w base i x (set w (base + i) r)
-put-set w base i x r e = record { is = rw e; same = length-set w (base + i) r }
-
 module _ {w w' : List ℕ} {base i x : ℕ} (p : Put w base i x w') where
   pub put_only : Only (λ k. k ≡ base + i) w w'
   put_only = record { same = p.same; kept = λ k n. rw (p.is, get_or-set_other w (base + i) k x 0 n) }
@@ -173,3 +170,11 @@ part_filled w base n e ys h room l =
           cells_outside (same_len_mid base (e - base) w ys (omega arith)) (take_put base (e - base) w ys (omega arith))
           (rw (← h) (drop_put base e w ys (omega arith) (omega arith) (omega arith)));
     }
+
+-- a table filled with 0, as a part of the work area
+pub part_cleared : (w : List ℕ) (base n : ℕ) (ys : List ℕ) → base + n ≤ length w → ys ≡ replicate (length (mid_of base (base + n - base) w)) 0 →
+    Filled base n (replicate n 0) w (put_mid base (base + n - base) w ys)
+part_cleared w base n ys h e =
+    let l : length (mid_of base (base + n - base) w) ≡ n = mid_len base (base + n) w h ∙ (omega arith) in
+    let f : ys ≡ replicate n 0 = rw l at e in
+    rw (← f) (part_filled w base n (base + n) ys refl h (rw (f, length-replicate)))

@@ -10,14 +10,14 @@ ghost use Rattle.tables.specs.Tables.{Got, Put, Room, Filled, table};
 pub fn wide(x: u16) -> usize
     ensures { (result ≡ x) × (result < 65536) }
 {
-    x as usize
+    usize::from(x)
 }
 
 // A cell as a number of 32 bits.
 pub fn number(x: u16) -> u32
     ensures { result ≡ x }
 {
-    x as u32
+    u32::from(x)
 }
 
 // A number of 32 bits as a count.
@@ -39,7 +39,7 @@ pub fn at(work: &[u16], base: usize, i: usize) -> usize
     requires { base + i < length work.now }
     ensures { Got work.now base i result }
 {
-    wide(work[base + i])
+    usize::from(work[base + i])
 }
 
 // Puts `x` into cell `i` of the table at `base`.
@@ -47,7 +47,7 @@ pub fn put(work: &mut [u16], base: usize, i: usize, x: usize)
     requires { Room work.old base i x }
     ensures { Put work.old base i x work.new }
 {
-    work[base + i] = narrow(x);
+    work[base + i] = x as u16;
 }
 
 // Puts 0 into the `n` cells of the table at `base`.
@@ -55,22 +55,16 @@ pub fn clear(work: &mut [u16], base: usize, n: usize)
     requires { base + n ≤ length work.old }
     ensures { Filled base n (replicate n 0) work.old work.new }
 {
-    let mut i = 0;
-    while i < n {
-        put(work, base, i, 0);
-        i += 1;
-    }
+    work[base..base + n].fill(0);
 }
 
-// Copies the first `n` cells of the table at `base` over the first part of `out`.
+// Copies the first `n` cells of the table at `base` over the first part of `out`. A table of no cells may begin past the work area.
 pub fn copy_cells(work: &[u16], base: usize, n: usize, out: &mut [u16])
     requires { CanCopy work.now base n out.old }
     ensures { out.new ≡ over (table work.now base n) out.old }
 {
-    let mut i: usize = 0;
-    while i < n {
+    for i in 0..n {
         out[i] = work[base + i];
-        i += 1;
     }
 }
 

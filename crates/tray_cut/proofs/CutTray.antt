@@ -3,16 +3,14 @@
 --   write_can        == they can be written there
 --   text-.., ends-.. == the parts of the arrays that are that tray
 --   cut_tray         == it is accepted; slips_cut == and its slips are the chosen ones
---   number_at        == the number that one of them had
 use mathlib.Core.Path.{◌≡◌, sym, ◌∙◌, ap}
 use mathlib.Core.List.{List}
-use Prim.Native.Nat.{ℕ, ◌-◌, ◌≤◌}
+use Prim.Native.Nat.{ℕ, ◌≤◌}
 use native.Mathlib.Omega.{arith}
-use lib.ListN.{length, get_or, take, replicate, length-map}
+use lib.ListN.{length, take, replicate, length-map}
 use lib.Seq.{take-append_seam}
-use Rattle.words.specs.Lists.{entry, over}
+use Rattle.words.specs.Lists.{over}
 use Rattle.words.proofs.Buffers.{length_over}
-use Rattle.words.proofs.Picks.{entry_at}
 use Rattle.words.proofs.Sums.{all_in}
 use Rattle.trays.specs.Limits.{max_slips, max_letters}
 use Rattle.trays.specs.Slips.{slips_of, slip, only}
@@ -83,7 +81,3 @@ module _ (s es M : List ℕ) (h : CanCut s es M) where
 
     pub slips_cut : slips_of (take n a) (take (length M) b) ≡ only (slips_of s es) M
     slips_cut = rw (letters-cut, ends-cut) (slips_written os)
-
--- the number of slip i is the one at i - 1
-pub number_at : (N : List ℕ) (i r : ℕ) → 1 ≤ i → r ≡ get_or N (i - 1) 0 → r ≡ entry N i
-number_at N i r h e = e ∙ entry_at N i h

@@ -1,34 +1,28 @@
 -- The loop that writes chosen slips of a tray, one after another.
 --   Writing s es M here a b a' b' at i == the slips of the first i numbers of M are written over a and b, and have `at` letters
---   writing_none, writing_more, writing_all == at the start, after one slip more, at the end
+--   writing_more == after one slip more
 --   turn-..  == what a turn asks of the next slip, and of the room for it
-use mathlib.Core.Path.{◌≡◌, refl, sym, ◌∙◌, ap}
+use mathlib.Core.Path.{◌≡◌, sym, ◌∙◌, ap}
 use mathlib.Core.List.{List, [], ◌∷◌, ◌++◌, map-append}
 use Prim.Native.Nat.{ℕ, suc, ◌+◌, ◌-◌, ◌≤◌, ◌<◌}
 use borrow.Rule.Slice.PartMut.{put_mid}
 use native.Mathlib.Numerals.{add-one}
 use native.Mathlib.Omega.{arith}
 use lib.ListN.{length, get_or, take, drop, set, length-append, length-drop, length-map, take-append-drop}
-use lib.Seq.{take-suc, take_all, take-length, drop-cons, length-take-le}
+use lib.Seq.{take-suc, take-length, drop-cons, length-take-le}
 use Rattle.words.specs.Lists.{over}
 use Rattle.words.proofs.Buffers.{length_over, over-set, rest_is, over_mid}
-use Rattle.words.proofs.Picks.{get_or_in}
-use Rattle.words.proofs.Sums.{all_at}
 use Rattle.trays.specs.Limits.{max_letters}
 use Rattle.trays.specs.Slips.{slip, slips_of, only}
-use Rattle.trays.specs.Faults.{tray_fault}
 use Rattle.trays.specs.Written.{letters_of, ends_from}
 use Rattle.trays.proofs.WrittenSlips.{length-ends, letters_append, letters_snoc, ends_snoc}
-use Rattle.tray_cut.specs.Choosing.{CanWrite, SlipsWritten}
+use Rattle.tray_cut.specs.Choosing.{CanWrite}
 
 pub record Writing (s es M : List ℕ) (here : ℕ) (a b a' b' : List ℕ) (at i : ℕ) : Type 0 where
   pub upto : i ≤ length M
   pub at_is : length (letters_of (only (slips_of s es) (take i M))) ≡ at
   pub letters_are : a' ≡ over (letters_of (only (slips_of s es) (take i M))) a
   pub ends_are : b' ≡ over (ends_from here (only (slips_of s es) (take i M))) b
-
-pub writing_none : (s es M : List ℕ) (here : ℕ) (a b : List ℕ) → Writing s es M here a b a b 0 0
-writing_none s es M here a b = record { upto = omega arith; at_is = refl; letters_are = refl; ends_are = refl }
 
 module _ (s es M : List ℕ) (here : ℕ) (a b : List ℕ) (C : CanWrite s es M here (length a) (length b)) where
   abbrev xs : List (List ℕ)
@@ -57,23 +51,7 @@ module _ (s es M : List ℕ) (here : ℕ) (a b : List ℕ) (C : CanWrite s es M 
     pub ends_long : length b' ≡ length b
     ends_long = rw W.ends_are (length_over (ends_from here (done i)) b (omega (arith, ends_count, W.upto, C.few)))
 
-    pub turn_at : at ≤ length a'
-    turn_at = omega (arith, letters_long, C.room, fewer)
-
-    pub turn_bound : i < length M → i < length b'
-    turn_bound h = omega (arith, ends_long, C.few)
-
-    pub writing_all : length M ≤ i → SlipsWritten s es M here a a' b b' at
-    writing_all h =
-        let w : take i M ≡ M = take_all i M h in
-        record { letters_are = rw w at W.letters_are; ends_are = rw w at W.ends_are; count_is = sym (rw w at W.at_is) }
-
     module _ (h : i < length M) (k : ℕ) (e : k ≡ get_or M i 0) where
-      pub turn_real : (1 ≤ k) × (k ≤ length es)
-      turn_real =
-          let r = all_at (λ j. (1 ≤ j) × (j ≤ length es)) M (get_or M i 0) C.real (get_or_in 0 M i h) in
-          (rw e r.0, rw e r.1)
-
       next : done (suc i) ≡ done i ++ (slip xs k ∷ [])
       next = ap (only xs) (take-suc M i 0 h) ∙ map-append (slip xs) (take i M) (get_or M i 0 ∷ []) ∙ rw e
 

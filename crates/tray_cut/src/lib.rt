@@ -6,7 +6,6 @@ ghost use Rattle.words.specs.Lists.{entry};
 ghost use Rattle.trays.specs.Limits.{max_slips};
 ghost use Rattle.tray_cut.specs.Choosing.{SideSlips, CanWrite, SlipsWritten};
 
-use tables::{narrow, wide};
 use trays::{MAX_SLIPS, Tray};
 
 // Slips of a tray: how many, and their numbers, 0 past the count.
@@ -23,12 +22,9 @@ pub fn side_slips(sides: &[u8], side: u8) -> Chosen
 {
     let mut slips = [0u16; MAX_SLIPS];
     let mut count: usize = 0;
-    let mut i = 0;
-    while i < sides.len() {
-        let own = sides[i];
-        i += 1;
-        if own == side {
-            slips[count] = narrow(i);
+    for (i, own) in sides.iter().enumerate() {
+        if *own == side {
+            slips[count] = (i + 1) as u16;
             count += 1;
         }
     }
@@ -48,13 +44,10 @@ pub fn write_slips(
         bounds.old bounds.new result }
 {
     let mut at: usize = 0;
-    let mut i: usize = 0;
-    while i < slips.len() {
-        let slip = wide(slips[i]);
-        let part = slips::slip_part(tray, slip);
+    for (i, slip) in slips.iter().enumerate() {
+        let part = slips::slip_part(tray, usize::from(*slip));
         at += tables::copy(part, &mut into[at..]);
-        bounds[i] = narrow(here + at);
-        i += 1;
+        bounds[i] = (here + at) as u16;
     }
     at
 }
@@ -64,5 +57,5 @@ pub fn number_of(slips: &[u16], i: usize) -> usize
     requires { (1 ≤ i) × (i ≤ length slips.now) }
     ensures { (result ≡ entry slips.now i) × (result < 65536) }
 {
-    wide(slips[i - 1])
+    usize::from(slips[i - 1])
 }

@@ -8,9 +8,8 @@ use mathlib.Core.List.{List, [], ◌∷◌, ◌++◌}
 use Prim.Native.Nat.{ℕ, suc, ◌+◌, ◌≤◌, ◌<◌}
 use native.Mathlib.Decide.{ℕ_discrete}
 use native.Mathlib.Omega.{arith}
-use lib.ListN.{length, get_or, length-append}
+use lib.ListN.{length, length-append}
 use Rattle.words.proofs.Tests.{by_test}
-use Rattle.tables.specs.Tables.{Got}
 use Rattle.matching.specs.Moves.{begins_some}
 use Rattle.matching.specs.Steps.Nodes.{nodes_of, string, Num}
 use Rattle.matching.proofs.NodeLaws.{node_of}
@@ -38,23 +37,6 @@ pub record Scanning (s es : List ℕ) (n nodes : ℕ) (w : List ℕ) (v c e u : 
   pub end : e ≡ cell w KID (suc v)
   pub last : e ≤ nodes + 1
   pub passed : (x : ℕ) → Num (patterns_in s es n w) x → string (patterns_in s es n w) x ≡ string (patterns_in s es n w) v ++ (c ∷ []) → u ≤ x
-
-module _ {s es : List ℕ} {n nodes : ℕ} {w : List ℕ} {v : ℕ} (B : Branched s es n nodes w) (node : v ≤ nodes) where
-  pub scan_start : (c e u : ℕ) → Got w KID (v + 1) e → Got w KID v u → Scanning s es n nodes w v c e u
-  scan_start c e u g h =
-      let a = B.numbered.all_nodes in
-      let k = B.kids.some v (omega arith) in
-      let l = B.kids.some (suc v) (omega arith) in
-      let f : e ≡ cell w KID (suc v) = g.is ∙ ap (λ p. get_or w p 0) (omega arith) in
-      record {
-        branched = B;
-        node = node;
-        some = omega (arith, h.is, k.0);
-        low = omega (arith, h.is);
-        end = f;
-        last = omega (arith, l.1);
-        passed = λ x m q. omega (arith, h.is, (B.kids.into v x c (omega arith) m q).0);
-      }
 
 module _ {s es : List ℕ} {n nodes : ℕ} {w : List ℕ} {v c e u : ℕ} (S : Scanning s es n nodes w v c e u) where
   abbrev ps : List (List ℕ)

@@ -14,8 +14,8 @@ use lib.Dec.{ltb, leb}
 use lib.ListN.{length}
 use borrow.Author.Tests.{ltb-true, ltb-false, leb-true, leb-false}
 use Rattle.words.proofs.Tests.{both, one_of}
-use Rattle.tables.specs.Tables.{Cells, Only, Put, Room}
-use Rattle.tables.proofs.Tables.{only-refl, cells-put, put-here, put_other}
+use Rattle.tables.specs.Tables.{Cells, Only, Put}
+use Rattle.tables.proofs.Tables.{cells-put, put-here, put_other}
 use Rattle.matching.specs.Steps.Nodes.{nodes_of, string, Num}
 use Rattle.layout.specs.Layout.{max_nodes, KID}
 use Rattle.layout.specs.Tables.{cell, KidIs}
@@ -64,18 +64,6 @@ pub record FillingKids (s es : List ℕ) (n nodes : ℕ) (w₀ w : List ℕ) (v 
   pub inside : u ≤ nodes + 1
   pub passed : (x : ℕ) → Num (patterns_in s es n w₀) x → x < u → parent_of w₀ x < v
   pub done : (y : ℕ) → y < v → First (patterns_in s es n w₀) (parent_of w₀) y (cell w KID y)
-
-pub kids_start : {s es : List ℕ} {n nodes : ℕ} {w : List ℕ} → Numbered s es n nodes w → FillingKids s es n nodes w w 0 1
-kids_start N =
-    record {
-      numbered = N;
-      only = only-refl;
-      upto = omega arith;
-      some = omega arith;
-      inside = omega arith;
-      passed = λ x m h. absurd (omega (arith, m.some));
-      done = λ y h. absurd (omega arith);
-    }
 
 module _ {s es : List ℕ} {n nodes : ℕ} {w₀ w : List ℕ} {v u : ℕ} (F : FillingKids s es n nodes w₀ w v u) where
   abbrev ps : List (List ℕ)
@@ -139,11 +127,6 @@ module _ {s es : List ℕ} {n nodes : ℕ} {w₀ w : List ℕ} {v u : ℕ} (F : 
           | no ne ↦ rw (put_other p y ne) (F.done y (omega arith))
         ];
       }
-
-  pub kids_room : v ≤ nodes + 1 → Room w KID v u
-  kids_room h =
-      let f = F.numbered.few_nodes in
-      record { within = omega (arith, F.only.same, F.numbered.room); small = omega (arith, F.inside) }
 
   pub kids_all : nodes + 1 < v → KidsFilled s es n nodes w₀ w
   kids_all h =

@@ -1,29 +1,21 @@
--- The table of the children of the first nodes by letters, filled row by row, and the child looked up in it.
---   near-..                     == the cell of a node and a letter, and what is read there
+-- The table of the children of the first nodes by letters, filled row by row.
 --   FillingRow .. w₀ w v c      == the cells of v for the letters below c are right, and only cells of its row have changed
 --   FillingNear .. w₀ w v       == the rows of the nodes below v are right, and only cells of NEAR have changed
 -- A row is 45 cells, so the cells of different rows differ.
 use mathlib.Core.Path.{◌≡◌, ap}
 use mathlib.Core.List.{List}
-use Prim.Native.Nat.{ℕ, ◌+◌, ◌-◌, ◌*◌, ◌≤◌, ◌<◌}
+use Prim.Native.Nat.{ℕ, min, ◌+◌, ◌-◌, ◌*◌, ◌≤◌, ◌<◌}
 use native.Mathlib.Decide.{ℕ_discrete}
 use native.Mathlib.Omega.{arith}
 use lib.ListN.{length}
-use Rattle.tables.specs.Tables.{Got, Cells, Only, Put, Room}
+use Rattle.tables.specs.Tables.{Cells, Only, Put, Room}
 use Rattle.tables.proofs.Tables.{only-refl, only_trans, only_wider, only-put, put-here, put_other}
 use Rattle.matching.specs.Steps.Nodes.{nodes_of}
 use Rattle.layout.specs.Layout.{NEAR, near_nodes, near_letters, first_sign, last_sign}
 use Rattle.layout.specs.Tables.{cell, Child}
 use Rattle.layout.specs.Numbered.{patterns_in, Branched, SameBelow}
 use Rattle.layout.proofs.Frames.{only_kept, patterns-kept, branched_kept}
-use Rattle.trie_children.specs.Children.{CanFill, CanLook, RowFilled, NearFilled}
-
-module _ {s es : List ℕ} {n nodes : ℕ} {w : List ℕ} {v c k : ℕ} (C : CanLook s es n nodes w v) (close : v < near_nodes) (from : first_sign ≤ c)
-    (upto : c ≤ last_sign)
-    (e : k ≡ near_letters * v + (c - first_sign)) where
-  pub near_got : {r : ℕ} → Got w NEAR k r → Child (patterns_in s es n w) v c r
-  near_got g =
-      rw (g.is, e) (C.near v c close (omega (arith, C.node, C.branched.numbered.all_nodes)) from upto)
+use Rattle.trie_children.specs.Children.{CanFill, RowFilled, NearFilled}
 
 -- one row
 pub record FillingRow (s es : List ℕ) (n nodes : ℕ) (w₀ w : List ℕ) (v c : ℕ) : Type 0 where
@@ -44,15 +36,6 @@ module _ {s es : List ℕ} {n nodes : ℕ} {w₀ w : List ℕ} {v c : ℕ} (F : 
 
   pub row_branched : Branched s es n nodes w
   row_branched = branched_kept row_kept F.can.branched
-
-  pub row_node : v ≤ nodes
-  row_node = F.can.node
-
-  pub row_close : v < near_nodes
-  row_close = F.can.close
-
-  pub row_from : first_sign ≤ c
-  row_from = F.from
 
   module _ {u k : ℕ} (h : c ≤ last_sign) (i : Child (patterns_in s es n w) v c u) (e : k ≡ near_letters * v + (c - first_sign)) where
     pub row_room : Room w NEAR k u
@@ -79,17 +62,11 @@ module _ {s es : List ℕ} {n nodes : ℕ} {w₀ w : List ℕ} {v c : ℕ} (F : 
           ];
         }
 
-  pub row_all : last_sign < c → RowFilled s es n nodes v w₀ w
-  row_all h = record { row = λ a b l. F.done a b (omega arith); only = F.only }
-
 -- all rows
 pub record FillingNear (s es : List ℕ) (n nodes : ℕ) (w₀ w : List ℕ) (v : ℕ) : Type 0 where
   pub branched : Branched s es n nodes w₀
   pub only : Only (Cells NEAR (near_nodes * near_letters)) w₀ w
   pub done : (x c : ℕ) → x < v → x ≤ nodes → first_sign ≤ c → c ≤ last_sign → Child (patterns_in s es n w₀) x c (cell w NEAR (near_letters * x + (c - first_sign)))
-
-pub near_start : {s es : List ℕ} {n nodes : ℕ} {w : List ℕ} → Branched s es n nodes w → FillingNear s es n nodes w w 0
-near_start B = record { branched = B; only = only-refl; done = λ x c h. absurd (omega arith) }
 
 module _ {s es : List ℕ} {n nodes : ℕ} {w₀ w : List ℕ} {v : ℕ} (F : FillingNear s es n nodes w₀ w v) where
   near_kept : SameBelow NEAR w₀ w
@@ -126,9 +103,5 @@ module _ {s es : List ℕ} {n nodes : ℕ} {w₀ w : List ℕ} {v : ℕ} (F : Fi
         only = F.only;
       }
 
-  -- v is past the last node
-  pub near_few : nodes < v → NearFilled s es n nodes w₀ w
-  near_few h = filled (λ x l k. omega arith)
-
-  pub near_all : near_nodes ≤ v → NearFilled s es n nodes w₀ w
+  pub near_all : min near_nodes (nodes + 1) ≤ v → NearFilled s es n nodes w₀ w
   near_all h = filled (λ x l k. omega arith)

@@ -6,18 +6,15 @@
 -- A node stands in some member as its first c + 1 letters. One letter shorter is the first c letters of that member: the empty string if c is
 -- 0, which the first node of two letters tells, and else the node of the place before.
 use mathlib.Core.Path.{◌≡◌, sym, ap, ◌∙◌}
-use mathlib.Core.Bool.{false, ◌&&◌}
 use mathlib.Core.Logic.{◌⊎◌}
 use mathlib.Core.List.{List, [], ◌∷◌, ◌++◌}
 use Prim.Native.Nat.{ℕ, suc, ◌+◌, ◌-◌, ◌≤◌, ◌<◌}
 use native.Mathlib.Decide.{dec_lt}
 use native.Mathlib.Omega.{arith}
-use lib.Dec.{ltb, leb}
 use lib.ListN.{length, get_or, take}
 use lib.Seq.{take-suc}
-use borrow.Author.Tests.{lt-ltb, le-ltb, le-leb, lt-leb}
+use borrow.Author.Tests.{lt-ltb, le-ltb}
 use Rattle.trays.specs.Slips.{slip, start_of}
-use Rattle.tables.specs.Tables.{Got}
 use Rattle.matching.specs.Steps.Nodes.{nodes_of, string, IsNode, Num}
 use Rattle.matching.proofs.NodeLaws.{nodes_numbered, is_root}
 use Rattle.matching.proofs.Numbered as T
@@ -35,28 +32,6 @@ parent_one w u h = rw (lt-ltb u (cell w LEVEL 2) h)
 
 parent_longer : (w : List ℕ) (u : ℕ) → cell w LEVEL 2 ≤ u → parent_of w u ≡ cell w AT (cell w OWN u - 1)
 parent_longer w u h = rw (le-ltb u (cell w LEVEL 2) h)
-
-pub parent_short : (w : List ℕ) (u a : ℕ) → Got w LEVEL 2 a → u < a → 0 ≡ parent_of w u
-parent_short w u a g h = sym (parent_one w u (rw g.is at h))
-
-pub parent_got : (w : List ℕ) (u a p r : ℕ) → Got w LEVEL 2 a → a ≤ u → Got w OWN u p → Got w AT (p - 1) r → r ≡ parent_of w u
-parent_got w u a p r g h o t = t.is ∙ rw o.is (sym (parent_longer w u (rw g.is at h)))
-
-pub place-before : (w : List ℕ) (u a p : ℕ) → ParentCells w u → Got w LEVEL 2 a → a ≤ u → Got w OWN u p → (1 ≤ p) × (AT + (p - 1) < length w)
-place-before w u a p P g h o =
-    let b = P.before (rw g.is at h) in
-    let e = o.is in
-    (omega (arith, b.0), omega (arith, b.0, b.1))
-
-pub letter_got : (s w : List ℕ) (u p : ℕ) → Got w OWN u p → get_or s p 0 ≡ letter_of s w u
-letter_got s w u p o = rw o.is
-
--- the two ways of `hangs_below`
-pub hangs_past : (w : List ℕ) (nodes u v : ℕ) → nodes < u → false ≡ leb u nodes && ltb (parent_of w u) v
-hangs_past w nodes u v h = rw (lt-leb u nodes h)
-
-pub hangs_here : (w : List ℕ) (nodes u v r : ℕ) → u ≤ nodes → r ≡ parent_of w u → ltb r v ≡ leb u nodes && ltb (parent_of w u) v
-hangs_here w nodes u v r h e = rw (le-leb u nodes h, e)
 
 module _ {s es : List ℕ} {n nodes : ℕ} {w : List ℕ} (N : Numbered s es n nodes w) where
   open area_slips s es n w use {ss, ps}

@@ -37,39 +37,34 @@ fn hangs_below(work: &[u16], nodes: usize, u: usize, v: usize) -> bool
     requires { u ≤ nodes → C.ParentCells work.now u }
     ensures { result ≡ leb u nodes && ltb (C.parent_of work.now u) v }
 {
-    if nodes < u {
-        return false;
-    }
-    parent(work, u) < v
+    u <= nodes && parent(work, u) < v
 }
 
 // Fills KID: parents ascend with their children, so the children of `v` begin at the first node whose parent is not below `v`.
+// kept: the search for it goes on from where the last one stopped, so that all nodes are passed once
 pub fn fill_kids(tray: Tray<'_>, work: &mut [u16], n: usize, nodes: usize)
     requires { Numbered tray.letters.now tray.ends.now n nodes work.old }
     ensures { C.KidsFilled tray.entry.letters.now tray.entry.ends.now n nodes work.old work.new }
 {
-    let mut v: usize = 0;
-    let mut u: usize = 1;
-    while v <= nodes + 1 {
-        let below = hangs_below(work, nodes, u, v);
-        if below {
+    let mut u = 1;
+    for v in 0..nodes + 2 {
+        while hangs_below(work, nodes, u, v) {
             u += 1;
-        } else {
-            tables::put(work, layout::KID, v, u);
-            v += 1;
         }
+        tables::put(work, layout::KID, v, u);
     }
 }
 
 // The node of the string of node `v` with the letter `c`, or 0 if that is no node. Children ascend by their letters.
+// kept: 0 is the root, which is no child; the tables hold it for none, and `Child` says so
 fn scan_child(tray: Tray<'_>, work: &[u16], n: usize, nodes: usize, v: usize, c: u8) -> usize
     requires branched { Branched tray.letters.now tray.ends.now n nodes work.now }
     requires v_le_nodes { v ≤ nodes }
     ensures { Child (patterns_in tray.entry.letters.now tray.entry.ends.now n work.now) v c result }
 {
+    let start = tables::at(work, layout::KID, v);
     let end = tables::at(work, layout::KID, v + 1);
-    let mut u = tables::at(work, layout::KID, v);
-    while u < end {
+    for u in start..end {
         let b = letter(tray.letters, work, u);
         if b == c {
             return u;
@@ -77,7 +72,6 @@ fn scan_child(tray: Tray<'_>, work: &[u16], n: usize, nodes: usize, v: usize, c:
         if c < b {
             return 0;
         }
-        u += 1;
     }
     0
 }
@@ -89,7 +83,7 @@ fn near_cell(v: usize, c: u8) -> usize
     ensures { result ≡ near_letters * v + (c - first_sign) }
 {
     let sign = c - layout::FIRST_SIGN;
-    layout::NEAR_LETTERS * v + sign as usize
+    layout::NEAR_LETTERS * v + usize::from(sign)
 }
 
 // The row of NEAR for node `v`, filled by scans.
@@ -97,12 +91,9 @@ fn fill_row(tray: Tray<'_>, work: &mut [u16], n: usize, nodes: usize, v: usize)
     requires { C.CanFill tray.letters.now tray.ends.now n nodes work.old v }
     ensures { C.RowFilled tray.entry.letters.now tray.entry.ends.now n nodes v work.old work.new }
 {
-    let mut c: u8 = layout::FIRST_SIGN;
-    while c <= layout::LAST_SIGN {
+    for c in layout::FIRST_SIGN..=layout::LAST_SIGN {
         let u = scan_child(tray, work, n, nodes, v, c);
-        let cell = near_cell(v, c);
-        tables::put(work, layout::NEAR, cell, u);
-        c += 1;
+        tables::put(work, layout::NEAR, near_cell(v, c), u);
     }
 }
 
@@ -111,13 +102,8 @@ pub fn fill_near(tray: Tray<'_>, work: &mut [u16], n: usize, nodes: usize)
     requires { Branched tray.letters.now tray.ends.now n nodes work.old }
     ensures { C.NearFilled tray.entry.letters.now tray.entry.ends.now n nodes work.old work.new }
 {
-    let mut v: usize = 0;
-    while v < layout::NEAR_NODES {
-        if nodes < v {
-            return;
-        }
+    for v in 0..layout::NEAR_NODES.min(nodes + 1) {
         fill_row(tray, work, n, nodes, v);
-        v += 1;
     }
 }
 
@@ -126,13 +112,8 @@ pub fn child(tray: Tray<'_>, work: &[u16], n: usize, nodes: usize, v: usize, c: 
     requires { C.CanLook tray.letters.now tray.ends.now n nodes work.now v }
     ensures { Child (patterns_in tray.entry.letters.now tray.entry.ends.now n work.now) v c result }
 {
-    if v < layout::NEAR_NODES {
-        if layout::FIRST_SIGN <= c {
-            if c <= layout::LAST_SIGN {
-                let cell = near_cell(v, c);
-                return tables::at(work, layout::NEAR, cell);
-            }
-        }
+    if v < layout::NEAR_NODES && (layout::FIRST_SIGN..=layout::LAST_SIGN).contains(&c) {
+        return tables::at(work, layout::NEAR, near_cell(v, c));
     }
     scan_child(tray, work, n, nodes, v, c)
 }

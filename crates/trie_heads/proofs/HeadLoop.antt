@@ -36,9 +36,6 @@ pub record Heading (s es : List ℕ) (n nodes : ℕ) (w : List ℕ) (j : ℕ) : 
       (λ v. owners (slips_of s es) (drop j (members w n)) (string (patterns_in s es n w) v))
 
 module _ {s es : List ℕ} {n nodes : ℕ} {w : List ℕ} where
-  pub heading_room : Automaton s es n nodes w → HEAD + (nodes + 1) ≤ length w
-  heading_room A = omega (arith, A.branched.numbered.room, A.branched.numbered.few_nodes)
-
   pub heading_start : {w' : List ℕ} → Automaton s es n nodes w → Filled HEAD (nodes + 1) (replicate (nodes + 1) 0) w w' → Heading s es n nodes w' n
   heading_start {w'} A f =
       let B = automaton_kept (kept_filled f) A in
@@ -49,9 +46,6 @@ module _ {s es : List ℕ} {n nodes : ℕ} {w : List ℕ} where
         lists =
             rw (drop_of_length-le (members w' n) {i = n} (rw (members-length N) (omega arith))) (λ v m. cleared f (omega (arith, num_most N v m)));
       }
-
-  pub heading_place : {j : ℕ} → Heading s es n nodes w j → 0 < j → MEMBERS + (j - 1) < length w
-  heading_place {j} H h = omega (arith, H.upto, H.automaton.branched.numbered.few_members, H.automaton.branched.numbered.room)
 
   pub heading_all : {a w' : List ℕ} {j : ℕ} → Filled HEAD (nodes + 1) (replicate (nodes + 1) 0) w a → SameBelow HEAD a w' → Heading s es n nodes w' j →
       j ≤ 0 → HeadsFilled s es n nodes w w'

@@ -81,12 +81,6 @@ module _ {s es : List ℕ} {n nodes : ℕ} {w : List ℕ} {i : ℕ} (a : Among s
   pub among_member : Member s es n w i
   among_member = in_member a.automaton.branched.numbered i a.member
 
-  pub among-some : 1 ≤ i
-  among-some = among_member.some
-
-  pub among-most : i ≤ length es
-  among-most = among_member.most
-
   module _ (x : Span) (e : x ≡ span_of es i) where
     pub among_end : 1 ≤ x.end
     among_end = rw e (omega (arith, among_member.letters, among_member.size))

@@ -2,10 +2,9 @@
 --   front t i xs      == xs, with i before it if t holds
 --   threaded-..       == one list: its first number, another table with the same cells
 --   drop-..           == a list from a place on
---   pushed            == what `push` leaves, from its two stores
 --   push_lists        == the lists after a push
 -- A push changes the head of one list, and a cell that belongs to the number pushed. No list has used that cell, so the others are as they were.
-use mathlib.Core.Path.{◌≡◌, refl, ◌∙◌}
+use mathlib.Core.Path.{◌≡◌, refl}
 use mathlib.Core.Bool.{Bool, true, false, cond}
 use mathlib.Core.Logic.{inl, inr}
 use mathlib.Core.List.Memᴰ
@@ -19,11 +18,9 @@ use lib.Seq.{drop-cons}
 use Rattle.words.specs.Lists.{those}
 use Rattle.words.proofs.Tests.{tell}
 use Rattle.words.proofs.Members.{In, by_in, Asc, those-yes, those_no}
-use Rattle.tables.specs.Tables.{Got, Put}
-use Rattle.tables.proofs.Tables.{put_only, put-here}
 use Rattle.layout.specs.Tables.{cell, Threaded}
 use Rattle.layout.proofs.Heads.{threaded_same}
-use Rattle.trie_heads.specs.Steps.Heads.{CanPush, Pushed, Lists}
+use Rattle.trie_heads.specs.Steps.Heads.{Pushed, Lists}
 
 -- a list from a place on: its first member, and those behind it
 pub asc_drop : {A : Type 0} (R : A → A → Type 0) (j : ℕ) (xs : List A) → Asc R xs → Asc R (drop j xs)
@@ -52,19 +49,6 @@ those_front t i xs = elim (tell (t i)) [ inl e ↦ rw e (those-yes t i xs e) | i
 pub in_front : {P : Type 0} {r : ℕ} (t : Bool) (i : ℕ) (xs : List ℕ) → In r (front t i xs) → (t ≡ true → r ≡ i → P) → (In r xs → P) → P
 in_front true i xs m f g = by_in m (f refl) g
 in_front false i xs m f g = g m
-
-pub pushed : {w a w' : List ℕ} {heads u nexts p i f : ℕ} → CanPush w heads u nexts p i → Got w heads u f → Put w nexts p f a → Put a heads u i w' →
-    Pushed w heads u nexts p i w'
-pushed {w} {a} {w'} {heads} {u} {nexts} {p} {i} {f} c g x y =
-    record {
-      same = y.same ∙ x.same;
-      head = put-here y (omega (arith, c.head, c.next, x.same));
-      next =
-          (put_only y).kept (nexts + p) (λ e. omega (arith, c.head))
-          ∙ put-here x c.next
-          ∙ g.is;
-      others = λ q n m. (put_only y).kept q n ∙ (put_only x).kept q m;
-    }
 
 -- the list of node u gets i, the others stay; key v r is the place of r's cell in the list of node v
 module _

@@ -16,9 +16,7 @@ pub fn node_of(tray: Tray<'_>, work: &[u16], n: usize, nodes: usize, i: usize) -
     ensures { IsNode (patterns_in tray.entry.letters.now tray.entry.ends.now n work.now) result
         (slip (slips_of tray.entry.letters.now tray.entry.ends.now) i) }
 {
-    let span = slips::slip_span(tray.ends, i);
-    let end = span.end;
-    tables::at(work, layout::AT, end - 1)
+    tables::at(work, layout::AT, slips::slip_span(tray.ends, i).end - 1)
 }
 
 // Puts `i` before the list of node `u`: the heads of the lists stand at `heads`, and what comes after `i` goes to place `p` of `nexts`.
@@ -37,9 +35,7 @@ pub fn fill_heads(tray: Tray<'_>, work: &mut [u16], n: usize, nodes: usize)
     ensures { N.HeadsFilled tray.entry.letters.now tray.entry.ends.now n nodes work.old work.new }
 {
     tables::clear(work, layout::HEAD, nodes + 1);
-    let mut j = n;
-    while 0 < j {
-        j -= 1;
+    for j in (0..n).rev() {
         let i = tables::at(work, layout::MEMBERS, j);
         let v = node_of(tray, work, n, nodes, i);
         push(work, layout::HEAD, v, layout::TWIN, i, i);

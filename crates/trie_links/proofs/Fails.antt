@@ -10,7 +10,7 @@ use native.Mathlib.Decide.{ℕ_discrete}
 use native.Mathlib.Omega.{arith}
 use lib.ListN.{length}
 use Rattle.tables.specs.Tables.{Got, Cells, Only, Put, Room}
-use Rattle.tables.proofs.Tables.{only-refl, only_trans, only_wider, cells-put, put-here, put_other}
+use Rattle.tables.proofs.Tables.{cells-put, put-here, put_other}
 use Rattle.matching.specs.Steps.Nodes.{nodes_of, string, IsNode, Num}
 use Rattle.matching.proofs.States.{fail, step_state}
 use Rattle.matching.proofs.NodeLaws.{nodes_numbered, is_root, node_fails}
@@ -19,8 +19,8 @@ use Rattle.layout.specs.Layout.{max_nodes, NEAR, FAIL}
 use Rattle.layout.specs.Tables.{cell, FailUpTo}
 use Rattle.layout.specs.Numbered.{patterns_in, SameBelow}
 use Rattle.layout.proofs.Frames.{only_kept, kept-lower, patterns-kept, branched_kept, near_kept}
-use Rattle.trie_children.specs.Children.{parent_of, letter_of, Near, KidsFilled, NearFilled}
-use Rattle.trie_links.specs.Links.{StepIs, LinkIs, CanStep, CanLink, FailsFilled, LinksFilled}
+use Rattle.trie_children.specs.Children.{parent_of, letter_of, Near}
+use Rattle.trie_links.specs.Links.{StepIs, LinkIs, CanStep, CanLink, FailsFilled}
 use Rattle.trie_children.proofs.Parents.{parents_tree, parent_below}
 
 module _ {s es : List ℕ} {n nodes : ℕ} {w : List ℕ} {v p : ℕ} (C : CanLink s es n nodes w v) (e : p ≡ parent_of w v) where
@@ -76,16 +76,6 @@ pub record FillingFails (s es : List ℕ) (n nodes : ℕ) (w₀ w : List ℕ) (v
   pub upto : v ≤ nodes + 1
   pub links : (k : ℕ) → k < v → FailUpTo (patterns_in s es n w₀) k (cell w FAIL)
 
-pub fails_start : {s es : List ℕ} {n nodes : ℕ} {w : List ℕ} → Near s es n nodes w → FillingFails s es n nodes w w 1
-fails_start K =
-    record {
-      known = K;
-      only = only-refl;
-      some = omega arith;
-      upto = omega arith;
-      links = λ k h x m l. absurd (omega (arith, m.some));
-    }
-
 module _ {s es : List ℕ} {n nodes : ℕ} {w₀ w : List ℕ} {v : ℕ} (F : FillingFails s es n nodes w₀ w v) where
   kept : SameBelow FAIL w₀ w
   kept = only_kept FAIL F.only (λ p q. q.from)
@@ -136,13 +126,3 @@ module _ {s es : List ℕ} {n nodes : ℕ} {w₀ w : List ℕ} {v : ℕ} (F : Fi
         };
         only = F.only;
       }
-
-pub links_filled : {s es : List ℕ} {n nodes : ℕ} {w w₁ w₂ w₃ : List ℕ} → KidsFilled s es n nodes w w₁ → NearFilled s es n nodes w₁ w₂ →
-    FailsFilled s es n nodes w₂ w₃
-    → LinksFilled s es n nodes w w₃
-links_filled k g f =
-    record {
-      automaton = f.automaton;
-      only = only_trans (only_wider k.only (λ p q. omega (arith, q.from, q.below)))
-          (only_trans (only_wider g.only (λ p q. omega (arith, q.from, q.below))) (only_wider f.only (λ p q. omega (arith, q.from, q.below))));
-    }

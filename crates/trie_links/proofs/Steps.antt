@@ -5,7 +5,7 @@
 --   moves-..              == the moves of a text, a letter and its drops at a time
 -- A step is a chain of drops to the failure of the state, each of a lower number, that ends where the letter extends the state or the state is
 -- empty; so each turn of the loop is one turn of the definition.
-use mathlib.Core.Path.{◌≡◌, refl, sym, ap, ap₂, ◌∙◌}
+use mathlib.Core.Path.{◌≡◌, sym, ap, ap₂, ◌∙◌}
 use mathlib.Core.Bool.{true, false}
 use mathlib.Core.List.{List, [], ◌∷◌, ◌++◌}
 use Prim.Native.Nat.{ℕ, suc, ◌+◌, ◌≤◌, ◌<◌}
@@ -20,7 +20,6 @@ use Rattle.matching.proofs.NodeLaws.{node_root, is_root, node_some, node_fails}
 use Rattle.layout.specs.Layout.{FAIL}
 use Rattle.layout.specs.Tables.{Child}
 use Rattle.layout.specs.Numbered.{patterns_in, Numbered, Automaton}
-use Rattle.trie_children.specs.Children.{CanLook}
 use Rattle.trie_links.specs.Links.{StepIs, CanStep}
 
 -- one drop of a state with a letter
@@ -38,9 +37,6 @@ pub record Dropping (s es : List ℕ) (n nodes : ℕ) (w : List ℕ) (v c u d : 
   pub goes : step (patterns_in s es n w) (string (patterns_in s es n w) v) c
       ≡ step_from (suc (length (string (patterns_in s es n w) u))) (patterns_in s es n w) (string (patterns_in s es n w) u) c d
 
-pub dropping_start : {s es : List ℕ} {n nodes : ℕ} {w : List ℕ} {v : ℕ} (c : ℕ) → CanStep s es n nodes w v → Dropping s es n nodes w v c v 0
-dropping_start c can = record { can = can; low = omega arith; goes = refl }
-
 module _ {s es : List ℕ} {n nodes : ℕ} {w : List ℕ} {v c u d : ℕ} (D : Dropping s es n nodes w v c u d) where
   abbrev ps : List (List ℕ)
   ps = patterns_in s es n w
@@ -50,9 +46,6 @@ module _ {s es : List ℕ} {n nodes : ℕ} {w : List ℕ} {v c u d : ℕ} (D : D
 
   dropping_inside : u ≤ nodes
   dropping_inside = omega (arith, D.low, D.can.node)
-
-  pub dropping_looks : CanLook s es n nodes w u
-  dropping_looks = record { branched = D.can.branched; near = D.can.near; node = dropping_inside }
 
   pub dropping_extends : {r : ℕ} → Child ps u c r → (r ≡ 0 → ⊥) → StepIs ps v c r d
   dropping_extends {r} k h =

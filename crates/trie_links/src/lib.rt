@@ -16,25 +16,17 @@ pub struct StepEnd {
 }
 
 // One letter read in the state of node `v`: the state drops along its failure links until the letter extends it or it is empty.
+// kept: the links stand in the table, so there is no range to go over
 pub fn step(tray: Tray<'_>, work: &[u16], n: usize, nodes: usize, v: usize, c: u8) -> StepEnd
     requires { L.CanStep tray.letters.now tray.ends.now n nodes work.now v }
     ensures { L.StepIs (patterns_in tray.entry.letters.now tray.entry.ends.now n work.now) v c result.state result.drops }
 {
     let mut state = v;
-    let mut drops: usize = 0;
+    let mut drops = 0;
     loop {
         let u = trie_children::child(tray, work, n, nodes, state, c);
-        if u != 0 {
-            return StepEnd {
-                state: u,
-                drops: drops,
-            };
-        }
-        if state == 0 {
-            return StepEnd {
-                state: 0,
-                drops: drops,
-            };
+        if u != 0 || state == 0 {
+            return StepEnd { state: u, drops };
         }
         state = tables::at(work, layout::FAIL, state);
         drops += 1;
@@ -52,8 +44,7 @@ fn failure(tray: Tray<'_>, work: &[u16], n: usize, nodes: usize, v: usize) -> us
     }
     let from = tables::at(work, layout::FAIL, above);
     let c = trie_children::letter(tray.letters, work, v);
-    let next = step(tray, work, n, nodes, from, c);
-    next.state
+    step(tray, work, n, nodes, from, c).state
 }
 
 // Fills FAIL, node by node: a node's parent and its link have lower numbers.
@@ -61,11 +52,9 @@ fn fill_fails(tray: Tray<'_>, work: &mut [u16], n: usize, nodes: usize)
     requires { C.Near tray.letters.now tray.ends.now n nodes work.old }
     ensures { L.FailsFilled tray.entry.letters.now tray.entry.ends.now n nodes work.old work.new }
 {
-    let mut v: usize = 1;
-    while v <= nodes {
+    for v in 1..=nodes {
         let link = failure(tray, work, n, nodes, v);
         tables::put(work, layout::FAIL, v, link);
-        v += 1;
     }
 }
 

@@ -1,6 +1,6 @@
 -- The loops of the numbering, turn by turn.
 --   sorted-..    == what is known of the sorted members, and that it is kept where only LEVEL, AT, OWN are written
---   lettered-..  == the two ways through one letter
+--   lettered_new == one letter, with a new node
 --   level-..     == the loop over the members, for one length
 --   nodes-..     == the loop over the lengths
 -- Each loop keeps a stage of the numbering, and that only LEVEL, AT, OWN have been written since it began.
@@ -68,9 +68,6 @@ module _ {s es : List ℕ} {n : ℕ} {w : List ℕ} (t : Sorted s es n w) where
     -- the next stage, of the order as it was
     stage_kept : (c r k : ℕ) → Counted (slips_of s es) es (table w ORDER n) c r k w' → Stage s es n c r k w'
     stage_kept c r k x = record { sorted = sorted_kept; counted = rw sorted_order x }
-
-pub lettered_old : (w : List ℕ) (c r p k common : ℕ) (w' : List ℕ) → Got w COMMON r common → c < common → Put w AT p k w' → Lettered w c r p k k w'
-lettered_old w c r p k common w' g h q = Lettered.old (rw g.is at h) refl q
 
 pub lettered_new :
     (w : List ℕ) (c r p k common : ℕ) (u w' : List ℕ) → Got w COMMON r common → common ≤ c → Put w OWN (k + 1) p u → Put u AT p (k + 1) w'
@@ -179,7 +176,3 @@ module _ (s es : List ℕ) (n : ℕ) (w u : List ℕ) (b : Sorted s es n w) (q :
             };
         only = only_trans begun t.only;
       }
-
-pub nodes_next :
-    {s es : List ℕ} {n c k k' : ℕ} {u w w' : List ℕ} → AtStage s es n c 0 u k w → AtStage s es n (c + 1) 0 w k' w' → AtStage s es n (c + 1) 0 u k' w'
-nodes_next t x = record { stage = x.stage; only = only_trans t.only x.only }

@@ -30,15 +30,13 @@ fn number_level(tray: Tray<'_>, work: &mut [u16], n: usize, c: usize, nodes: usi
     ensures { AtStage tray.entry.letters.now tray.entry.ends.now n (c + 1) 0 work.old result work.new }
 {
     let mut k = nodes;
-    let mut r = 0;
-    while r < n {
+    for r in 0..n {
         let slip = tables::at(work, layout::ORDER, r);
         let span = slips::slip_span(tray.ends, slip);
         let place = span.start + c;
         if place < span.end {
             k = number_letter(work, c, r, place, k);
         }
-        r += 1;
     }
     tables::put(work, layout::LEVEL, c + 2, k + 1);
     k
@@ -51,10 +49,8 @@ pub fn number_nodes(tray: Tray<'_>, work: &mut [u16], n: usize) -> usize
 {
     tables::put(work, layout::LEVEL, 1, 1);
     let mut nodes = 0;
-    let mut c = 0;
-    while c < trays::MAX_SLIP {
+    for c in 0..trays::MAX_SLIP {
         nodes = number_level(tray, work, n, c, nodes);
-        c += 1;
     }
     nodes
 }

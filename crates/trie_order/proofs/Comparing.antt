@@ -1,94 +1,78 @@
--- Comparing two strings by their common prefix: the ways through `compare` and `below`.
---   compared-..  == what `compare` answers: the second ends there, the first ends there, or two letters differ
+-- Comparing two strings: the ways through `below`, by the order of their letters and by the bound.
+--   starts-begins == the library's word for a prefix
 --   below-..     == what `below` answers, by the bound
-use mathlib.Core.Path.{◌≡◌, refl, sym, ◌∙◌, ap}
+use mathlib.Core.Path.{◌≡◌, refl, sym, ap}
 use mathlib.Core.Bool.{Bool, true, false, ◌&&◌}
-use mathlib.Core.List.{List}
-use Prim.Native.Nat.{ℕ, ◌≤◌, ◌<◌}
+use mathlib.Core.List.{List, [], ◌∷◌}
+use Prim.Native.Nat.{ℕ}
 use native.Mathlib.Omega.{arith}
 use lib.Dec.{ltb, eqb}
-use lib.ListN.{length, get_or}
-use borrow.Author.Tests.{eq-eqb, ne_eqb, le-ltb, lt-ltb}
-use Rattle.words.specs.Words.{same, begins, before, common}
-use Rattle.words.proofs.CommonPrefix.{common_at_most, begins-common, same-common, before-common, common-sym}
-use Rattle.trie_order.specs.declared.Compared.{Compared}
+use Rattle.std.proofs.Common.{Ordering, Less, Equal, Greater}
+use Rattle.std.proofs.lemmas.Bool.Decides.{nat_tests}
+use Rattle.std.specs.Cmp.Lexicographic.{slice_cmp}
+use Rattle.std.specs.List.{starts_with}
+use Rattle.std.specs.Ordering.{nat_cmp, is_lt, is_eq}
+use Rattle.std.proofs.lemmas.Cmp.{same_from_slice_cmp}
+use Rattle.words.specs.Words.{same, begins, before}
+use Rattle.words.proofs.Orders.{same-is}
+use Rattle.words.proofs.Strings.{begins-refl}
 use Rattle.trie_order.specs.declared.Bound.{Bound}
 use Rattle.trie_order.specs.declared.Bound.TheVariants.{Lower, Upper, Number}
-use Rattle.trie_order.specs.Order.{compared, below}
+use Rattle.trie_order.specs.Order.{below}
 
-abbrev seen : ℕ → Bool → Compared
-seen n b = record { common = n; before = b }
+pub starts-begins : (x t : List ℕ) → starts_with eqb x t ≡ begins t x
+starts-begins x [] = refl
+starts-begins [] (y ∷ t) = refl
+starts-begins (z ∷ x) (y ∷ t) = ap (λ b. eqb y z && b) (starts-begins x t)
 
-module _ (x y : List ℕ) (n : ℕ) (e : n ≡ common x y) where
-  pub compared-ends : length y ≤ n → seen n false ≡ compared x y
-  compared-ends h = rw (e, before-common x y, le-ltb (common x y) (length y) (omega arith))
+module _ (x t : List ℕ) (i : ℕ) (b : Bound) (r : Ordering) (e : r ≡ slice_cmp nat_cmp x t) where
+  is_before : is_lt r ≡ before x t
+  is_before = same_from_slice_cmp nat_cmp is_lt before refl (λ _ _. refl) (λ _ _. refl) (λ x y xs ys o h. grind (arith, nat_tests)) x t r e
 
-  pub compared_whole : n < length y → length x ≤ n → seen n true ≡ compared x y
-  compared_whole h g =
-      rw (e, before-common x y, lt-ltb (common x y) (length y) (omega arith), eq-eqb (common x y) (length x) (omega (arith, common_at_most x y)))
+  is_same : is_eq r ≡ same x t
+  is_same = same_from_slice_cmp nat_cmp is_eq same refl (λ _ _. refl) (λ _ _. refl) (λ x y xs ys o h. grind (arith, nat_tests)) x t r e
 
-  pub compared-letters : n < length y → n < length x → seen n (ltb (get_or x n 0) (get_or y n 0)) ≡ compared x y
-  compared-letters h g = rw (e, before-common x y, lt-ltb (common x y) (length y) (omega arith), ne_eqb (common x y) (length x) (omega arith))
-
-begins_when : (t x : List ℕ) → length t ≤ common x t → begins t x ≡ true
-begins_when t x h = rw (begins-common t x, common-sym t x) (eq-eqb (common x t) (length t) (omega (arith, common_at_most x t)))
-
-begins-not : (t x : List ℕ) → common x t < length t → begins t x ≡ false
-begins-not t x h = rw (begins-common t x, common-sym t x) (ne_eqb (common x t) (length t) (omega arith))
-
-same_not : (x t : List ℕ) → common x t < length t → same x t ≡ false
-same_not x t h = rw (same-common x t, ne_eqb (common x t) (length t) (omega arith)) (and-false (eqb (common x t) (length x)))
-  where
-    and-false : (a : Bool) → a && false ≡ false
-    and-false true = refl
-    and-false false = refl
-
-module _ (x t : List ℕ) (i : ℕ) (b : Bound) (r : Compared) (e : r ≡ compared x t) where
-  n_is : r.common ≡ common x t
-  n_is = ap (λ (c : Compared). c.common) e
-
-  order_is : r.before ≡ before x t
-  order_is = ap (λ (c : Compared). c.before) e
-
-  pub below-before : r.before ≡ true → true ≡ below b t x i
-  below-before h = go b
+  pub below-less : r ≡ Less → true ≡ below b t x i
+  below-less h = go b
     where
+      first : before x t ≡ true
+      first = sym (rw h at is_before)
+
       go : (b : Bound) → true ≡ below b t x i
-      go Lower = sym (sym order_is ∙ h)
-      go Upper = rw (← order_is, h)
-      go (Number k) = rw (← order_is, h)
+      go Lower = sym first
+      go Upper = rw first
+      go (Number k) = rw first
 
-  module _ (h : r.before ≡ false) where
-    not-before : before x t ≡ false
-    not-before = sym order_is ∙ h
+  module _ (h : r ≡ Equal) where
+    not-first : before x t ≡ false
+    not-first = sym (rw h at is_before)
 
-    pub below_apart : r.common < length t → false ≡ below b t x i
-    below_apart g = go b
-      where
-        go : (b : Bound) → false ≡ below b t x i
-        go Lower = sym not-before
-        go Upper = rw (not-before, begins-not t x (omega (arith, n_is)))
-        go (Number k) = rw (not-before, same_not x t (omega (arith, n_is)))
+    alike : same x t ≡ true
+    alike = sym (rw h at is_same)
 
     pub below-lower : b ≡ Lower → false ≡ below b t x i
-    below-lower u = rw u (sym not-before)
+    below-lower u = rw u (sym not-first)
 
-    module _ (g : length t ≤ r.common) where
-      pub below-upper : b ≡ Upper → true ≡ below b t x i
-      below-upper u = rw (u, not-before, begins_when t x (omega (arith, n_is)))
+    pub below-upper : b ≡ Upper → true ≡ below b t x i
+    below-upper u = rw (u, not-first, same-is x t alike, begins-refl t)
 
-      pub below-number : (k : ℕ) → b ≡ Number k → length x ≡ r.common → ltb i k ≡ below b t x i
-      below-number k u w =
-          rw (
-            u,
-            not-before,
-            same-common x t,
-            eq-eqb (common x t) (length x) (omega (arith, n_is)),
-            eq-eqb (common x t) (length t) (omega (arith, n_is, common_at_most x t)),
-          )
+    pub below-number : (k : ℕ) → b ≡ Number k → ltb i k ≡ below b t x i
+    below-number k u = rw (u, not-first, alike)
 
-      pub below_longer : (k : ℕ) → b ≡ Number k → (length x ≡ r.common → ⊥) → false ≡ below b t x i
-      below_longer k u w = rw (u, not-before, same-common x t, ne_eqb (common x t) (length x) (λ q. w (omega (arith, n_is))))
+  module _ (h : r ≡ Greater) where
+    not-less : before x t ≡ false
+    not-less = sym (rw h at is_before)
 
-pub below-letters : (b : Bound) (t x y : List ℕ) (i : ℕ) (r : Bool) → r ≡ below b t x i → x ≡ y → r ≡ below b t y i
-below-letters b t x y i r h e = rw (← e) h
+    unlike : same x t ≡ false
+    unlike = sym (rw h at is_same)
+
+    pub below-begun : b ≡ Upper → (v : Bool) → v ≡ starts_with eqb x t → v ≡ below b t x i
+    below-begun u v w = rw (u, not-less, w) (starts-begins x t)
+
+    pub below_none : (b ≡ Upper → ⊥) → false ≡ below b t x i
+    below_none n = go b n
+      where
+        go : (b : Bound) → (b ≡ Upper → ⊥) → false ≡ below b t x i
+        go Lower n = sym not-less
+        go Upper n = absurd (n refl)
+        go (Number k) n = rw (not-less, unlike)

@@ -25,9 +25,6 @@ pub record Failed (p : ℕ → Bool) (M : List ℕ) (high : ℕ) : Type 0 where
 pub passed_none : (p : ℕ → Bool) (M : List ℕ) → Passed p M 0
 passed_none p M = record { each = λ j h. absurd (omega arith) }
 
-pub failed_none : (p : ℕ → Bool) (M : List ℕ) → Failed p M (length M)
-failed_none p M = record { each = λ j h l. absurd (omega arith) }
-
 -- what is read at a place is a member
 module _ (n : ℕ) (M : List ℕ) (i m : ℕ) (t : Within n M) (h : i < length M) (e : m ≡ get_or M i 0) where
   pub member_least : 1 ≤ m

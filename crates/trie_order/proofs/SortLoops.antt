@@ -1,17 +1,15 @@
--- The loops of the sort: laying the first cell behind others, and putting each member into its place among those behind it.
---   laying i c       == c after i turns: the i cells behind the first have moved to the front
+-- The sort: turning the first cell to behind others, and putting each member into its place among those behind it.
 --   sorting lt m c   == c with the members from place m on in order
--- A turn of the first loop moves one cell more. Insertion of the first member at its rank is `insert`, by insert_rank; so a turn of the second
--- loop is one clause of `in_order`.
-use mathlib.Core.Path.{◌≡◌, refl, sym, ap, ◌∙◌}
+-- Insertion of the first member at its rank is `insert`, by insert_rank; so a turn of the loop is one clause of `in_order`.
+use mathlib.Core.Path.{◌≡◌, refl, sym, ◌∙◌}
 use mathlib.Core.Bool.{Bool}
 use mathlib.Core.List.Memᴰ
 use mathlib.Core.List.{List, [], ◌∷◌, ◌++◌, append-nil}
 use Prim.Native.Nat.{ℕ, zero, suc, ◌+◌, ◌-◌, ◌≤◌, ◌<◌}
 use native.Mathlib.Numerals.{add-one, sub-one}
 use native.Mathlib.Omega.{arith}
-use lib.ListN.{length, get_or, set, take, drop, length-append, length-take, length-drop, drop_of_length-le}
-use lib.Seq.{drop-length, take_all, take-suc, drop-cons, append_snoc, drop_at, take_at, length-take-le}
+use lib.ListN.{length, get_or, take, drop, length-append, length-take, length-drop, drop_of_length-le}
+use lib.Seq.{take_all, take-suc, drop-cons, append_snoc, drop_at, take_at, length-take-le}
 use Rattle.words.specs.Lists.{those, in_order, tail_of}
 use Rattle.words.proofs.Members.{In, Less, Sorts, by_in}
 use Rattle.words.proofs.Distinct.{those-length}
@@ -24,27 +22,12 @@ use Rattle.trie_order.specs.Steps.Steps.{lay_behind, insert_first, Insertable}
 use Rattle.trie_order.proofs.Inserting.{insert_rank, less-falls}
 use Rattle.trie_order.proofs.Precedes.{precedes_irr, precedes_tr, precedes_con, order_sorts, order_length}
 
--- laying the first cell behind the next k
-abbrev pub laying : ℕ → List ℕ → List ℕ
-laying i c = take i (drop 1 c) ++ drop i c
-
-set_laying : (i x : ℕ) (xs : List ℕ) → i < length xs → set (laying i (x ∷ xs)) i (get_or (laying i (x ∷ xs)) (suc i) 0) ≡ laying (suc i) (x ∷ xs)
-set_laying i x [] h = absurd (omega arith)
-set_laying zero x (y ∷ ys) h = refl
-set_laying (suc i) x (y ∷ ys) h = ap (λ l. y ∷ l) (set_laying i y ys (omega arith))
-
-laid : (k x v : ℕ) (xs : List ℕ) → k ≤ length xs → set (laying k (x ∷ xs)) k v ≡ take k xs ++ (v ∷ drop k xs)
-laid zero x v xs h = refl
-laid (suc k) x v [] h = absurd (omega arith)
-laid (suc k) x v (y ∷ ys) h = ap (λ l. y ∷ l) (laid k y v ys (omega arith))
-
-pub laying_more : (c d : List ℕ) (i j k : ℕ) → k < length c → i < k → d ≡ laying i c → j ≡ i + 1 → set d i (get_or d j 0) ≡ laying j c
-laying_more [] d i j k h l e s = absurd (omega arith)
-laying_more (x ∷ xs) d i j k h l e s = rw (e, s, add-one) (set_laying i x xs (omega arith))
-
-pub laying_all : (c d : List ℕ) (i k : ℕ) → k < length c → i ≤ k → k ≤ i → d ≡ laying i c → set d k (get_or c 0 0) ≡ lay_behind k c
-laying_all [] d i k h l g e = absurd (omega arith)
-laying_all (x ∷ xs) d i k h l g e = let q : i ≡ k = omega arith in rw (e, q) (laid k x x xs (omega arith))
+-- the first cell, turned to behind the next k
+turned : (k : ℕ) (c d : List ℕ) → k < length c → d ≡ drop 1 (take (k + 1) c) ++ take 1 (take (k + 1) c) → d ++ drop (k + 1) c ≡ lay_behind k c
+turned k [] d h e = absurd (omega arith)
+turned k (x ∷ xs) d h e =
+    let f : drop 1 (take (k + 1) (x ∷ xs)) ++ take 1 (take (k + 1) (x ∷ xs)) ≡ take k xs ++ (x ∷ []) = rw add-one in
+    rw (e, f, add-one, append_snoc)
 
 -- the first member, put among the others at its rank
 abbrev others : List ℕ → List ℕ
@@ -84,8 +67,8 @@ module _ (s es : List ℕ) where
         length-drop 1 c,
       )
 
-      pub first_inserted : (d : List ℕ) → d ≡ lay_behind k c → d ≡ insert_first lt c
-      first_inserted d w = w ∙ go c g g.some e r
+      pub first_inserted : (d : List ℕ) → d ≡ drop 1 (take (k + 1) c) ++ take 1 (take (k + 1) c) → d ++ drop (k + 1) c ≡ insert_first lt c
+      first_inserted d w = turned k c d first_rank w ∙ go c g g.some e r
         where
           go : (c : List ℕ) → Insertable s es c → 0 < length c → m ≡ get_or c 0 0 → k ≡ rank_of (slips_of s es) (others c) t (Number m) →
               lay_behind k c ≡ insert_first lt c
@@ -174,12 +157,6 @@ module _ (s es c₀ c : List ℕ) (m j : ℕ) (S : Sortable s es c₀) (u : 0 < 
   sort_more d e =
       let k : d ≡ in_order by (drop j c₀) = e ∙ rw (cut_part (take j c₀) (here ∷ rest) c j split front, whole) in
       rw k (cut_back (take j c₀) (here ∷ rest) c j split front (in_order by (drop j c₀)))
-
-pub sort_all : (lt : ℕ → ℕ → Bool) (c₀ c : List ℕ) (m : ℕ) → m ≤ 0 → c ≡ sorting lt m c₀ → c ≡ in_order lt c₀
-sort_all lt c₀ c m h e = let z : m ≡ 0 = omega arith in rw z at e
-
-pub sort_none : (lt : ℕ → ℕ → Bool) (c₀ : List ℕ) → c₀ ≡ sorting lt (length c₀) c₀
-sort_none lt c₀ = sym (rw (take_all (length c₀) c₀ (omega arith), drop-length c₀, append-nil))
 
 -- the members as a table of the work area, lent from base to e
 module _ (s es w : List ℕ) (base n e : ℕ) (S : Sortable s es (table w base n)) (q : e ≡ base + n) where

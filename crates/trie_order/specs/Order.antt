@@ -1,7 +1,6 @@
 -- The members of a tray in the order of their letters: a prefix before its longer slips, equal slips by number.
 --   commons ss p M      == for each member of M the length of the common prefix with the member before it, p for the first
 --   CommonAt ss M i r   == r is the entry for the member at place i; it fits 16 bits
---   compared x y        == how far x and y agree, and whether x is before y
 --   below b t x i       == a slip i with letters x stands below the bound b of the typed letters t:
 --                          below Lower, where the slips with prefix t start; below Upper, where they end;
 --                          below Number k, where a slip k with letters t stands
@@ -19,7 +18,6 @@ pub use Rattle.words.specs.Steps.Members.{Distinct}
 use Rattle.trays.specs.Slips.{slip, slips_of}
 use Rattle.trays.specs.Faults.{tray_fault}
 pub use Rattle.index_rule.specs.Index.{precedes}
-use Rattle.trie_order.specs.declared.Compared.{Compared}
 use Rattle.trie_order.specs.declared.Bound.{Bound}
 use Rattle.trie_order.specs.declared.Bound.TheVariants.{Lower, Upper, Number}
 
@@ -31,9 +29,6 @@ commons ss p (i ∷ M) = common (slip ss p) (slip ss i) ∷ commons ss i M
 pub record CommonAt (ss : List (List ℕ)) (M : List ℕ) (i r : ℕ) : Type 0 where
   pub is : r ≡ get_or (commons ss 0 M) i 0
   pub small : r < 65536
-
-abbrev pub compared : List ℕ → List ℕ → Compared
-compared x y = record { common = common x y; before = before x y }
 
 abbrev pub below : Bound → List ℕ → List ℕ → ℕ → Bool
 below Lower t x i = before x t

@@ -3,22 +3,15 @@
 
 ghost use Rattle.std.specs.Prelude.{◌≡◌, ◌≤◌, ◌<◌, ◌+◌, length};
 ghost use Rattle.words.specs.Lists.{in_order, up_from};
-ghost use Rattle.words.specs.Words as W;
 ghost use Rattle.trays.specs.Slips.{slip, slips_of};
 ghost use Rattle.trays.specs.Faults.{tray_fault};
 ghost use Rattle.trays.specs.Limits.{max_slips};
 ghost use Rattle.tables.specs.Tables.{table, Filled};
 ghost use Rattle.trie_order.specs.Order as O;
-ghost use Rattle.trie_order.specs.Steps.Steps.{lay_behind, insert_first, Insertable};
+ghost use Rattle.trie_order.specs.Steps.Steps.{insert_first, Insertable};
 
+use std::cmp::Ordering;
 use trays::Tray;
-
-// How far two strings agree, and whether the first is before the second.
-#[derive(Clone, Copy)]
-pub struct Compared {
-    pub common: usize,
-    pub before: bool,
-}
 
 // A place in the order for typed letters: where the slips that start with them begin, where these end, or where
 // the slip of a number that has just these letters stands.
@@ -29,49 +22,18 @@ pub enum Bound {
     Number(usize),
 }
 
-// Both answers from one pass: the letters after the common prefix decide.
-fn compare(a: &[u8], b: &[u8]) -> Compared
-    ensures { result ≡ O.compared a.now b.now }
-{
-    let n = words::common(a, b);
-    if b.len() <= n {
-        return Compared {
-            common: n,
-            before: false,
-        };
-    }
-    if a.len() <= n {
-        return Compared {
-            common: n,
-            before: true,
-        };
-    }
-    Compared {
-        common: n,
-        before: a[n] < b[n],
-    }
-}
-
 // Whether slip `number` with the letters `slip` stands below a bound of the typed letters.
 fn below(slip: &[u8], number: usize, typed: &[u8], bound: Bound) -> bool
     ensures { result ≡ O.below bound typed.now slip.now number }
 {
-    let seen = compare(slip, typed);
-    if seen.before {
-        return true;
-    }
-    if seen.common < typed.len() {
-        return false;
-    }
-    match bound {
-        Bound::Lower => false,
-        Bound::Upper => true,
-        Bound::Number(k) => {
-            if slip.len() == seen.common {
-                return number < k;
-            }
-            false
-        }
+    match slip.cmp(typed) {
+        Ordering::Less => true,
+        Ordering::Equal => match bound {
+            Bound::Lower => false,
+            Bound::Upper => true,
+            Bound::Number(k) => number < k,
+        },
+        Ordering::Greater => matches!(bound, Bound::Upper) && slip.starts_with(typed),
     }
 }
 
@@ -84,6 +46,7 @@ pub fn member_below(tray: Tray<'_>, member: usize, typed: &[u8], bound: Bound) -
 }
 
 // How many members of an order stand below a bound of the typed letters: a binary search.
+// kept: `partition_point` would ask its test of any number, and `member_below` may be asked of numbers of slips alone
 pub fn rank(tray: Tray<'_>, order: &[u16], typed: &[u8], bound: Bound) -> usize
     requires { O.Rankable tray.letters.now tray.ends.now order.now typed.now bound }
     ensures { result ≡ O.rank_of (slips_of tray.entry.letters.now tray.entry.ends.now) order.now typed.now bound }
@@ -92,8 +55,7 @@ pub fn rank(tray: Tray<'_>, order: &[u16], typed: &[u8], bound: Bound) -> usize
     let mut high = order.len();
     while low < high {
         let middle = low + (high - low) / 2;
-        let member = tables::wide(order[middle]);
-        if member_below(tray, member, typed, bound) {
+        if member_below(tray, usize::from(order[middle]), typed, bound) {
             low = middle + 1;
         } else {
             high = middle;
@@ -102,40 +64,24 @@ pub fn rank(tray: Tray<'_>, order: &[u16], typed: &[u8], bound: Bound) -> usize
     low
 }
 
-// Moves the first cell to after the `k` cells that follow it.
-fn lay_behind(cells: &mut [u16], k: usize)
-    requires { k < length cells.old }
-    ensures { cells.new ≡ lay_behind k cells.old }
-{
-    let first = cells[0];
-    let mut i = 0;
-    while i < k {
-        let next = cells[i + 1];
-        cells[i] = next;
-        i += 1;
-    }
-    cells[k] = first;
-}
-
-// Puts the first member into its place among the others, which are in order.
+// Puts the first member into its place among the others, which are in order: behind those that stand below it.
 fn insert_first(tray: Tray<'_>, cells: &mut [u16])
     requires { Insertable tray.letters.now tray.ends.now cells.old }
     ensures { cells.new ≡ insert_first (O.precedes (slips_of tray.entry.letters.now tray.entry.ends.now)) cells.old }
 {
-    let member = tables::wide(cells[0]);
+    let member = usize::from(cells[0]);
     let typed = slips::slip_part(tray, member);
     let k = rank(tray, &cells[1..], typed, Bound::Number(member));
-    lay_behind(cells, k);
+    cells[..=k].rotate_left(1);
 }
 
 // Puts the members in order: from the last on, each goes into its place among those after it.
+// kept: a sort of the library's would compare any two numbers, and letters may be asked of numbers of slips alone
 fn sort(tray: Tray<'_>, cells: &mut [u16])
     requires { O.Sortable tray.letters.now tray.ends.now cells.old }
     ensures { cells.new ≡ in_order (O.precedes (slips_of tray.entry.letters.now tray.entry.ends.now)) cells.old }
 {
-    let mut m = cells.len();
-    while 0 < m {
-        m -= 1;
+    for m in (0..cells.len()).rev() {
         insert_first(tray, &mut cells[m..]);
     }
 }
@@ -146,8 +92,7 @@ pub fn sort_table(tray: Tray<'_>, work: &mut [u16], base: usize, n: usize)
     ensures { Filled base n (in_order (O.precedes (slips_of tray.entry.letters.now tray.entry.ends.now)) (table work.old base n))
         work.old work.new }
 {
-    let end = base + n;
-    sort(tray, &mut work[base..end]);
+    sort(tray, &mut work[base..base + n]);
 }
 
 // The length of the common prefix of a member and the one before it in an order; 0 for the first.
@@ -158,8 +103,8 @@ fn common_at(tray: Tray<'_>, order: &[u16], i: usize) -> usize
     if i == 0 {
         return 0;
     }
-    let before = slips::slip_part(tray, tables::wide(order[i - 1]));
-    let here = slips::slip_part(tray, tables::wide(order[i]));
+    let before = slips::slip_part(tray, usize::from(order[i - 1]));
+    let here = slips::slip_part(tray, usize::from(order[i]));
     words::common(before, here)
 }
 
@@ -169,12 +114,9 @@ pub fn fill_common(tray: Tray<'_>, work: &mut [u16], order: usize, common: usize
     ensures { Filled common n (O.commons (slips_of tray.entry.letters.now tray.entry.ends.now) 0 (table work.old order n))
         work.old work.new }
 {
-    let end = order + n;
-    let mut i = 0;
-    while i < n {
-        let x = common_at(tray, &work[order..end], i);
+    for i in 0..n {
+        let x = common_at(tray, &work[order..order + n], i);
         tables::put(work, common, i, x);
-        i += 1;
     }
 }
 
@@ -183,9 +125,7 @@ pub fn fill_members(work: &mut [u16], base: usize, n: usize)
     requires { (base + n ≤ length work.old) × (n ≤ max_slips) }
     ensures { Filled base n (up_from 1 n) work.old work.new }
 {
-    let mut i = 0;
-    while i < n {
+    for i in 0..n {
         tables::put(work, base, i, i + 1);
-        i += 1;
     }
 }

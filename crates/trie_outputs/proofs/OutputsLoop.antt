@@ -39,9 +39,6 @@ module _ {s es : List ℕ} {n nodes : ℕ} {w : List ℕ} {v : ℕ} (T : Telling
   numbered : Numbered s es n nodes w
   numbered = T.owning.headed.automaton.branched.numbered
 
-  pub telling_fail : FAIL + v < length w
-  telling_fail = omega (arith, num_most numbered v node, numbered.few_nodes, numbered.room)
-
   module _ {f : ℕ} (g : Got w FAIL v f) where
     link : IsNode ps f (fail ps (string ps v))
     link = rw g.is (T.owning.headed.automaton.fails v node)
@@ -51,15 +48,6 @@ module _ {s es : List ℕ} {n nodes : ℕ} {w : List ℕ} {v : ℕ} (T : Telling
 
     few : f ≤ 2000
     few = omega (arith, below, num_most numbered v node, numbered.few_nodes)
-
-    pub telling_head : HEAD + f < length w
-    telling_head = omega (arith, few, numbered.room)
-
-    pub telling_out : OUT + f < length w
-    telling_out = omega (arith, few, numbered.room)
-
-    pub telling_tally : TALLY + f < length w
-    telling_tally = omega (arith, few, numbered.room)
 
     pub telling_root : f ≡ 0 → OutOf ss M v 0
     telling_root z = out_root ss M v link z

@@ -16,7 +16,7 @@ use Rattle.layout.specs.Tables.{cell, members, owners, Threaded}
 use Rattle.layout.specs.Numbered.{patterns_in}
 use Rattle.trie_outputs.specs.Steps.Outputs.{Owning}
 use Rattle.trie_outputs.proofs.Outs.{by_list, length-those}
-use Rattle.layout.proofs.Heads.{member_few, member_some, members-length, num_most}
+use Rattle.layout.proofs.Heads.{member_few, member_some, members-length}
 
 pub record Counting (s es : List ℕ) (n nodes : ℕ) (w : List ℕ) (v i k : ℕ) : Type 0 where
   pub owning : Owning s es n nodes w v
@@ -27,11 +27,6 @@ pub record Counting (s es : List ℕ) (n nodes : ℕ) (w : List ℕ) (v i k : �
   pub all : k + length rest ≡ length (owners (slips_of s es) (members w n) (string (patterns_in s es n w) v))
 
 module _ {s es : List ℕ} {n nodes : ℕ} {w : List ℕ} {v : ℕ} (O : Owning s es n nodes w v) where
-  pub owners_head : HEAD + v < length w
-  owners_head =
-      let N = O.headed.automaton.branched.numbered in
-      omega (arith, num_most N v O.node, N.few_nodes, N.room)
-
   pub counting_start : {i : ℕ} → Got w HEAD v i → Counting s es n nodes w v i 0
   counting_start g =
       let M = members w n in

@@ -12,13 +12,14 @@ ghost use Rattle.trie_outputs.specs.Steps.Outputs as O;
 use trays::Tray;
 
 // How many members have all letters of node `v`.
+// kept: their list is linked through TWIN, so there is no range to go over
 fn owners_of(tray: Tray<'_>, work: &[u16], n: usize, nodes: usize, v: usize) -> usize
     requires { O.Owning tray.letters.now tray.ends.now n nodes work.now v }
     ensures { result ≡ length (owners (slips_of tray.entry.letters.now tray.entry.ends.now) (members work.now n)
         (string (patterns_in tray.entry.letters.now tray.entry.ends.now n work.now) v)) }
 {
     let mut i = tables::at(work, layout::HEAD, v);
-    let mut k: usize = 0;
+    let mut k = 0;
     while i != 0 {
         i = tables::at(work, layout::TWIN, i);
         k += 1;
@@ -33,11 +34,7 @@ fn output(tray: Tray<'_>, work: &[u16], n: usize, nodes: usize, v: usize) -> usi
     ensures { O.OutOf (slips_of tray.entry.letters.now tray.entry.ends.now) (members work.now n) v result }
 {
     let link = tables::at(work, layout::FAIL, v);
-    if link == 0 {
-        return 0;
-    }
-    let owner = tables::at(work, layout::HEAD, link);
-    if owner != 0 {
+    if link == 0 || tables::at(work, layout::HEAD, link) != 0 {
         return link;
     }
     tables::at(work, layout::OUT, link)
@@ -48,10 +45,8 @@ fn tally(tray: Tray<'_>, work: &[u16], n: usize, nodes: usize, v: usize) -> usiz
     requires { O.Telling tray.letters.now tray.ends.now n nodes work.now v }
     ensures { O.Tallied (slips_of tray.entry.letters.now tray.entry.ends.now) (members work.now n) v result }
 {
-    let own = owners_of(tray, work, n, nodes, v);
     let link = tables::at(work, layout::FAIL, v);
-    let behind = tables::at(work, layout::TALLY, link);
-    own + behind
+    owners_of(tray, work, n, nodes, v) + tables::at(work, layout::TALLY, link)
 }
 
 // Fills OUT and TALLY, node by node: a node's failure link has a lower number. Nothing ends the empty string.
@@ -60,12 +55,10 @@ pub fn fill_outputs(tray: Tray<'_>, work: &mut [u16], n: usize, nodes: usize)
     ensures { O.OutputsFilled tray.entry.letters.now tray.entry.ends.now n nodes work.old work.new }
 {
     tables::put(work, layout::TALLY, 0, 0);
-    let mut v: usize = 1;
-    while v <= nodes {
+    for v in 1..=nodes {
         let out = output(tray, work, n, nodes, v);
         let tally = tally(tray, work, n, nodes, v);
         tables::put(work, layout::OUT, v, out);
         tables::put(work, layout::TALLY, v, tally);
-        v += 1;
     }
 }

@@ -17,11 +17,11 @@ use Rattle.matching.proofs.States.{few_from}
 use Rattle.matching.proofs.NodeLaws.{node_root}
 use Rattle.layout.specs.Layout.{TALLY}
 use Rattle.layout.specs.Numbered.{patterns_in}
-use Rattle.trie_links.specs.Links.{StepIs, CanStep}
-use Rattle.trie_links.proofs.Steps.{node_within, state_none, state_next, moves_next, moves_least}
+use Rattle.trie_links.specs.Links.{StepIs}
+use Rattle.trie_links.proofs.Steps.{state_none, state_next, moves_next, moves_least}
 use Rattle.trie_scan.specs.Steps.Scanning.{occurs_from, Able, TextCountsAre}
 use Rattle.trie_scan.proofs.Occurs.{slips_all, occurs_all, occurs_next, occurs_none}
-use Rattle.trie_scan.proofs.Scans.{able_endings, able_few, able_steps}
+use Rattle.trie_scan.proofs.Scans.{able_endings, able_few}
 
 pub record Counting (s es t : List ℕ) (n nodes : ℕ) (w : List ℕ) (state moves found read : ℕ) : Type 0 where
   pub able : Able s es t n nodes w
@@ -46,9 +46,6 @@ module _ {s es t : List ℕ} {n nodes : ℕ} {w : List ℕ} where
       }
 
   module _ {state moves found read : ℕ} (C : Counting s es t n nodes w state moves found read) where
-    pub counting_steps : CanStep s es n nodes w state
-    counting_steps = able_steps C.able C.state_is
-
     -- counted so far is no more than the whole
     moves_few : (k v : ℕ) (x : List ℕ) → Moves.moves_from (patterns_in s es n w) x (drop v t) k ≡ Moves.moves (slips_of s es) t → k ≤ 2 * max_text
     moves_few k v x e =
@@ -73,11 +70,6 @@ module _ {s es t : List ℕ} {n nodes : ℕ} {w : List ℕ} where
 
       pub counting_moves : moves + (1 + d) < 18446744073709551616
       counting_moves = omega (arith, moves_few (moves + (1 + d)) (read + 1) _ next_moves)
-
-      pub counting_tally : TALLY + u < length w
-      counting_tally =
-          let N = C.able.told.headed.automaton.branched.numbered in
-          omega (arith, node_within N i.state, N.few_nodes, N.room)
 
       module _ {k : ℕ} (g : Got w TALLY u k) where
         next_found : (found + k) + length (occurs_from (slips_of s es) t (read + 1)) ≡ length (occurrences (slips_of s es) t)

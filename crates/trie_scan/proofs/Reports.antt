@@ -25,7 +25,7 @@ use Rattle.trie_outputs.specs.Steps.Outputs.{longest_owned, OutOf, Told}
 use Rattle.trie_outputs.proofs.Outs.{by_list, owned-here, owned_past, ending_out, ending_root}
 use Rattle.layout.proofs.Heads.{member_few, member_some, member_letters, num_most}
 use Rattle.layout.proofs.AreaSlips.{area_slips}
-use Rattle.trie_scan.specs.Steps.Scanning.{Reporting, Pending, AtNode}
+use Rattle.trie_scan.specs.Steps.Scanning.{Reporting, Pending}
 
 owned-owned : (ss : List (List ℕ)) (M t : List ℕ) → 1 ≤ length (longest_owned ss M t) → (i : ℕ) × (is : List ℕ) × (owners ss M (longest_owned ss M t) ≡ i ∷ is)
 owned-owned ss M [] h = absurd (omega arith)
@@ -81,9 +81,6 @@ module _ {s es : List ℕ} {n nodes : ℕ} {w : List ℕ} (T : Told s es n nodes
               };
         }
 
-  pub told_head : {v : ℕ} → v ≤ nodes → HEAD + v < length w
-  told_head h = omega (arith, numbered.few_nodes, numbered.room)
-
   -- the output link of node v
   module _ {v u : ℕ} (m : Num ps v) (g : Got w OUT v u) where
     pub behind-most : u ≤ nodes
@@ -116,9 +113,6 @@ module _ {s es : List ℕ} {n nodes : ℕ} {w : List ℕ} (T : Told s es n nodes
 
   pub reporting_room : {node slip : ℕ} {xs : List ℕ} → Reporting ss M w node slip xs → TWIN + slip < length w
   reporting_room {slip = slip} R = omega (arith, member_few numbered slip (R.among slip (Memᴰ.head refl)), numbered.room)
-
-  pub reporting_node : {node slip : ℕ} {xs : List ℕ} → Reporting ss M w node slip xs → AtNode s es n nodes w node
-  reporting_node {node} R = record { told = T; node = num_most numbered node R.is_node }
 
   -- the members behind one that is reported
   module _ {node slip twin : ℕ} {xs : List ℕ} (R : Reporting ss M w node slip xs) (g : Got w TWIN slip twin) where

@@ -1,15 +1,15 @@
 -- A scan of the text, letter by letter and occurrence by occurrence.
 --   drop_tail, get_d_drop == a list from one place further on; its first
---   able-..           == what the state tells of the text, and what may be called there
+--   able-..           == what the state tells of the text
 --   unread-..         == one letter more
 --   Reaching          == letters are being read, none of them reported
---   reaching-..       == the turns of that loop
+--   reaching_unread   == the next of them may be read
 --   reportable-..     == the occurrence that is reported, and the scan behind it
 -- The occurrences that are left are those still to be reported at this place, then those that end at later letters. Where none is left here the next
 -- letter gives its own; where one is, it is the first of all that are left.
 use mathlib.Core.Path.{◌≡◌, refl, sym, ap, ap₂, ◌∙◌}
 use mathlib.Core.List.{List, [], ◌∷◌, ◌++◌, map}
-use Prim.Native.Nat.{ℕ, zero, suc, ◌+◌, ◌-◌, ◌*◌, ◌≤◌, ◌<◌}
+use Prim.Native.Nat.{ℕ, zero, suc, ◌+◌, ◌*◌, ◌≤◌, ◌<◌}
 use native.Mathlib.Decide.{dec_lt}
 use native.Mathlib.Numerals.{add-one}
 use native.Mathlib.Omega.{arith}
@@ -21,19 +21,19 @@ use Rattle.trays.specs.Slips.{slips_of, slip}
 use Rattle.trays.proofs.Accepted.{accepted_tells, slips_count}
 use Rattle.tables.specs.Tables.{Got}
 use Rattle.matching.specs.Moves.{longest_ending}
-use Rattle.matching.specs.Steps.Nodes.{string, IsNode, Num}
+use Rattle.matching.specs.Steps.Nodes.{string, IsNode}
 use Rattle.matching.specs.Occurrences.{occurrence, ending_at, occurrences}
 use Rattle.matching.proofs.Endings.{slip-some}
 use Rattle.matching.proofs.Finds.{ending_of, ending_longest}
 use Rattle.layout.specs.Layout.{TWIN, OUT}
 use Rattle.layout.specs.Tables.{cell, members}
 use Rattle.layout.specs.Numbered.{patterns_in, Numbered}
-use Rattle.trie_links.specs.Links.{StepIs, CanStep}
-use Rattle.trie_links.proofs.Steps.{automaton_steps, node_within, state_next}
+use Rattle.trie_links.specs.Links.{StepIs}
+use Rattle.trie_links.proofs.Steps.{state_next}
 use Rattle.trie_scan.specs.declared.Scan.{Scan}
-use Rattle.trie_scan.specs.Steps.Scanning.{occurs_from, Able, Reporting, Pending, AtNode, Standing, Ahead, Unread, ReadOn, Reached, Reportable, Passed}
+use Rattle.trie_scan.specs.Steps.Scanning.{occurs_from, Able, Reporting, Pending, Standing, Unread, ReadOn, Reportable, Passed}
 use Rattle.trie_scan.proofs.Occurs.{occurs_next, occurs_none, occurs_few}
-use Rattle.trie_scan.proofs.Reports.{twin_next, twin_behind, reporting_room, reporting_node}
+use Rattle.trie_scan.proofs.Reports.{twin_next, twin_behind, reporting_room}
 
 drop_tail : {A : Type 0} (i : ℕ) (xs : List A) → drop (suc i) xs ≡ tail_of (drop i xs)
 drop_tail zero [] = refl
@@ -69,21 +69,9 @@ module _ {s es t : List ℕ} {n nodes : ℕ} {w : List ℕ} (A : Able s es t n n
       let f : length ss ≤ max_slips = rw (slips_count s es) (accepted_tells s es numbered.accepted).few in
       omega (arith, occurs_few ss t f, A.short)
 
-  pub able_steps : {v : ℕ} {x : List ℕ} → IsNode (patterns_in s es n w) v x → CanStep s es n nodes w v
-  able_steps {v} m = automaton_steps v A.told.headed.automaton (node_within numbered m)
-
-  pub able_node : {v : ℕ} {x : List ℕ} → IsNode (patterns_in s es n w) v x → AtNode s es n nodes w v
-  able_node m = record { told = A.told; node = node_within numbered m }
-
 -- one letter more
 module _ {s es t : List ℕ} {n nodes : ℕ} {w : List ℕ} {x : Scan} (U : Unread s es t n nodes w x) where
-  pub unread_steps : CanStep s es n nodes w x.state
-  unread_steps = able_steps U.standing.able U.standing.state_is
-
   module _ {c u d : ℕ} (b : c ≡ get_or t x.read 0) (i : StepIs (patterns_in s es n w) x.state c u d) where
-    pub unread_node : AtNode s es n nodes w u
-    unread_node = able_node U.standing.able i.state
-
     pub unread_read : {node slip : ℕ} →
         Pending (slips_of s es) (members w n) w node slip (ending_of (slips_of s es) (members w n) (string (patterns_in s es n w) u))
         → ReadOn s es t n nodes w x (record { done = x.done; read = x.read + 1; state = u; node = node; slip = slip })
@@ -116,9 +104,6 @@ pub record Reaching (s es t : List ℕ) (n nodes : ℕ) (w : List ℕ) (x y : Sc
   pub done : y.done ≡ x.done
   pub more : x.done < length (occurrences (slips_of s es) t)
 
-pub reaching_start : {s es t : List ℕ} {n nodes : ℕ} {w : List ℕ} {x : Scan} → Ahead s es t n nodes w x → Reaching s es t n nodes w x x
-reaching_start a = record { standing = a.standing; done = refl; more = a.more }
-
 module _ {s es t : List ℕ} {n nodes : ℕ} {w : List ℕ} {x y : Scan} (R : Reaching s es t n nodes w x y) where
   pub reaching_unread : y.slip ≡ 0 → Unread s es t n nodes w y
   reaching_unread z =
@@ -135,15 +120,6 @@ module _ {s es t : List ℕ} {n nodes : ℕ} {w : List ℕ} {x y : Scan} (R : Re
               absurd (omega (arith, R.more, R.done, ap length e, length-drop y.done (occurrences ss t)))
         ];
       }
-
-  pub reaching_more : {z : Scan} → ReadOn s es t n nodes w y z → Reaching s es t n nodes w x z
-  reaching_more r = record { standing = r.standing; done = r.done ∙ R.done; more = R.more }
-
-  pub reaching_less : {z : Scan} → y.slip ≡ 0 → ReadOn s es t n nodes w y z → length t - z.read < length t - y.read
-  reaching_less q r = omega (arith, r.read, (reaching_unread q).more)
-
-  pub reaching_all : (y.slip ≡ 0 → ⊥) → Reached s es t n nodes w x y
-  reaching_all h = record { standing = R.standing; done = R.done; some = h }
 
 -- the occurrence that is reported
 module _ {s es t : List ℕ} {n nodes : ℕ} {w : List ℕ} {x : Scan} (P : Reportable s es t n nodes w x) where
@@ -165,12 +141,6 @@ module _ {s es t : List ℕ} {n nodes : ℕ} {w : List ℕ} {x : Scan} (P : Repo
 
   pub reportable_room : TWIN + x.slip < length w
   reportable_room = reporting_room P.standing.able.told here
-
-  pub reportable_node : AtNode s es n nodes w x.node
-  reportable_node = reporting_node P.standing.able.told here
-
-  pub reportable_num : Num (patterns_in s es n w) x.node
-  reportable_num = here.is_node
 
   module _ {twin : ℕ} (g : Got w TWIN x.slip twin) where
     passed : {node i : ℕ} → Pending (slips_of s es) (members w n) w node i (tail_of P.standing.rest)

@@ -20,6 +20,7 @@ pub struct TextCounts {
 }
 
 // A node and the next of its members to be reported, 0 for none.
+// kept: the zeros are those of `Scan`, which the work area keeps in cells; an `Option` would be turned into them at each call
 #[derive(Clone, Copy)]
 pub struct Report {
     pub node: usize,
@@ -41,16 +42,14 @@ pub fn count_text(tray: Tray<'_>, text: &[u8], work: &[u16], n: usize, nodes: us
     requires { S.Able tray.letters.now tray.ends.now text.now n nodes work.now }
     ensures { S.TextCountsAre tray.entry.letters.now tray.entry.ends.now text.now result }
 {
-    let mut state: usize = 0;
-    let mut moves: usize = 0;
-    let mut found: usize = 0;
-    let mut read: usize = 0;
-    while read < text.len() {
-        let next = trie_links::step(tray, work, n, nodes, state, text[read]);
+    let mut state = 0;
+    let mut moves = 0;
+    let mut found = 0;
+    for c in text {
+        let next = trie_links::step(tray, work, n, nodes, state, *c);
         state = next.state;
         moves += 1 + next.drops;
         found += tables::at(work, layout::TALLY, state);
-        read += 1;
     }
     TextCounts { moves, found }
 }
@@ -62,10 +61,11 @@ fn report_behind(tray: Tray<'_>, work: &[u16], n: usize, nodes: usize, v: usize)
     ensures { S.Reports tray.entry.letters.now tray.entry.ends.now n work.now (cell work.now L.OUT v) result }
 {
     let node = tables::at(work, layout::OUT, v);
-    if node == 0 {
-        return Report { node: 0, slip: 0 };
-    }
-    let slip = tables::at(work, layout::HEAD, node);
+    let slip = if node == 0 {
+        0
+    } else {
+        tables::at(work, layout::HEAD, node)
+    };
     Report { node, slip }
 }
 
@@ -89,13 +89,11 @@ fn read_letter(tray: Tray<'_>, text: &[u8], work: &[u16], n: usize, nodes: usize
     requires { S.Unread tray.letters.now tray.ends.now text.now n nodes work.now x }
     ensures { S.ReadOn tray.entry.letters.now tray.entry.ends.now text.now n nodes work.now x result }
 {
-    let read = x.read;
-    let next = trie_links::step(tray, work, n, nodes, x.state, text[read]);
-    let state = next.state;
+    let state = trie_links::step(tray, work, n, nodes, x.state, text[x.read]).state;
     let report = report_at(tray, work, n, nodes, state);
     Scan {
         done: x.done,
-        read: read + 1,
+        read: x.read + 1,
         state,
         node: report.node,
         slip: report.slip,
@@ -103,6 +101,7 @@ fn read_letter(tray: Tray<'_>, text: &[u8], work: &[u16], n: usize, nodes: usize
 }
 
 // Letters are read until there is something to report.
+// kept: how many these are is not known before they are read
 pub fn advance(tray: Tray<'_>, text: &[u8], work: &[u16], n: usize, nodes: usize, x: Scan) -> Scan
     requires { S.Ahead tray.letters.now tray.ends.now text.now n nodes work.now x }
     ensures { S.Reached tray.entry.letters.now tray.entry.ends.now text.now n nodes work.now x result }
@@ -123,19 +122,16 @@ pub fn pass(tray: Tray<'_>, text: &[u8], work: &[u16], n: usize, nodes: usize, x
     if twin != 0 {
         return Scan {
             done: x.done + 1,
-            read: x.read,
-            state: x.state,
-            node: x.node,
             slip: twin,
+            ..x
         };
     }
     let report = report_behind(tray, work, n, nodes, x.node);
     Scan {
         done: x.done + 1,
-        read: x.read,
-        state: x.state,
         node: report.node,
         slip: report.slip,
+        ..x
     }
 }
 

@@ -1,17 +1,14 @@
-use Rattle.trie_children.proofs.Near.{near_start, near_can, near_more, near_few, near_all}
+use mathlib.Core.Path.{refl}
+use native.Mathlib.Omega.{arith}
+use Rattle.trie_children.proofs.Near.{near_can, near_more, near_all}
 use Rattle.trie_children.proofs.fill_near.Goals as goal
 
-pub loop-v-init : goal.loop-v-init
-loop-v-init c = search near_start
-
-pub returns-then-nodes-v : goal.returns-then-nodes-v
-returns-then-nodes-v c = search near_few
-
 pub fill_row-requires : goal.fill_row-requires
-fill_row-requires c = search near_can
+fill_row-requires c =
+    near_can c.loop-v.invariant (omega (arith, c.min-v-end.ensures, c.loop-v-test.true)) (omega (arith, c.min-v-end.ensures, c.loop-v-test.true))
 
 pub loop-v-preserved : goal.loop-v-preserved
-loop-v-preserved c = search near_more
+loop-v-preserved c = near_more c.loop-v.invariant _ (omega (arith, c.min-v-end.ensures, c.loop-v-test.true)) c.fill_row.ensures refl
 
 pub returns : goal.returns
-returns c = search near_all
+returns c = near_all c.loop-v.invariant (omega (arith, c.min-v-end.ensures, c.loop-v-test.false))

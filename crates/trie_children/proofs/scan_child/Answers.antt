@@ -1,8 +1,5 @@
-use Rattle.trie_children.proofs.Children.{scan_start, scan_lettered, scan_hit, scan_past, scan_more, scan_none}
+use Rattle.trie_children.proofs.Children.{scan_lettered, scan_hit, scan_past, scan_more, scan_none}
 use Rattle.trie_children.proofs.scan_child.Goals as goal
-
-pub loop-u-init : goal.loop-u-init
-loop-u-init c = search scan_start
 
 pub letter-b-requires : goal.letter-b-requires
 letter-b-requires c = search scan_lettered

@@ -1,16 +1,10 @@
 use Rattle.trie_heads.proofs.Keeping.{kept_refl, kept_trans}
-use Rattle.trie_heads.proofs.HeadLoop.{heading_room, heading_start, heading_place, heading_among}
+use Rattle.trie_heads.proofs.HeadLoop.{heading_start, heading_among}
 use Rattle.trie_heads.proofs.HeadLoop.{heading_can, heading_more, heading_kept, heading_all}
 use Rattle.trie_heads.proofs.fill_heads.Goals as goal
 
-pub clear-requires : goal.clear-requires
-clear-requires c = search heading_room
-
 pub loop-j-init : goal.loop-j-init
 loop-j-init c = (search heading_start, search kept_refl)
-
-pub at-i-requires : goal.at-i-requires
-at-i-requires c = search heading_place
 
 pub node_of-v-requires : goal.node_of-v-requires
 node_of-v-requires c =

@@ -1,11 +1,8 @@
-use Rattle.trie_heads.proofs.MemberNodes.{among-some, among-most, among_end, among-place, among_node}
+use Rattle.trie_heads.proofs.MemberNodes.{among_end, among-place, among_node}
 use Rattle.trie_heads.proofs.node_of.Goals as goal
 
-pub slip_span-span-requires : goal.slip_span-span-requires
-slip_span-span-requires c = (search among-some, search among-most)
-
-pub overflow_sub-end : goal.overflow_sub-end
-overflow_sub-end c = search among_end
+pub overflow_sub-slip_span : goal.overflow_sub-slip_span
+overflow_sub-slip_span c = search among_end
 
 pub at-requires : goal.at-requires
 at-requires c = search among-place

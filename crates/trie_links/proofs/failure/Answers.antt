@@ -14,8 +14,8 @@ at-from-requires c = search link_room
 pub letter-c-requires : goal.letter-c-requires
 letter-c-requires c = search lettered
 
-pub step-next-requires : goal.step-next-requires
-step-next-requires c = search link_can
+pub step-requires : goal.step-requires
+step-requires c = search link_can
 
 pub returns : goal.returns
 returns c = search link_step

@@ -1,20 +1,17 @@
-use Rattle.trie_links.proofs.Steps.{dropping_start, dropping_looks, dropping_extends, dropping_ends, dropping_falls, dropping_more}
+use Rattle.trie_links.proofs.Steps.{dropping_extends, dropping_ends, dropping_falls, dropping_more}
+use borrow.Author.Rules.{rules}
 use Rattle.trie_links.proofs.step.Goals as goal
-
-pub loop-n-init : goal.loop-n-init
-loop-n-init c = search dropping_start
-
-pub child-u-requires : goal.child-u-requires
-child-u-requires c = search dropping_looks
-
-pub returns-then-u-ne0 : goal.returns-then-u-ne0
-returns-then-u-ne0 c = search dropping_extends
-
-pub returns-then-state-eq0 : goal.returns-then-state-eq0
-returns-then-state-eq0 c = search dropping_ends
+use Rattle.trie_links.proofs.step.Goals.{then-u-ne0-via-then-u-ne0, then-u-ne0-via-else-u-ne0+then-state-eq0}
 
 pub loop-n-smaller : goal.loop-n-smaller
 loop-n-smaller c = search dropping_falls
 
 pub loop-n-preserved : goal.loop-n-preserved
 loop-n-preserved c = search dropping_more
+
+pub returns-then-u-ne0 : goal.returns-then-u-ne0
+returns-then-u-ne0 c =
+    elim c.then-u-ne0.branch [
+      | then-u-ne0-via-then-u-ne0 w ↦ search (rules, dropping_extends)
+      | then-u-ne0-via-else-u-ne0+then-state-eq0 w ↦ rw w.if-u-ne0.false (dropping_ends c.loop-n.invariant c.child-u.ensures w.if-u-ne0.false w.if-state-eq0.true)
+    ]

@@ -1,8 +1,5 @@
-use Rattle.trie_nodes.proofs.StageLoops.{lettered_old, lettered_new}
+use Rattle.trie_nodes.proofs.StageLoops.{lettered_new}
 use Rattle.trie_nodes.proofs.number_letter.Goals as goal
 
 pub returns-then-common-c : goal.returns-then-common-c
 returns-then-common-c c = search lettered_new
-
-pub returns : goal.returns
-returns c = search lettered_old

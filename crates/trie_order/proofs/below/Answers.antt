@@ -1,20 +1,32 @@
-use Rattle.trie_order.proofs.Comparing.{below-before, below_apart, below-lower, below-upper, below-number, below_longer}
+use mathlib.Core.Path.{sym, ◌∙◌}
+use mathlib.Core.Bool.{false≢true}
+use Rattle.trie_order.proofs.Comparing.{below-less, below-lower, below-upper, below-number, below-begun, below_none}
+use borrow.Author.Rules.{rules}
 use Rattle.trie_order.proofs.below.Goals as goal
+use Rattle.trie_order.proofs.below.Goals.{in-Upper-matches, in_default}
 
-pub returns-then-seen : goal.returns-then-seen
-returns-then-seen c = search below-before
-
-pub returns-then-seen-typed : goal.returns-then-seen-typed
-returns-then-seen-typed c = search below_apart
-
-pub returns-then-slip-seen : goal.returns-then-slip-seen
-returns-then-slip-seen c = search below-number
+pub returns-in-Less : goal.returns-in-Less
+returns-in-Less c = search (rules, below-less, c.in-Less.ensures)
 
 pub returns-in-Lower : goal.returns-in-Lower
-returns-in-Lower c = search below-lower
+returns-in-Lower c = search (rules, below-lower, c.in-Equal.ensures)
 
 pub returns-in-Upper : goal.returns-in-Upper
-returns-in-Upper c = search below-upper
+returns-in-Upper c = search (rules, below-upper, c.in-Equal.ensures)
 
-pub returns-else-slip-seen : goal.returns-else-slip-seen
-returns-else-slip-seen c = search below_longer
+pub returns-in-Number : goal.returns-in-Number
+returns-in-Number c = search (rules, below-number, c.in-Equal.ensures)
+
+pub returns-then-matches : goal.returns-then-matches
+returns-then-matches c =
+    elim c.match-matches.branch [
+      | in-Upper-matches w ↦ below-begun _ _ _ _ _ c.cmp.ensures c.in-Greater.is w.in-Upper-matches.is _ c.starts_with.ensures.value
+      | in_default w ↦ absurd (false≢true (sym w.matches-is ∙ c.if-matches.true))
+    ]
+
+pub returns-else-matches : goal.returns-else-matches
+returns-else-matches c =
+    elim c.match-matches.branch [
+      | in-Upper-matches w ↦ absurd (false≢true (sym c.if-matches.false ∙ w.matches-is))
+      | in_default w ↦ rw w.matches-is (below_none _ _ _ _ _ c.cmp.ensures c.in-Greater.is w.in_default.not-Upper)
+    ]

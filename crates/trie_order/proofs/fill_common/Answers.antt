@@ -10,7 +10,7 @@ pub common_at-x-requires : goal.common_at-x-requires
 common_at-x-requires c = search (rules, fill_members, fill_place)
 
 pub loop-i-preserved : goal.loop-i-preserved
-loop-i-preserved c = (search rules, search rules, search fill_more)
+loop-i-preserved c = search (rules, fill_more)
 
 pub returns : goal.returns
-returns c = search (filling_all, fill_size)
+returns c = search (rules, filling_all, fill_size)

@@ -1,7 +1,5 @@
 -- Invariant: each of the first i cells at `common` holds the length of the common prefix of a member and the one before it in the order; no cell
 -- outside that table has changed.
-use mathlib.Core.Path.{◌≡◌}
-use Prim.Native.Nat.{◌+◌, ◌≤◌, ◌-◌}
 use Rattle.trays.specs.Slips.{slips_of}
 use Rattle.tables.specs.Tables.{table}
 use Rattle.tables.proofs.Tables.{Filling}
@@ -10,7 +8,4 @@ use Rattle.trie_order.proofs.fill_common.Given as goal
 
 abbrev pub invariant-loop-i : goal.invariant-loop-i
 invariant-loop-i l =
-    (l.i ≤ l.n) × (l.end ≡ l.order + l.n) × Filling l.common l.n (commons (slips_of l.tray.letters.now l.tray.ends.now) 0 (table l.initial.work l.order l.n)) l.i l.initial.work l.work
-
-abbrev pub decreases-loop-i : goal.decreases-loop-i
-decreases-loop-i l = l.n - l.i
+    Filling l.common l.n (commons (slips_of l.tray.letters.now l.tray.ends.now) 0 (table l.initial.work l.order l.n)) l.i l.initial.work l.work

@@ -8,7 +8,7 @@ pub loop-i-init : goal.loop-i-init
 loop-i-init c = search (rules, filling_none)
 
 pub loop-i-preserved : goal.loop-i-preserved
-loop-i-preserved c = (search rules, search (filling_more, length-up_from, member_at))
+loop-i-preserved c = search (rules, filling_more, length-up_from, member_at)
 
 pub returns : goal.returns
-returns c = search (filling_all, length-up_from)
+returns c = search (rules, filling_all, length-up_from)

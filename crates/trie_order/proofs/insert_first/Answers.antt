@@ -9,8 +9,14 @@ slip_part-typed-requires c = search (rules, member_least, member_most)
 pub rank-k-requires : goal.rank-k-requires
 rank-k-requires c = search first_rankable
 
-pub lay_behind-requires : goal.lay_behind-requires
-lay_behind-requires c = search first_rank
+pub overflow_add-k : goal.overflow_add-k
+overflow_add-k c = search (rules, first_rank)
+
+pub slice_bounds-rotate_left-end : goal.slice_bounds-rotate_left-end
+slice_bounds-rotate_left-end c = search (rules, first_rank)
+
+pub slice_bounds-rotate_left-end-2 : goal.slice_bounds-rotate_left-end-2
+slice_bounds-rotate_left-end-2 c = search (rules, first_rank)
 
 pub returns : goal.returns
-returns c = search first_inserted
+returns c = first_inserted _ _ _ _ _ c.requires (search rules) c.slip_part-typed.ensures _ c.rank-k.ensures _ c.rotate_left.ensures.after

@@ -1,9 +1,6 @@
-use Rattle.trie_order.proofs.RankLoop.{passed_none, failed_none, passed_to, failed_from, rank_found, middle_least, middle_most}
+use Rattle.trie_order.proofs.RankLoop.{passed_to, failed_from, rank_found, middle_least, middle_most}
 use borrow.Author.Rules.{rules}
 use Rattle.trie_order.proofs.rank.Goals as goal
-
-pub loop-low-init : goal.loop-low-init
-loop-low-init c = (search rules, search rules, search passed_none, search failed_none)
 
 pub member_below-requires : goal.member_below-requires
 member_below-requires c = search (rules, middle_least, middle_most)

@@ -1,6 +1,5 @@
 -- Invariant: the members in the cells from m on are in order, and the cells before m are as they were.
 use mathlib.Core.Path.{◌≡◌}
-use Prim.Native.Nat.{◌≤◌}
 use lib.ListN.{length}
 use Rattle.trays.specs.Slips.{slips_of}
 use Rattle.trie_order.specs.Order.{precedes}
@@ -8,7 +7,4 @@ use Rattle.trie_order.proofs.SortLoops.{sorting}
 use Rattle.trie_order.proofs.sort.Given as goal
 
 abbrev pub invariant-loop-m : goal.invariant-loop-m
-invariant-loop-m l = (l.m ≤ length l.initial.cells) × (length l.cells ≡ length l.initial.cells) × (l.cells ≡ sorting (precedes (slips_of l.tray.letters.now l.tray.ends.now)) l.m l.initial.cells)
-
-abbrev pub decreases-loop-m : goal.decreases-loop-m
-decreases-loop-m l = l.m
+invariant-loop-m l = (length l.cells ≡ length l.initial.cells) × (l.cells ≡ sorting (precedes (slips_of l.tray.letters.now l.tray.ends.now)) l.m l.initial.cells)

@@ -1,8 +1,5 @@
-use Rattle.trie_outputs.proofs.OwnersLoop.{owners_head, counting_start, counting_room, counting_less, counting_more, counting_all}
+use Rattle.trie_outputs.proofs.OwnersLoop.{counting_start, counting_room, counting_less, counting_more, counting_all}
 use Rattle.trie_outputs.proofs.owners_of.Goals as goal
-
-pub at-i-requires : goal.at-i-requires
-at-i-requires c = search owners_head
 
 pub loop-i-init : goal.loop-i-init
 loop-i-init c = search counting_start

@@ -1,8 +1,5 @@
-use Rattle.trie_outputs.proofs.OutputsLoop.{telling_tally, telling_sum, telling_tallied}
+use Rattle.trie_outputs.proofs.OutputsLoop.{telling_sum, telling_tallied}
 use Rattle.trie_outputs.proofs.tally.Goals as goal
-
-pub at-behind-requires : goal.at-behind-requires
-at-behind-requires c = search telling_tally
 
 pub overflow_add-result : goal.overflow_add-result
 overflow_add-result c = search telling_sum

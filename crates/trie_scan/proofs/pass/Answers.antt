@@ -1,4 +1,4 @@
-use Rattle.trie_scan.proofs.Scans.{reportable_room, reportable_fits, reportable_node, reportable_num, reportable_twin, reportable_behind}
+use Rattle.trie_scan.proofs.Scans.{reportable_room, reportable_fits, reportable_twin, reportable_behind}
 use Rattle.trie_scan.proofs.pass.Goals as goal
 
 pub at-twin-requires : goal.at-twin-requires
@@ -9,9 +9,6 @@ overflow_add-result c = search reportable_fits
 
 pub returns-then-twin-ne0 : goal.returns-then-twin-ne0
 returns-then-twin-ne0 c = search reportable_twin
-
-pub report_behind-report-requires : goal.report_behind-report-requires
-report_behind-report-requires c = record { at_node = search reportable_node; num = search reportable_num }
 
 pub overflow_add-result-2 : goal.overflow_add-result-2
 overflow_add-result-2 c = search reportable_fits
