@@ -16,12 +16,9 @@ fn add_starts(tray: Tray<'_>, work: &mut [u16], n: usize, k: usize, nodes: usize
 {
     let i = tables::at(work, layout::KEPT, j);
     let span = slips::slip_span(tray.ends, i);
-    let end = span.end;
-    let mut p = span.start;
-    while p < end {
+    for p in span.start..span.end {
         let u = tables::at(work, layout::AT, p);
         trie_heads::push(work, layout::STARTS, u, layout::STARTS_NEXT, p, i);
-        p += 1;
     }
 }
 
@@ -31,9 +28,7 @@ fn fill_starts(tray: Tray<'_>, work: &mut [u16], n: usize, k: usize, nodes: usiz
     ensures { O.AffixFilled O.beginnings tray.entry.letters.now tray.entry.ends.now n k nodes work.old work.new }
 {
     tables::clear(work, layout::STARTS, nodes + 1);
-    let mut j = k;
-    while 0 < j {
-        j -= 1;
+    for j in (0..k).rev() {
         add_starts(tray, work, n, k, nodes, j);
     }
 }
@@ -70,9 +65,7 @@ fn fill_ends(tray: Tray<'_>, work: &mut [u16], n: usize, k: usize, nodes: usize)
     ensures { O.AffixFilled O.endings tray.entry.letters.now tray.entry.ends.now n k nodes work.old work.new }
 {
     tables::clear(work, layout::ENDS, nodes + 1);
-    let mut j = k;
-    while 0 < j {
-        j -= 1;
+    for j in (0..k).rev() {
         add_ends(tray, work, n, k, nodes, j);
     }
 }

@@ -4,6 +4,3 @@ use Rattle.kept_lists.proofs.fill_starts.Given as goal
 
 abbrev pub invariant-loop-j : goal.invariant-loop-j
 invariant-loop-j l = ListedTo beginnings l.tray.letters.now l.tray.ends.now l.n l.k l.nodes l.initial.work l.j l.work
-
-abbrev pub decreases-loop-j : goal.decreases-loop-j
-decreases-loop-j l = l.j
