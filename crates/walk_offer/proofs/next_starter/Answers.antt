@@ -2,9 +2,9 @@ use Rattle.walk_offer.proofs.NextSlips.{starter_fits, starter_within, starter_is
 use native.Mathlib.Omega.{arith}
 use Rattle.walk_offer.proofs.next_starter.Goals as goal
 
-pub overflow_add-start : goal.overflow_add-start
-overflow_add-start c =
-    record { fits = omega (arith, starter_fits c.requires.sized c.requires.real c.slip_span-span.ensures) }
+pub overflow_add-slip_span : goal.overflow_add-slip_span
+overflow_add-slip_span c =
+    record { fits = omega (arith, starter_fits c.requires.sized c.requires.real c.slip_span.ensures) }
 
 pub at-requires : goal.at-requires
 at-requires c = search starter_within
