@@ -16,6 +16,7 @@ use Rattle.layout.specs.Staging.{kept_in}
 use Rattle.layout.proofs.Frames.{members_kept}
 use Rattle.trie_build.specs.Steps.Built.{Buildable, Built}
 use Rattle.kept_lists.specs.Steps.KeptLists.{ListsFilled}
+use Rattle.walk_offer.specs.declared.Marks.{Marks}
 use Rattle.walk.specs.Steps.Walking as W
 use Rattle.answers.specs.declared.Composed.{Composed}
 use Rattle.compose_finish.specs.Steps.Finishing.{Joined, SomeJoined, Finished, FinishedAs}
@@ -38,14 +39,14 @@ module _ (s es w : List ℕ) (a : Buildable s es w) (nodes : ℕ) (w₁ : List �
         ends = l.ends;
       }
 
-  module _ (m : ℕ) (w₃ left right overs : List ℕ) (j : ℕ) (d : W.Walked m s es k w₂ w₃ left right overs j) where
+  module _ (m : ℕ) (w₃ : List ℕ) (marks : Marks) (j : ℕ) (d : W.Walked m s es k w₂ w₃ marks j) where
     kept_now : kept_in w₂ k ≡ kept (slips_of s es) (numbers (slips_of s es))
     kept_now = l.staged.kept_are ∙ rw members_are
 
     long : length w₃ ≡ length w
     long = d.only.same ∙ l.below.same ∙ b.same
 
-    joined_as : (g : Settings) → m ≡ g.least → Joined g s es w₃ k j left right overs
+    joined_as : (g : Settings) → m ≡ g.least → Joined g s es w₃ k j marks.left marks.right marks.overs
     joined_as g e =
         record {
           walked =
@@ -60,10 +61,10 @@ module _ (s es w : List ℕ) (a : Buildable s es w) (nodes : ℕ) (w₁ : List �
           neighbours = d.neighbours;
         }
 
-    pub finish_can : SomeJoined s es w₃ k j left right overs
+    pub finish_can : SomeJoined s es w₃ k j marks.left marks.right marks.overs
     finish_can = let g : Settings = record { least = m; side = blank_side } in record { settings = g; joined = joined_as g refl }
 
-    module _ (w₄ l₀ l₁ : List ℕ) (jr pr : ℕ) (r : Composed) (f : FinishedAs s es w₃ w₄ l₀ l₁ k j left right overs jr pr r) where
+    module _ (w₄ l₀ l₁ : List ℕ) (jr pr : ℕ) (r : Composed) (f : FinishedAs s es w₃ w₄ l₀ l₁ k j marks.left marks.right marks.overs jr pr r) where
       finished_same : length w₄ ≡ length w
       finished_same = f.same ∙ long
 

@@ -8,7 +8,7 @@ walk-joins-requires c = record { le_least = search least_here; walkable = search
 
 pub finish-requires : goal.finish-requires
 finish-requires c =
-    finish_can _ _ _ c.requires.buildable _ _ c.build-nodes.ensures _ _ c.fill_lists-k.ensures _ _ _ _ _ _ c.walk-joins.ensures
+    finish_can _ _ _ c.requires.buildable _ _ c.build-nodes.ensures _ _ c.fill_lists-k.ensures _ _ _ _ c.walk-joins.ensures
 
 pub shape_of-work : goal.shape_of-work
 shape_of-work c =
@@ -22,5 +22,5 @@ shape_of-work c =
 
 pub returns : goal.returns
 returns c =
-    finished_all _ _ _ c.requires.buildable _ _ c.build-nodes.ensures _ _ c.fill_lists-k.ensures _ _ _ _ _ _
+    finished_all _ _ _ c.requires.buildable _ _ c.build-nodes.ensures _ _ c.fill_lists-k.ensures _ _ _ _
     c.walk-joins.ensures _ _ _ _ _ _ c.finish.ensures c.args.settings (search rules)
