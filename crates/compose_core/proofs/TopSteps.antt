@@ -1,7 +1,7 @@
 -- From an accepted tray to the last step.
 use mathlib.Core.Path.{◌≡◌, refl, ◌∙◌}
 use mathlib.Core.List.{List}
-use Prim.Native.Nat.{ℕ, ◌≤◌}
+use Prim.Native.Nat.{ℕ}
 use native.Mathlib.Omega.{arith}
 use lib.ListN.{length}
 use Rattle.tables.proofs.Tables.{cells-below}
@@ -21,23 +21,10 @@ use Rattle.walk.specs.Steps.Walking as W
 use Rattle.answers.specs.declared.Composed.{Composed}
 use Rattle.compose_finish.specs.Steps.Finishing.{Joined, SomeJoined, Finished, FinishedAs}
 
-pub least_here : (g : Settings) (m : ℕ) → 1 ≤ g.least → m ≡ g.least → 1 ≤ m
-least_here g m h e = omega arith
-
 module _ (s es w : List ℕ) (a : Buildable s es w) (nodes : ℕ) (w₁ : List ℕ) (b : Built s es w nodes w₁) (k : ℕ) (w₂ : List ℕ)
     (l : ListsFilled s es (length es) nodes w₁ k w₂) where
   members_are : members w₂ (length es) ≡ numbers (slips_of s es)
   members_are = members_kept (length es) (omega (arith, l.staged.automaton.branched.numbered.few_members)) l.below ∙ b.all_slips
-
-  pub walk_can : W.Walkable s es (length es) k nodes w₂
-  walk_can =
-      record {
-        numbered = l.staged.automaton.branched.numbered;
-        few_kept = l.staged.few_kept;
-        kept_are = l.staged.kept_are;
-        starts = l.starts;
-        ends = l.ends;
-      }
 
   module _ (m : ℕ) (w₃ : List ℕ) (marks : Marks) (j : ℕ) (d : W.Walked m s es k w₂ w₃ marks j) where
     kept_now : kept_in w₂ k ≡ kept (slips_of s es) (numbers (slips_of s es))

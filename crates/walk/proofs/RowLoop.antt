@@ -1,6 +1,6 @@
 -- The visits of the nodes of one length, by number.
 --   RowWalking .. w made v end ..  == what is left of the row from node v on makes of the joins in w what the whole row makes
-use mathlib.Core.Path.{◌≡◌, sym, ap, ◌∙◌}
+use mathlib.Core.Path.{◌≡◌, sym, ◌∙◌}
 use mathlib.Core.List.{List, map}
 use Prim.Native.Nat.{ℕ, suc, ◌+◌, ◌-◌, ◌≤◌, ◌<◌}
 use native.Mathlib.Numerals.{add-one}
@@ -9,8 +9,8 @@ use lib.ListN.{length}
 use Rattle.words.specs.Lists.{up_from}
 use Rattle.trays.specs.Limits.{max_slip}
 use Rattle.trays.specs.Slips.{slips_of}
-use Rattle.tables.specs.Tables.{Cells, Only, Got}
-use Rattle.tables.proofs.Tables.{only-refl, only_trans}
+use Rattle.tables.specs.Tables.{Cells, Only}
+use Rattle.tables.proofs.Tables.{only_trans}
 use Rattle.greedy.specs.Walk.{visit, walk_from}
 use Rattle.greedy.proofs.Scans as S
 use Rattle.matching.specs.Steps.Nodes.{string, Num}
@@ -22,7 +22,7 @@ use Rattle.walk_offer.specs.Steps.Runs.{starters_at, enders_at}
 use Rattle.walk_offer.specs.Steps.Marks.{Marked}
 use Rattle.walk_offer.specs.declared.Marks.{Marks}
 use Rattle.walk_offer.specs.Steps.Offers.{JoinsMade}
-use Rattle.walk.specs.Steps.Walking.{Visits, Walkable, RowAsks, RowEnds, CountedFrom, row_walked}
+use Rattle.walk.specs.Steps.Walking.{Visits, Walkable, row_walked}
 use Rattle.layout.proofs.RowLaws.{row_num}
 use Rattle.layout.proofs.AreaSlips.{area_slips}
 use Rattle.walk.proofs.WalkableLaws.{kept_rises, here_sized, node_starts, node_ends, patterns-same, kept_same, walkable_kept}
@@ -39,36 +39,12 @@ pub record RowWalking (s es : List ℕ) (n k nodes : ℕ) (w₀ : List ℕ) (d m
   pub rest : walk_from (slips_of s es) (kept_in w₀ k) (map (string (patterns_in s es n w₀)) (up_from v (end - v))) (joins_in w made)
       ≡ row_walked s es n k w₀ d made₀
 
-module _ {s es : List ℕ} {n k nodes : ℕ} {w : List ℕ} {d made end : ℕ} {marks : Marks}
-    (A : RowAsks s es n k nodes w d made marks) (b : Got w LEVEL (d + 1) end) where
-  pub row_ends : RowEnds s es n nodes w d end
-  row_ends = record { numbered = A.walkable.numbered; some = A.some; most = A.most; upto = b.is ∙ ap (cell w LEVEL) (add-one d) }
-
-  pub row_start : {v : ℕ} → CountedFrom s es n w d end v → RowWalking s es n k nodes w d made w made v end marks
-  row_start F =
-      record {
-        walkable = A.walkable;
-        some = A.some;
-        most = A.most;
-        only = only-refl;
-        from = F.from;
-        upto = row_ends.upto;
-        marked = A.marked;
-        rest = ap (λ xs. walk_from (slips_of s es) (kept_in w k) xs (joins_in w made)) (sym F.those_are);
-      }
-
 module _ {s es : List ℕ} {n k nodes : ℕ} {w₀ : List ℕ} {d made₀ : ℕ} {w : List ℕ} {made v end : ℕ} {marks : Marks}
     (T : RowWalking s es n k nodes w₀ d made₀ w made v end marks) where
   open area_slips s es n w₀ use {ss, ps}
 
   abbrev K : List ℕ
   K = kept_in w₀ k
-
-  pub row_end : end ≤ v → JoinsMade w₀ (row_walked s es n k w₀ d made₀) w marks made
-  row_end h =
-      let z : end - v ≡ 0 = omega arith in
-      let e : row_walked s es n k w₀ d made₀ ≡ joins_in w made = sym T.rest ∙ rw z in
-      record { joins_are = sym e; marked = rw e T.marked; only = T.only }
 
   here : Walkable s es n k nodes w
   here = walkable_kept T.walkable T.only

@@ -5,18 +5,17 @@ use mathlib.Core.List.{List, ◌∷◌}
 use Prim.Native.Nat.{ℕ, ◌<◌}
 use native.Mathlib.Omega.{arith}
 use lib.ListN.{length}
-use Rattle.tables.specs.Tables.{Cells, Only, Got}
-use Rattle.tables.proofs.Tables.{only-refl, only_trans}
+use Rattle.tables.specs.Tables.{Cells, Only}
+use Rattle.tables.proofs.Tables.{only_trans}
 use Rattle.greedy.specs.Joins.{Join}
 use Rattle.greedy.proofs.Scans as S
-use Rattle.layout.specs.Layout.{STARTS, ENDS, JOINS, all_joins}
+use Rattle.layout.specs.Layout.{JOINS, all_joins}
 use Rattle.layout.specs.Staging.{joins_in}
 use Rattle.trays.specs.Limits.{max_slips}
 use Rattle.walk_offer.specs.Steps.Runs.{along, waiting_in, next_starter, next_ender, starters_from, starters_at, enders_from, enders_at, Real, ListedFrom}
 use Rattle.walk_offer.specs.Steps.Marks.{Marked}
 use Rattle.walk_offer.specs.declared.Marks.{Marks}
 use Rattle.walk_offer.specs.Steps.Offers.{Sized, Searches, FoundPartner, JoinsMade, Offers}
-use Rattle.walk.specs.Steps.Walking.{Visits}
 use Rattle.walk_offer.proofs.RunLaws.{listed_first, listed_next, listed_real, sized_kept, ender_kept, starter_kept}
 use Rattle.walk_offer.proofs.ScanLaws.{MarksOf, waiting_twice, scan-waiting}
 use Rattle.walk_offer.proofs.MarkLaws.{right_mark}
@@ -29,19 +28,6 @@ pub record Visiting (es : List ℕ) (d v : ℕ) (w₀ : List ℕ) (count : ℕ) 
   pub marked : Marked (joins_in w made) marks
   pub rest : S.scan (enders_from w₀ es d l) d (starters_from w₀ es d r) (joins_in w made)
       ≡ S.scan (enders_at w₀ es d v) d (starters_at w₀ es d v) (joins_in w₀ count)
-
-pub visit_start : {es w : List ℕ} {d v count l r : ℕ} {marks : Marks}
-    → Visits es w d v count marks → Got w ENDS v l → Got w STARTS v r
-    → Visiting es d v w count w count l r marks
-visit_start T a b =
-    record {
-      sized = T.sized;
-      only = only-refl;
-      ends = rw a.is T.ends;
-      starts = rw b.is T.starts;
-      marked = T.marked;
-      rest = rw (a.is, b.is);
-    }
 
 module _ {es : List ℕ} {d v : ℕ} {w₀ : List ℕ} {count : ℕ} {w : List ℕ} {made l r : ℕ} {marks : Marks}
     (T : Visiting es d v w₀ count w made l r marks) where
@@ -59,11 +45,6 @@ module _ {es : List ℕ} {d v : ℕ} {w₀ : List ℕ} {count : ℕ} {w : List �
 
   pub visit_searches : Searches es w d marks.right l
   visit_searches = record { sized = here_sized; rights = T.marked.neighbours.rights; list = rw same-enders T.ends }
-
-  pub visit_end : r ≡ 0 → JoinsMade w₀ (S.scan (enders_at w₀ es d v) d (starters_at w₀ es d v) (joins_in w₀ count)) w marks made
-  visit_end z =
-      let e : S.scan (enders_at w₀ es d v) d (starters_at w₀ es d v) (joins_in w₀ count) ≡ js = sym T.rest ∙ rw z in
-      record { joins_are = sym e; marked = rw e T.marked; only = T.only }
 
   module _ (some : r ≡ 0 → ⊥) where
     pub visit_real : Real es d r
@@ -94,9 +75,6 @@ module _ {es : List ℕ} {d v : ℕ} {w₀ : List ℕ} {count : ℕ} {w : List �
           (m : JoinsMade w (S.offer (enders_from w es d l') d r (joins_in w made)) w' marks' made') where
         all_only : Only (Cells JOINS all_joins) w₀ w'
         all_only = only_trans T.only m.only
-
-        pub visit_next : Sized es w' d
-        visit_next = sized_kept here_sized m.only
 
         module _ {r' : ℕ} (q : r' ≡ next_starter w' es d r) where
           next_is : r' ≡ next_starter w₀ es d r

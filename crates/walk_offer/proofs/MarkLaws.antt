@@ -2,7 +2,7 @@
 --   set_cases    == what the marks are when one is set
 --   tells-..     == a list of marks that tells a function of the slips: one of them, one set
 --   Owning i xs  == the first i slips are marked as their own
---   ends-..      == chain ends as a table: a mark set, every slip its own
+--   ends-..      == chain ends as a table: a mark, a slip beyond the list, every slip its own
 --   zeros-..     == how many marks are 0: all at the start, one fewer when one is set
 --   over-..      == overlaps with one join more
 --   marks_none   == marks without a join
@@ -18,7 +18,7 @@ use native.Mathlib.Numerals.{add-one, sub-one}
 use native.Mathlib.Omega.{arith}
 use lib.Dec.{eqb}
 use lib.ListN.{length, get_or, set, take, replicate, length-set, length-replicate, get_or-replicate, length-append, get_or-eq_default}
-use lib.Seq.{get_or-set_same, get_or-set_other, take-suc-set, take_all}
+use lib.Seq.{get_or-set_same, get_or-set_other, take-suc-set}
 use borrow.Author.Tests.{eq-eqb, ne_eqb}
 use Rattle.words.proofs.Runs.{length-up_from, up_from_more}
 use Rattle.words.specs.Lists.{up_from}
@@ -29,7 +29,7 @@ use Rattle.trays.specs.Limits.{max_slips}
 use Rattle.greedy.specs.Joins.{Join, join, right_of, left_of, last_of}
 use Rattle.greedy.specs.Legends.{overlap_after}
 use Rattle.greedy.proofs.Linked as L
-use Rattle.greedy.proofs.Threads.{threads_none, put_at, threads_join}
+use Rattle.greedy.proofs.Threads.{threads_none, threads_join}
 use Rattle.layout.specs.Staging.{Neighbours}
 use Rattle.walk_offer.specs.Steps.Runs.{mark}
 use Rattle.walk_offer.specs.Steps.Marks.{chain_ends, zeros, Marked}
@@ -43,9 +43,6 @@ pub record Owning (i : ℕ) (xs : List ℕ) : Type 0 where
   pub upto : i ≤ max_slips
   pub own : take i xs ≡ up_from 1 i
 
-pub own_start : (xs : List ℕ) → length xs ≡ max_slips → Owning 0 xs
-own_start xs e = record { size = e; upto = omega arith; own = refl }
-
 module _ {i : ℕ} {xs : List ℕ} (O : Owning i xs) where
   pub own_turn : i < length xs → Owning (i + 1) (set xs i (i + 1))
   own_turn h =
@@ -55,11 +52,6 @@ module _ {i : ℕ} {xs : List ℕ} (O : Owning i xs) where
         upto = omega (arith, O.size);
         own = rw add-one (take-suc-set xs i (suc i) h ∙ ap (λ l. l ++ (suc i ∷ [])) O.own ∙ sym (up_from_more 1 i ∙ rw n));
       }
-
-  pub own_end : length xs ≤ i → xs ≡ up_from 1 max_slips
-  own_end h =
-      let e : i ≡ max_slips = omega (arith, O.size, O.upto) in
-      sym (take_all i xs h) ∙ O.own ∙ rw e
 
 pub mark_at : (xs : List ℕ) (i : ℕ) → mark xs (suc i) ≡ get_or xs i 0
 mark_at xs i = rw (sub-one (suc i))
@@ -91,14 +83,6 @@ ends-mark xs (suc i) h l = rw (mark_at xs i) (get_d_default xs i (suc i) 0 l)
 pub ends-beyond : (xs : List ℕ) (i : ℕ) → length xs < i → chain_ends xs i ≡ i
 ends-beyond xs zero h = absurd (omega arith)
 ends-beyond xs (suc i) h = get_or-eq_default xs (suc i) (omega arith)
-
-pub ends_set : (xs : List ℕ) (a v : ℕ) → 1 ≤ a → a ≤ length xs → chain_ends (set xs (a - 1) v) ≡ put_at (chain_ends xs) a v
-ends_set xs a v h l = fun_ext at
-  where
-    at : (i : ℕ) → chain_ends (set xs (a - 1) v) i ≡ put_at (chain_ends xs) a v i
-    at zero = rw (ne_eqb 0 a (λ e. omega arith))
-    at (suc i) =
-        set_cases (λ x. x ≡ put_at (chain_ends xs) a v (suc i)) xs a v i (suc i) (h, l) (λ e. rw (eq-eqb (suc i) a e)) (λ n. rw (ne_eqb (suc i) a n))
 
 pub ends_own : chain_ends (up_from 1 max_slips) ≡ (λ i. i)
 ends_own = fun_ext at
@@ -205,10 +189,6 @@ module _ {js : List Join} {marks : Marks} (M : Marked js marks) where
 
   end_real : (r : ℕ) → 1 ≤ r → r ≤ max_slips → left_of r js ≡ 0 → (1 ≤ chain_ends marks.last r) × (chain_ends marks.last r ≤ max_slips)
   end_real r h k z = ends_within marks.first (chain_ends marks.last r) r (M.threads.back r z) h k M.firsts
-
-  pub last_some : (r : ℕ) → 1 ≤ r → r ≤ max_slips → mark marks.left r ≡ 0 → 1 ≤ mark marks.last r
-  last_some r h l z =
-      rw (← ends-mark marks.last r h (omega (arith, M.lasts))) (end_real r h l (sym (left-mark r h l) ∙ z)).0
 
   -- r joined behind l
   module _

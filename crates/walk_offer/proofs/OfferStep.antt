@@ -12,9 +12,9 @@ use Rattle.greedy.proofs.Scans as S
 use Rattle.layout.specs.Staging.{joins_in}
 use Rattle.walk_offer.specs.Steps.Runs.{enders_from, mark}
 use Rattle.walk_offer.specs.declared.Marks.{Marks}
-use Rattle.walk_offer.specs.Steps.Offers.{Chooses, partner_in, JoinsMade, CanJoin, JoinPut, EndsFit, EndsJoined, Joinable, Offers}
+use Rattle.walk_offer.specs.Steps.Offers.{partner_in, JoinsMade, CanJoin, JoinPut, EndsFit, EndsJoined, Joinable, Offers}
 use Rattle.walk_offer.proofs.ScanLaws.{MarksOf, partner-among, partner_marks, offer_taken, offer_none, offer_made}
-use Rattle.walk_offer.proofs.MarkLaws.{left-mark, right_mark, last_mark, last_some, marks_room, ends_fit, marks_join}
+use Rattle.walk_offer.proofs.MarkLaws.{left-mark, right_mark, last_mark, marks_room, ends_fit, marks_join}
 use Rattle.walk_offer.proofs.JoinCells.{joins_length}
 
 -- one join
@@ -76,9 +76,6 @@ module _ {es w : List ℕ} {d r l count : ℕ} {marks : Marks} (O : Offers es w 
 
       end_is : end ≡ last_of r js
       end_is = e.0 ∙ last_mark O.marked r O.real.some small unmarked
-
-      pub offer_chooses : Chooses es w d marks.right l end
-      offer_chooses = record { search = O.search; waits = O.waits; real = omega (arith, e.0, last_some O.marked r O.real.some small unmarked) }
 
       module _ {best : ℕ} (b : best ≡ partner_in marks.right (enders_from w es d l) end) where
         best_is : best ≡ S.partner ls (last_of r js) js

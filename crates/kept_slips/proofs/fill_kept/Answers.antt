@@ -1,6 +1,6 @@
 use mathlib.Core.Path.{refl}
 use Rattle.trie_heads.proofs.Keeping.{kept_refl, kept_trans, kept_put}
-use Rattle.kept_slips.proofs.KeptLoop.{sifting_start, sifting_judged, sifting_aside, sifting_can, sifting_kept, sifting_all}
+use Rattle.kept_slips.proofs.KeptLoop.{sifting_start, sifting_judged, sifting_aside, sifting_kept, sifting_all}
 use borrow.Author.Rules.{rules}
 use Rattle.kept_slips.proofs.fill_kept.Goals as goal
 
@@ -15,9 +15,6 @@ loop-j-preserved-then-is_aside c = (
   sifting_aside c.loop-j.invariant.0 c.loop-j-test.true c.at-i.ensures _ c.is_aside.ensures c.if-is_aside.true refl,
   search rules,
 )
-
-pub put-requires : goal.put-requires
-put-requires c = search sifting_can
 
 pub loop-j-preserved : goal.loop-j-preserved
 loop-j-preserved c = (search sifting_kept, search (kept_trans, kept_put))

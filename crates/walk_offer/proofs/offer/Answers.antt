@@ -1,12 +1,9 @@
-use Rattle.walk_offer.proofs.OfferStep.{offer_refused, offer_chooses, offer_nobody, offer_joinable, offer_joins}
+use Rattle.walk_offer.proofs.OfferStep.{offer_refused, offer_nobody, offer_joinable, offer_joins}
 use Rattle.walk_offer.proofs.offer.Goals as goal
 
 pub returns-then-mark_of-ne0 : goal.returns-then-mark_of-ne0
 returns-then-mark_of-ne0 c =
     offer_refused c.requires c.mark_of.ensures c.if-mark_of-ne0.true
-
-pub partner-best-requires : goal.partner-best-requires
-partner-best-requires c = search offer_chooses
 
 pub returns-then-best-eq0 : goal.returns-then-best-eq0
 returns-then-best-eq0 c = search offer_nobody
