@@ -1,7 +1,7 @@
 -- From an accepted tray to the last step.
 use mathlib.Core.Path.{◌≡◌, refl, ◌∙◌}
 use mathlib.Core.List.{List}
-use Prim.Native.Nat.{ℕ, ◌≤◌}
+use Prim.Native.Nat.{ℕ}
 use native.Mathlib.Omega.{arith}
 use lib.ListN.{length}
 use Rattle.tables.proofs.Tables.{cells-below}
@@ -16,36 +16,24 @@ use Rattle.layout.specs.Staging.{kept_in}
 use Rattle.layout.proofs.Frames.{members_kept}
 use Rattle.trie_build.specs.Steps.Built.{Buildable, Built}
 use Rattle.kept_lists.specs.Steps.KeptLists.{ListsFilled}
+use Rattle.walk_offer.specs.declared.Marks.{Marks}
 use Rattle.walk.specs.Steps.Walking as W
 use Rattle.answers.specs.declared.Composed.{Composed}
 use Rattle.compose_finish.specs.Steps.Finishing.{Joined, SomeJoined, Finished, FinishedAs}
-
-pub least_here : (g : Settings) (m : ℕ) → 1 ≤ g.least → m ≡ g.least → 1 ≤ m
-least_here g m h e = omega arith
 
 module _ (s es w : List ℕ) (a : Buildable s es w) (nodes : ℕ) (w₁ : List ℕ) (b : Built s es w nodes w₁) (k : ℕ) (w₂ : List ℕ)
     (l : ListsFilled s es (length es) nodes w₁ k w₂) where
   members_are : members w₂ (length es) ≡ numbers (slips_of s es)
   members_are = members_kept (length es) (omega (arith, l.staged.automaton.branched.numbered.few_members)) l.below ∙ b.all_slips
 
-  pub walk_can : W.Walkable s es (length es) k nodes w₂
-  walk_can =
-      record {
-        numbered = l.staged.automaton.branched.numbered;
-        few_kept = l.staged.few_kept;
-        kept_are = l.staged.kept_are;
-        starts = l.starts;
-        ends = l.ends;
-      }
-
-  module _ (m : ℕ) (w₃ left right overs : List ℕ) (j : ℕ) (d : W.Walked m s es k w₂ w₃ left right overs j) where
+  module _ (m : ℕ) (w₃ : List ℕ) (marks : Marks) (j : ℕ) (d : W.Walked m s es k w₂ w₃ marks j) where
     kept_now : kept_in w₂ k ≡ kept (slips_of s es) (numbers (slips_of s es))
     kept_now = l.staged.kept_are ∙ rw members_are
 
     long : length w₃ ≡ length w
     long = d.only.same ∙ l.below.same ∙ b.same
 
-    joined_as : (g : Settings) → m ≡ g.least → Joined g s es w₃ k j left right overs
+    joined_as : (g : Settings) → m ≡ g.least → Joined g s es w₃ k j marks.left marks.right marks.overs
     joined_as g e =
         record {
           walked =
@@ -60,10 +48,10 @@ module _ (s es w : List ℕ) (a : Buildable s es w) (nodes : ℕ) (w₁ : List �
           neighbours = d.neighbours;
         }
 
-    pub finish_can : SomeJoined s es w₃ k j left right overs
+    pub finish_can : SomeJoined s es w₃ k j marks.left marks.right marks.overs
     finish_can = let g : Settings = record { least = m; side = blank_side } in record { settings = g; joined = joined_as g refl }
 
-    module _ (w₄ l₀ l₁ : List ℕ) (jr pr : ℕ) (r : Composed) (f : FinishedAs s es w₃ w₄ l₀ l₁ k j left right overs jr pr r) where
+    module _ (w₄ l₀ l₁ : List ℕ) (jr pr : ℕ) (r : Composed) (f : FinishedAs s es w₃ w₄ l₀ l₁ k j marks.left marks.right marks.overs jr pr r) where
       finished_same : length w₄ ≡ length w
       finished_same = f.same ∙ long
 

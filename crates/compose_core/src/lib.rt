@@ -10,6 +10,7 @@ ghost use Rattle.compose_finish.specs.Steps.Finishing.{Finished};
 
 use answers::{ComposeCounts, Room};
 use trays::{Fault, MAX_SLIPS, Settings, Tray};
+use walk_offer::Marks;
 
 // An accepted tray, composed in a work area that is large enough: the automaton, the lists at its nodes, the walk, and what comes after it.
 pub fn compose_accepted(
@@ -28,13 +29,23 @@ pub fn compose_accepted(
     let n = tray.ends.len();
     let nodes = trie_build::build(tray, work);
     let k = kept_lists::fill_lists(tray, work, n, nodes);
-    let mut left = [0u16; 200];
-    let mut right = [0u16; 200];
-    let mut overs = [0u16; MAX_SLIPS];
-    let mut first = [0u16; MAX_SLIPS];
-    let mut last = [0u16; MAX_SLIPS];
-    let joins = walk::walk(
-        tray, work, n, k, nodes, least, &mut left, &mut right, &mut overs, &mut first, &mut last,
-    );
-    compose_finish::finish(tray, work, legend, &left, &right, &overs, k, joins, room)
+    let mut marks = Marks {
+        left: [0; MAX_SLIPS],
+        right: [0; MAX_SLIPS],
+        overs: [0; MAX_SLIPS],
+        first: [0; MAX_SLIPS],
+        last: [0; MAX_SLIPS],
+    };
+    let joins = walk::walk(tray, work, n, k, nodes, least, &mut marks);
+    compose_finish::finish(
+        tray,
+        work,
+        legend,
+        &marks.left,
+        &marks.right,
+        &marks.overs,
+        k,
+        joins,
+        room,
+    )
 }

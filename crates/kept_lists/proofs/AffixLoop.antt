@@ -4,7 +4,7 @@
 --   Adding a .. w₀ j i w long == as before the j-th kept member i was added, in w₀, but for the nodes whose lengths long has
 --   added-..                  == the member i, and its number
 --   adding-..                 == no length, one more without a node, one more with a node, all
---   listing-..                == no member, one more, all
+--   listing_start             == no member is in the lists
 -- A node's cell in the member is new to the lists: nodes of other lengths have other cells of the member, and the members that came already stand
 -- behind it in the tray.
 use mathlib.Core.Path.{◌≡◌, refl, sym, ap, ◌∙◌}
@@ -31,7 +31,7 @@ use Rattle.layout.proofs.Frames.{kept-lower, members_kept}
 use Rattle.layout.proofs.Heads.{num_most}
 use Rattle.layout.proofs.AreaSlips.{area_slips}
 use Rattle.kept_slips.specs.Steps.Kept.{KeptFound}
-use Rattle.kept_lists.specs.Steps.KeptLists.{Affix, beginnings, endings, has, place, heads, nexts, with_affix, Listing, ListedTo, AffixFilled}
+use Rattle.kept_lists.specs.Steps.KeptLists.{Affix, beginnings, endings, has, place, heads, nexts, with_affix, Listing, ListedTo}
 use Rattle.trie_heads.specs.Steps.Heads.{CanPush, Pushed, Lists}
 use Rattle.trie_heads.proofs.Threading.{front, those_front, in_front, push_lists}
 use Rattle.trie_heads.proofs.Keeping.{kept_refl, kept_trans, kept_filled, kept_pushed, cleared}
@@ -216,19 +216,3 @@ module _ {a : Affix} {s es : List ℕ} {n k nodes : ℕ} {w : List ℕ} where
             };
         below = kept_refl;
       }
-
-  pub listing_before : {j : ℕ} → Listing a s es n k nodes w j → 0 < j → Listing a s es n k nodes w (j - 1 + 1)
-  listing_before {j} S h = let e : j - 1 + 1 ≡ j = omega arith in rw e S
-
-  module _ {w' : List ℕ} {j : ℕ} (L : ListedTo a s es n k nodes w j w') where
-    pub listing_more : {i : ℕ} {b : List ℕ} → ListedTo a s es n k nodes w' i b → ListedTo a s es n k nodes w i b
-    listing_more M = record { listing = M.listing; below = kept_trans L.below M.below }
-
-    pub listing_all : {b : List ℕ} → Filled (heads a) (nodes + 1) (replicate (nodes + 1) 0) b w → j ≤ 0 → AffixFilled a s es n k nodes b w'
-    listing_all f l =
-        let e : j ≡ 0 = omega arith in
-        record {
-          staged = L.listing.staged;
-          lists = λ v m. rw e at (L.listing.lists v m);
-          below = kept_trans (kept_filled f) L.below;
-        }

@@ -83,9 +83,6 @@ module _ {s es : List ℕ} {n k nodes : ℕ} {w₀ : List ℕ} {j i : ℕ} (E : 
     pub falling_letters : x.start ≤ x.end
     falling_letters = rw e (omega (arith, here.size))
 
-    pub falling_letter : 1 ≤ x.end - x.start
-    falling_letter = rw e (omega (arith, here.size, here.letters))
-
     module _ {f : ℕ} (a : Got w₀ AT (x.end - 1) f) where
       whole : IsNode ps f (slip ss i)
       whole = rw (a.is, e) (member_node N here)
@@ -117,14 +114,11 @@ module _ {s es : List ℕ} {n k nodes : ℕ} {w₀ : List ℕ} {j i : ℕ} (E : 
 
   -- one length
   module _ {end : ℕ} {w : List ℕ} {u d : ℕ} (F : Falling s es n k nodes w₀ j i end w u d) where
-    pub falling_deep : d ≤ end
-    falling_deep = omega (arith, F.most, F.last, here.size)
-
     module _ (h : 0 < u) where
       num : Num ps u
       num = record { some = h; inside = F.node }
 
-      pub falling_left : 1 ≤ d
+      falling_left : 1 ≤ d
       falling_left = omega (arith, (node_some ps u num).0, F.short)
 
       pub falling_level : LEVEL + d < length w
@@ -170,9 +164,6 @@ module _ {s es : List ℕ} {n k nodes : ℕ} {w₀ : List ℕ} {j i : ℕ} (E : 
             more : Adding endings s es n k w₀ j i w' (ltb (d - 1))
             more = adding_more E g F.adding num long proper (one_shorter d falling_left) x (rw F.last)
 
-            pub falling_next : FAIL + u < length w'
-            falling_next = omega (arith, num_most N u num, N.few_nodes, N.room, more.below.same)
-
             pub falling_more : {u' : ℕ} (d' : ℕ) → Got w' FAIL u u' → d' ≡ d - 1 → Falling s es n k nodes w₀ j i end w' u' d'
             falling_more {u'} d' b e =
                 let c : cell w₀ FAIL u ≡ u' = sym (b.is ∙ more.below.cells (FAIL + u) (omega (arith, num_most N u num, N.few_nodes))) in
@@ -190,6 +181,10 @@ module _ {s es : List ℕ} {n k nodes : ℕ} {w₀ : List ℕ} {j i : ℕ} (E : 
                       ∙ proper_fail ps (string ps v) (string ps u) (node_some ps v m).1 (node_some ps u num).0);
                   adding = more;
                 })
+
+    -- no length is left
+    pub falling_done : d ≤ 0 → u ≤ 0
+    falling_done z = elim (dec_lt 0 u) [ yes h ↦ absurd (omega (arith, falling_left h)) | no h ↦ omega arith ]
 
     pub falling_all : u ≤ 0 → ListedTo endings s es n k nodes w₀ j w
     falling_all l =

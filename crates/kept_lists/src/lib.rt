@@ -2,7 +2,7 @@
 // end with it.
 #![tactic(auto)]
 
-ghost use Rattle.std.specs.Prelude.{◌+◌};
+ghost use Rattle.std.specs.Prelude.{◌≡◌, ◌+◌, ℕ};
 ghost use Rattle.layout.specs.Numbered.{Automaton};
 ghost use Rattle.kept_slips.specs.Steps.Kept as K;
 ghost use Rattle.kept_lists.specs.Steps.KeptLists as O;
@@ -16,25 +16,9 @@ fn add_starts(tray: Tray<'_>, work: &mut [u16], n: usize, k: usize, nodes: usize
 {
     let i = tables::at(work, layout::KEPT, j);
     let span = slips::slip_span(tray.ends, i);
-    let end = span.end;
-    let mut p = span.start;
-    while p < end {
+    for p in span.start..span.end {
         let u = tables::at(work, layout::AT, p);
         trie_heads::push(work, layout::STARTS, u, layout::STARTS_NEXT, p, i);
-        p += 1;
-    }
-}
-
-// Fills STARTS and STARTS_NEXT: from the last of the `k` kept members on, so that each list ascends.
-fn fill_starts(tray: Tray<'_>, work: &mut [u16], n: usize, k: usize, nodes: usize)
-    requires { K.KeptFound tray.letters.now tray.ends.now n k nodes work.old }
-    ensures { O.AffixFilled O.beginnings tray.entry.letters.now tray.entry.ends.now n k nodes work.old work.new }
-{
-    tables::clear(work, layout::STARTS, nodes + 1);
-    let mut j = k;
-    while 0 < j {
-        j -= 1;
-        add_starts(tray, work, n, k, nodes, j);
     }
 }
 
@@ -46,34 +30,42 @@ fn add_ends(tray: Tray<'_>, work: &mut [u16], n: usize, k: usize, nodes: usize, 
 {
     let i = tables::at(work, layout::KEPT, j);
     let span = slips::slip_span(tray.ends, i);
-    let start = span.start;
-    let end = span.end;
-    let last = end - 1;
-    let whole = tables::at(work, layout::AT, last);
+    let whole = tables::at(work, layout::AT, span.end - 1);
     let mut u = tables::at(work, layout::FAIL, whole);
-    let mut d = end - start - 1;
-    while 0 < u {
-        let first = tables::at(work, layout::LEVEL, d);
-        if u < first {
-            d -= 1;
-        } else {
-            trie_heads::push(work, layout::ENDS, u, layout::ENDS_NEXT, end - d, i);
-            u = tables::at(work, layout::FAIL, u);
-            d -= 1;
+    for d in (1..span.end - span.start).rev() {
+        if u == 0 {
+            break;
         }
+        if u < tables::at(work, layout::LEVEL, d) {
+            continue;
+        }
+        trie_heads::push(work, layout::ENDS, u, layout::ENDS_NEXT, span.end - d, i);
+        u = tables::at(work, layout::FAIL, u);
     }
 }
 
-// Fills ENDS and ENDS_NEXT in the same way.
-fn fill_ends(tray: Tray<'_>, work: &mut [u16], n: usize, k: usize, nodes: usize)
-    requires { K.KeptFound tray.letters.now tray.ends.now n k nodes work.old }
-    ensures { O.AffixFilled O.endings tray.entry.letters.now tray.entry.ends.now n k nodes work.old work.new }
+// Fills the lists of one kind, whose heads stand at `heads`: `add` puts the `j`-th of the `k` kept members into them, from the last on, so that each
+// list ascends.
+fn fill_kind<F: Fn(&mut [u16], usize)>(
+    tray: Tray<'_>,
+    work: &mut [u16],
+    n: usize,
+    k: usize,
+    nodes: usize,
+    heads: usize,
+    add: F,
+)
+    ghost affix: { O.Affix }
+    requires found { K.KeptFound tray.letters.now tray.ends.now n k nodes work.old }
+    requires table { heads ≡ O.heads affix }
+    requires can { (w : _) (j : ℕ) → O.Listing affix tray.letters.now tray.ends.now n k nodes w.now (j + 1) → F.pre add w j }
+    requires adds { (w : _) (j : ℕ) (r : _) (w' : _) → O.Listing affix tray.letters.now tray.ends.now n k nodes w.now (j + 1) → F.post add w j r w' →
+        O.ListedTo affix tray.letters.now tray.ends.now n k nodes w.now j w'.now }
+    ensures { O.AffixFilled affix tray.entry.letters.now tray.entry.ends.now n k nodes work.old work.new }
 {
-    tables::clear(work, layout::ENDS, nodes + 1);
-    let mut j = k;
-    while 0 < j {
-        j -= 1;
-        add_ends(tray, work, n, k, nodes, j);
+    tables::clear(work, heads, nodes + 1);
+    for j in (0..k).rev() {
+        add(work, j);
     }
 }
 
@@ -83,7 +75,23 @@ pub fn fill_lists(tray: Tray<'_>, work: &mut [u16], n: usize, nodes: usize) -> u
     ensures { O.ListsFilled tray.entry.letters.now tray.entry.ends.now n nodes work.old result work.new }
 {
     let k = kept_slips::tell_kept(tray, work, n, nodes);
-    fill_starts(tray, work, n, k, nodes);
-    fill_ends(tray, work, n, k, nodes);
+    fill_kind(
+        tray,
+        work,
+        n,
+        k,
+        nodes,
+        layout::STARTS,
+        |work, j| add_starts(tray, work, n, k, nodes, j),
+    );
+    fill_kind(
+        tray,
+        work,
+        n,
+        k,
+        nodes,
+        layout::ENDS,
+        |work, j| add_ends(tray, work, n, k, nodes, j),
+    );
     k
 }

@@ -1,17 +1,19 @@
 -- A member is set aside, read off the tables of its node f.
 --   aside_kid, aside_mark, aside_owner == it is: f has a child, is a failure link, or is the node of a lower member
---   aside_none                         == it is not: none of these
+--   aside_head                         == where it has no child and is no failure link, the owner alone decides
 -- A member that stands in a longer one has a node that goes on by a letter or is the failure of a node. The members of f's letters ascend, so
 -- one that is not the first of them has a lower one of its letters, and no other has.
 use mathlib.Core.Path.{◌≡◌, refl, sym, ap, ◌∙◌}
-use mathlib.Core.Bool.{true, false}
+use mathlib.Core.Bool.{true, false, not}
 use mathlib.Core.Logic.{◌⊎◌, inl, inr}
 use mathlib.Core.List.Memᴰ
 use mathlib.Core.List.{List, [], ◌∷◌, ◌++◌}
 use Prim.Native.Nat.{ℕ, suc, ◌+◌, ◌≤◌, ◌<◌}
 use native.Mathlib.Numerals.{add-one}
 use native.Mathlib.Omega.{arith}
+use lib.Dec.{eqb}
 use lib.ListN.{length, length-append}
+use borrow.Author.Tests.{eqb-true, eqb-false}
 use Rattle.words.specs.Lists.{head_or, tail_of}
 use Rattle.words.specs.Words.{same}
 use Rattle.words.proofs.Tests.{tell}
@@ -89,7 +91,7 @@ module _ {s es : List ℕ} {n nodes : ℕ} {w : List ℕ} {i : ℕ} (J : Judged 
         let z = (J.marked.headed.automaton.fails v q).is in
         sym (inner_aside ss i M (inl (fail_inner ps (string ps v) (slip ss i) h b (sym z ∙ ap (string ps) e ∙ m.is))))
 
-    pub aside_owner : {a : ℕ} → Got w HEAD f a → (a ≡ i → ⊥) → true ≡ is_aside ss M i
+    aside_owner : {a : ℕ} → Got w HEAD f a → (a ≡ i → ⊥) → true ≡ is_aside ss M i
     aside_owner {a} g ne =
         let o = own_in i J.member refl in
         let (q, e) = in_own (head_in own i o) in
@@ -98,21 +100,28 @@ module _ {s es : List ℕ} {n nodes : ℕ} {w : List ℕ} {i : ℕ} (J : Judged 
 
     module _
         {a b c d : ℕ} (kid : Got w KID f a) (end : Got w KID (f + 1) b) (no-kid : b ≤ a)
-        (mark : Got w MARK f c) (no-mark : c ≡ 1 → ⊥) (lowest : Got w HEAD f d) (itself : d ≡ i) where
-      none : Inner ps (slip ss i) ⊎ Earlier ss M i → ⊥
-      none (inl (inl r)) =
+        (mark : Got w MARK f c) (no-mark : c ≡ 1 → ⊥) (lowest : Got w HEAD f d) where
+      none : d ≡ i → Inner ps (slip ss i) ⊎ Earlier ss M i → ⊥
+      none itself (inl (inl r)) =
           let x = r.0 in
           let (u, q, z) = node_of ps (slip ss i ++ (x ∷ [])) (omega (arith, length-append (slip ss i) (x ∷ []))) r.1 in
           let (h, l) = J.marked.headed.automaton.branched.kids.into f u x m.inside q (z ∙ ap (λ y. y ++ (x ∷ [])) (sym m.is)) in
           omega (arith, kid.is, rw add-one at end.is)
-      none (inl (inr r)) =
+      none itself (inl (inr r)) =
           let (x, t, y, e) = r in
           let (u, q, z) = node_of ps (x ∷ t) (omega arith) y in
           let link : IsNode ps (cell w FAIL u) (slip ss i) = rw (z, e) at (J.marked.headed.automaton.fails u q) in
           no-mark (mark.is ∙ ap (cell w MARK) (sym (node_one ps link m)) ∙ J.marked.marks.into u q)
-      none (inr r) =
+      none itself (inr r) =
           let (k, q, l, e) = r in
           omega (arith, least k (own_in k q e), lowest.is, first)
 
-      pub aside_none : false ≡ is_aside ss M i
-      aside_none = elim (tell (is_aside ss M i)) [ inl t ↦ absurd (none (aside_inner ss i M J.member t)) | inr t ↦ sym t ]
+      aside_none : d ≡ i → false ≡ is_aside ss M i
+      aside_none z = elim (tell (is_aside ss M i)) [ inl t ↦ absurd (none z (aside_inner ss i M J.member t)) | inr t ↦ sym t ]
+
+      pub aside_head : not (eqb d i) ≡ is_aside ss M i
+      aside_head =
+          elim (tell (eqb d i)) [
+            | inl t ↦ rw t (aside_none (eqb-true d i t))
+            | inr t ↦ rw t (aside_owner lowest (eqb-false d i t))
+          ]

@@ -28,9 +28,6 @@ pub record Marking (s es : List ℕ) (n nodes : ℕ) (w : List ℕ) (v : ℕ) : 
   pub back : (u : ℕ) → u < length (nodes_of (patterns_in s es n w)) → cell w MARK u ≡ 1 → (x : ℕ) × Num (patterns_in s es n w) x × (cell w FAIL x ≡ u)
 
 module _ {s es : List ℕ} {n nodes : ℕ} {w : List ℕ} where
-  pub marking_room : Headed s es n nodes w → MARK + (nodes + 1) ≤ length w
-  marking_room H = omega (arith, H.automaton.branched.numbered.room, H.automaton.branched.numbered.few_nodes)
-
   pub marking_start : {w' : List ℕ} → Headed s es n nodes w → Filled MARK (nodes + 1) (replicate (nodes + 1) 0) w w' → Marking s es n nodes w' 1
   marking_start {w'} H f =
       let G = headed_kept (kept_filled f) H in
@@ -51,9 +48,6 @@ module _ {s es : List ℕ} {n nodes : ℕ} {w : List ℕ} where
 
     marking_num : Num (patterns_in s es n w) v
     marking_num = record { some = M.some; inside = omega (arith, N.all_nodes) }
-
-    pub marking_place : FAIL + v < length w
-    marking_place = omega (arith, N.room, N.few_nodes)
 
     module _ {u : ℕ} (g : Got w FAIL v u) where
       link_most : u ≤ nodes

@@ -16,11 +16,9 @@ fn fill_marks(tray: Tray<'_>, work: &mut [u16], n: usize, nodes: usize)
     ensures { K.MarksFilled tray.entry.letters.now tray.entry.ends.now n nodes work.old work.new }
 {
     tables::clear(work, layout::MARK, nodes + 1);
-    let mut v: usize = 1;
-    while v <= nodes {
+    for v in 1..=nodes {
         let u = tables::at(work, layout::FAIL, v);
         tables::put(work, layout::MARK, u, 1);
-        v += 1;
     }
 }
 
@@ -30,20 +28,9 @@ fn is_aside(tray: Tray<'_>, work: &[u16], n: usize, nodes: usize, i: usize) -> b
     ensures { result ≡ is_aside (slips_of tray.entry.letters.now tray.entry.ends.now) (members work.now n) i }
 {
     let f = trie_heads::node_of(tray, work, n, nodes, i);
-    let kid = tables::at(work, layout::KID, f);
-    let end = tables::at(work, layout::KID, f + 1);
-    if kid < end {
-        return true;
-    }
-    let mark = tables::at(work, layout::MARK, f);
-    if mark == 1 {
-        return true;
-    }
-    let lowest = tables::at(work, layout::HEAD, f);
-    if lowest == i {
-        return false;
-    }
-    true
+    tables::at(work, layout::KID, f) < tables::at(work, layout::KID, f + 1)
+        || tables::at(work, layout::MARK, f) == 1
+        || tables::at(work, layout::HEAD, f) != i
 }
 
 // Fills KEPT with the members that are not set aside. Answers how many there are.
@@ -52,17 +39,13 @@ fn fill_kept(tray: Tray<'_>, work: &mut [u16], n: usize, nodes: usize) -> usize
     ensures { K.KeptFilled tray.entry.letters.now tray.entry.ends.now n nodes work.old result work.new }
 {
     let mut k: usize = 0;
-    let mut j: usize = 0;
-    while j < n {
+    for j in 0..n {
         let i = tables::at(work, layout::MEMBERS, j);
-        let aside = is_aside(tray, work, n, nodes, i);
-        if aside {
-            j += 1;
-        } else {
-            tables::put(work, layout::KEPT, k, i);
-            k += 1;
-            j += 1;
+        if is_aside(tray, work, n, nodes, i) {
+            continue;
         }
+        tables::put(work, layout::KEPT, k, i);
+        k += 1;
     }
     k
 }

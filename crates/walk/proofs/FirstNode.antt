@@ -1,6 +1,6 @@
 -- Where the visits of a row begin: at its first node, or at the second if the first is of stops alone.
 --   own-..    == the node's letters, read where the table OWN says
---   first-..  == the three ways through first_counted
+--   first-..  == the first node counts, or is passed over
 -- The strings of a row are as long as each other and ascend, and the stop is the lowest sign: all behind the first count.
 use mathlib.Core.Path.{◌≡◌, sym, ap, ◌∙◌}
 use mathlib.Core.Bool.{Bool, true, false}
@@ -36,9 +36,6 @@ module _ {s es : List ℕ} {n nodes : ℕ} {w : List ℕ} {d end v : ℕ} (R : R
   row_is : nodes_at ps (cell w LEVEL) d ≡ map (string ps) (up_from v (end - v))
   row_is = rw (a.is, R.upto)
 
-  pub first_none : end ≤ v → CountedFrom s es n w d end v
-  first_none h = let z : end - v ≡ 0 = omega arith in record { from = omega (arith, a.is); those_are = rw (row_is, z) }
-
   module _ (h : v < end) where
     abbrev x : List ℕ
     x = string ps v
@@ -62,9 +59,6 @@ module _ {s es : List ℕ} {n nodes : ℕ} {w : List ℕ} {d end v : ℕ} (R : R
         let (same, less) =
         row_before ps (cell w LEVEL) max_slip N.level d v u R.some R.most (omega (arith, a.is)) low (omega (arith, R.upto)) in
         rw (← e) (after_counts x (string ps u) same (owned_signs N v num.0) less))
-
-    pub own_read : OWN + v < length w
-    own_read = omega (arith, num.0.inside, N.all_nodes, N.few_nodes, N.room)
 
     module _ (p : ℕ) (g : Got w OWN v p) where
       pub own_long : d ≤ p + 1

@@ -1,6 +1,6 @@
 -- The visits of the nodes of one length, by number.
 --   RowWalking .. w made v end ..  == what is left of the row from node v on makes of the joins in w what the whole row makes
-use mathlib.Core.Path.{◌≡◌, sym, ap, ◌∙◌}
+use mathlib.Core.Path.{◌≡◌, sym, ◌∙◌}
 use mathlib.Core.List.{List, map}
 use Prim.Native.Nat.{ℕ, suc, ◌+◌, ◌-◌, ◌≤◌, ◌<◌}
 use native.Mathlib.Numerals.{add-one}
@@ -9,8 +9,8 @@ use lib.ListN.{length}
 use Rattle.words.specs.Lists.{up_from}
 use Rattle.trays.specs.Limits.{max_slip}
 use Rattle.trays.specs.Slips.{slips_of}
-use Rattle.tables.specs.Tables.{Cells, Only, Got}
-use Rattle.tables.proofs.Tables.{only-refl, only_trans}
+use Rattle.tables.specs.Tables.{Cells, Only}
+use Rattle.tables.proofs.Tables.{only_trans}
 use Rattle.greedy.specs.Walk.{visit, walk_from}
 use Rattle.greedy.proofs.Scans as S
 use Rattle.matching.specs.Steps.Nodes.{string, Num}
@@ -19,55 +19,32 @@ use Rattle.layout.specs.Tables.{cell}
 use Rattle.layout.specs.Numbered.{patterns_in}
 use Rattle.layout.specs.Staging.{kept_in, joins_in}
 use Rattle.walk_offer.specs.Steps.Runs.{starters_at, enders_at}
-use Rattle.walk_offer.specs.Steps.Marks.{Marks}
+use Rattle.walk_offer.specs.Steps.Marks.{Marked}
+use Rattle.walk_offer.specs.declared.Marks.{Marks}
 use Rattle.walk_offer.specs.Steps.Offers.{JoinsMade}
-use Rattle.walk.specs.Steps.Walking.{Visits, Walkable, RowAsks, RowEnds, CountedFrom, row_walked}
+use Rattle.walk.specs.Steps.Walking.{Visits, Walkable, row_walked}
 use Rattle.layout.proofs.RowLaws.{row_num}
 use Rattle.layout.proofs.AreaSlips.{area_slips}
 use Rattle.walk.proofs.WalkableLaws.{kept_rises, here_sized, node_starts, node_ends, patterns-same, kept_same, walkable_kept}
 
 pub record RowWalking (s es : List ℕ) (n k nodes : ℕ) (w₀ : List ℕ) (d made₀ : ℕ) (w : List ℕ) (made v end : ℕ)
-    (left right overs first last : List ℕ) : Type 0 where
+    (marks : Marks) : Type 0 where
   pub walkable : Walkable s es n k nodes w₀
   pub some : 1 ≤ d
   pub most : d ≤ max_slip
   pub only : Only (Cells JOINS all_joins) w₀ w
   pub from : cell w₀ LEVEL d ≤ v
   pub upto : end ≡ cell w₀ LEVEL (suc d)
-  pub marks : Marks (joins_in w made) left right overs first last
+  pub marked : Marked (joins_in w made) marks
   pub rest : walk_from (slips_of s es) (kept_in w₀ k) (map (string (patterns_in s es n w₀)) (up_from v (end - v))) (joins_in w made)
       ≡ row_walked s es n k w₀ d made₀
 
-module _ {s es : List ℕ} {n k nodes : ℕ} {w : List ℕ} {d made end : ℕ} {left right overs first last : List ℕ}
-    (A : RowAsks s es n k nodes w d made left right overs first last) (b : Got w LEVEL (d + 1) end) where
-  pub row_ends : RowEnds s es n nodes w d end
-  row_ends = record { numbered = A.walkable.numbered; some = A.some; most = A.most; upto = b.is ∙ ap (cell w LEVEL) (add-one d) }
-
-  pub row_start : {v : ℕ} → CountedFrom s es n w d end v → RowWalking s es n k nodes w d made w made v end left right overs first last
-  row_start F =
-      record {
-        walkable = A.walkable;
-        some = A.some;
-        most = A.most;
-        only = only-refl;
-        from = F.from;
-        upto = row_ends.upto;
-        marks = A.marks;
-        rest = ap (λ xs. walk_from (slips_of s es) (kept_in w k) xs (joins_in w made)) (sym F.those_are);
-      }
-
-module _ {s es : List ℕ} {n k nodes : ℕ} {w₀ : List ℕ} {d made₀ : ℕ} {w : List ℕ} {made v end : ℕ} {left right overs first last : List ℕ}
-    (T : RowWalking s es n k nodes w₀ d made₀ w made v end left right overs first last) where
+module _ {s es : List ℕ} {n k nodes : ℕ} {w₀ : List ℕ} {d made₀ : ℕ} {w : List ℕ} {made v end : ℕ} {marks : Marks}
+    (T : RowWalking s es n k nodes w₀ d made₀ w made v end marks) where
   open area_slips s es n w₀ use {ss, ps}
 
   abbrev K : List ℕ
   K = kept_in w₀ k
-
-  pub row_end : end ≤ v → JoinsMade w₀ (row_walked s es n k w₀ d made₀) w left right overs first last made
-  row_end h =
-      let z : end - v ≡ 0 = omega arith in
-      let e : row_walked s es n k w₀ d made₀ ≡ joins_in w made = sym T.rest ∙ rw z in
-      record { joins_are = sym e; marks = rw e T.marks; only = T.only }
 
   here : Walkable s es n k nodes w
   here = walkable_kept T.walkable T.only
@@ -79,14 +56,14 @@ module _ {s es : List ℕ} {n k nodes : ℕ} {w₀ : List ℕ} {d made₀ : ℕ}
     here_num : Num (patterns_in s es n w) v × (length (string (patterns_in s es n w) v) ≡ d)
     here_num = rw (patterns-same T.walkable T.only) num
 
-    pub row_visits : Visits es w d v made left right overs first last
+    pub row_visits : Visits es w d v made marks
     row_visits =
         record {
           sized = here_sized here d T.some T.most;
           node = omega (arith, num.0.inside, T.walkable.numbered.all_nodes, T.walkable.numbered.few_nodes);
           starts = (node_starts here v d T.some here_num.0 here_num.1).1;
           ends = (node_ends here v d T.some here_num.0 here_num.1).1;
-          marks = T.marks;
+          marked = T.marked;
         }
 
     abbrev x : List ℕ
@@ -108,9 +85,9 @@ module _ {s es : List ℕ} {n k nodes : ℕ} {w₀ : List ℕ} {d made₀ : ℕ}
         ≡ walk_from ss K (map (string ps) (up_from (suc v) (end - suc v))) (visit ss K x K (joins_in w made))
     rest_first = let e : end - v ≡ suc (end - suc v) = omega arith in rw e
 
-    pub row_turn : {w' left' right' overs' first' last' : List ℕ} {made' : ℕ} (v' : ℕ)
-        → JoinsMade w (S.scan (enders_at w es d v) d (starters_at w es d v) (joins_in w made)) w' left' right' overs' first' last' made' → v' ≡ v + 1
-        → RowWalking s es n k nodes w₀ d made₀ w' made' v' end left' right' overs' first' last'
+    pub row_turn : {w' : List ℕ} {marks' : Marks} {made' : ℕ} (v' : ℕ)
+        → JoinsMade w (S.scan (enders_at w es d v) d (starters_at w es d v) (joins_in w made)) w' marks' made' → v' ≡ v + 1
+        → RowWalking s es n k nodes w₀ d made₀ w' made' v' end marks'
     row_turn v' m q =
         let e : v' ≡ suc v = q ∙ add-one v in
         record {
@@ -120,6 +97,6 @@ module _ {s es : List ℕ} {n k nodes : ℕ} {w₀ : List ℕ} {d made₀ : ℕ}
           only = only_trans T.only m.only;
           from = omega (arith, T.from);
           upto = T.upto;
-          marks = rw m.joins_are m.marks;
+          marked = rw m.joins_are m.marked;
           rest = rw (e, m.joins_are, visited) (sym rest_first ∙ T.rest);
         }

@@ -6,7 +6,7 @@ use mathlib.Core.Bool.{Bool}
 use mathlib.Core.List.{List, [], ◌++◌}
 use Prim.Native.Nat.{ℕ, suc, ◌+◌, ◌-◌, ◌≤◌, ◌<◌}
 use native.Mathlib.Omega.{arith}
-use lib.ListN.{length, replicate, length-replicate}
+use lib.ListN.{length}
 use Rattle.words.specs.Lists.{those, up_from}
 use Rattle.words.proofs.Members.{In, Asc, those_append}
 use Rattle.words.proofs.Picks.{those-same, those_none}
@@ -27,7 +27,8 @@ use Rattle.layout.specs.Layout.{LEVEL, JOINS, all_joins}
 use Rattle.layout.specs.Tables.{cell, members}
 use Rattle.layout.specs.Numbered.{patterns_in}
 use Rattle.layout.specs.Staging.{kept_in, joins_in}
-use Rattle.walk_offer.specs.Steps.Marks.{Marks}
+use Rattle.walk_offer.specs.Steps.Marks.{Marked}
+use Rattle.walk_offer.specs.declared.Marks.{Marks}
 use Rattle.layout.specs.Rows.{nodes_at, rows}
 use Rattle.walk_offer.specs.Steps.Offers.{JoinsMade}
 use Rattle.walk.specs.Steps.Walking.{Walkable, RowAsks, row_walked, Fresh, Walked}
@@ -42,35 +43,32 @@ few_joins counts ss K a p =
     let (Cs, rep) = plain_rep counts ss K (asc_once K a) (all_in (λ x. 1 ≤ x) K p) in
     omega (arith, rep.count, rep.all (λ x. 1), length_sum K, chains_fewer Cs)
 
-pub fresh-length : (xs ys : List ℕ) → length xs ≡ max_slips → ys ≡ replicate max_slips 0 → length xs ≡ length ys
-fresh-length xs ys h e = h ∙ sym (ap length e ∙ length-replicate {A = ℕ} max_slips 0)
-
-pub record Walking (m : ℕ) (s es : List ℕ) (n k nodes : ℕ) (w₀ w : List ℕ) (made d : ℕ) (left right overs first last : List ℕ) : Type 0 where
+pub record Walking (m : ℕ) (s es : List ℕ) (n k nodes : ℕ) (w₀ w : List ℕ) (made d : ℕ) (marks : Marks) : Type 0 where
   pub walkable : Walkable s es n k nodes w₀
   pub only : Only (Cells JOINS all_joins) w₀ w
   pub some : 1 ≤ m
   pub upto : d ≤ max_slip
-  pub marks : Marks (joins_in w made) left right overs first last
+  pub marked : Marked (joins_in w made) marks
   pub rest : walk_from (slips_of s es) (kept_in w₀ k) (those (counted m) (rows (patterns_in s es n w₀) (cell w₀ LEVEL) d)) (joins_in w made)
       ≡ walk_for (counted m) (slips_of s es) (kept_in w₀ k)
 
-pub walk_start : {m : ℕ} {s es : List ℕ} {n k nodes : ℕ} {w left right overs first last first' last' : List ℕ}
-    → Walkable s es n k nodes w → Fresh left right overs first last → 1 ≤ m → first' ≡ up_from 1 max_slips → last' ≡ up_from 1 max_slips
-    → Walking m s es n k nodes w w 0 max_slip left right overs first' last'
-walk_start {m} {s} {es} {n} {k} {nodes} {w} W F h f l =
+pub walk_start : {m : ℕ} {s es : List ℕ} {n k nodes : ℕ} {w : List ℕ} {marks marks' : Marks}
+    → Walkable s es n k nodes w → Fresh marks → 1 ≤ m → marks'.left ≡ marks.left → marks'.right ≡ marks.right → marks'.overs ≡ marks.overs
+    → marks'.first ≡ up_from 1 max_slips → marks'.last ≡ up_from 1 max_slips → Walking m s es n k nodes w w 0 max_slip marks'
+walk_start {m} {s} {es} {n} {k} {nodes} {w} W F h a b o f l =
     record {
       walkable = W;
       only = only-refl;
       some = h;
       upto = omega arith;
-      marks = marks_none _ _ _ _ _ F.left_none F.right_none F.over_none f l;
+      marked = marks_none _ (a ∙ F.left_none) (b ∙ F.right_none) (o ∙ F.over_none) f l;
       rest =
           walk_nodes (counted m) (slips_of s es) (kept_in w k) (rows (patterns_in s es n w) (cell w LEVEL) max_slip)
           (rows_nodes (slips_of s es) (members w n) (kept_in w k) (kept_member W) (cell w LEVEL) max_slip W.numbered.level);
     }
 
-module _ {m : ℕ} {s es : List ℕ} {n k nodes : ℕ} {w₀ w : List ℕ} {made d : ℕ} {left right overs first last : List ℕ}
-    (T : Walking m s es n k nodes w₀ w made d left right overs first last) where
+module _ {m : ℕ} {s es : List ℕ} {n k nodes : ℕ} {w₀ w : List ℕ} {made d : ℕ} {marks : Marks}
+    (T : Walking m s es n k nodes w₀ w made d marks) where
   open area_slips s es n w₀ use {ss, ps}
 
   abbrev K : List ℕ
@@ -83,8 +81,8 @@ module _ {m : ℕ} {s es : List ℕ} {n k nodes : ℕ} {w₀ w : List ℕ} {made
     pub walk_some : 1 ≤ d
     walk_some = omega (arith, T.some)
 
-    pub walk_asks : RowAsks s es n k nodes w d made left right overs first last
-    walk_asks = record { walkable = walkable_kept T.walkable T.only; some = walk_some; most = T.upto; marks = T.marks }
+    pub walk_asks : RowAsks s es n k nodes w d made marks
+    walk_asks = record { walkable = walkable_kept T.walkable T.only; some = walk_some; most = T.upto; marked = T.marked }
 
     level-same : (i : ℕ) → i ≤ suc max_slip → cell w LEVEL i ≡ cell w₀ LEVEL i
     level-same i l = T.only.kept (LEVEL + i) (λ q. omega (arith, q.from))
@@ -105,9 +103,9 @@ module _ {m : ℕ} {s es : List ℕ} {n k nodes : ℕ} {w₀ w : List ℕ} {made
           level-same (suc d) (omega (arith, T.upto)),
         )
 
-    pub walk_turn : {w' left' right' overs' first' last' : List ℕ} {made' : ℕ} (d' : ℕ)
-        → JoinsMade w (row_walked s es n k w d made) w' left' right' overs' first' last' made' → d' ≡ d - 1
-        → Walking m s es n k nodes w₀ w' made' d' left' right' overs' first' last'
+    pub walk_turn : {w' : List ℕ} {marks' : Marks} {made' : ℕ} (d' : ℕ)
+        → JoinsMade w (row_walked s es n k w d made) w' marks' made' → d' ≡ d - 1
+        → Walking m s es n k nodes w₀ w' made' d' marks'
     walk_turn d' j q =
         let e : d ≡ suc d' = omega (arith, walk_some) in
         let here = nodes_at ps (cell w₀ LEVEL) d in
@@ -119,14 +117,14 @@ module _ {m : ℕ} {s es : List ℕ} {n k nodes : ℕ} {w₀ w : List ℕ} {made
           only = only_trans T.only j.only;
           some = T.some;
           upto = omega (arith, T.upto);
-          marks = rw j.joins_are j.marks;
+          marked = rw j.joins_are j.marked;
           rest =
               rw (j.joins_are, row_same)
               (sym (walk_append ss K (those counts here) (those counts less) (joins_in w made))
               ∙ ap (λ l. walk_from ss K l (joins_in w made)) (sym split) ∙ T.rest);
         }
 
-  pub walk_end : d < m → Walked m s es k w₀ w left right overs made
+  pub walk_end : d < m → Walked m s es k w₀ w marks made
   walk_end h =
       let none : those counts (rows ps (cell w₀ LEVEL) d) ≡ [] =
       those_none counts (rows ps (cell w₀ LEVEL) d)
@@ -138,8 +136,8 @@ module _ {m : ℕ} {s es : List ℕ} {n k nodes : ℕ} {w₀ w : List ℕ} {made
       let plain : joins_in w made ≡ plain_for counts ss K = walked ∙ one_list counts ss K ready in
       record {
         joins_are = plain;
-        neighbours = T.marks.neighbours;
-        small = T.marks.small;
+        neighbours = T.marked.neighbours;
+        small = T.marked.small;
         few = omega (
           arith,
           joins_length w made,

@@ -34,8 +34,7 @@ use Rattle.layout.proofs.Frames.{only_kept, members_kept, patterns-kept, numbere
 use Rattle.walk_offer.specs.Steps.Runs.{along, next_starter, next_ender, starters_at, enders_at, Real, ListedFrom}
 use Rattle.walk_offer.specs.Steps.Offers.{Sized}
 use Rattle.walk.specs.Steps.Walking.{Walkable}
-use Rattle.walk_offer.proofs.NextSlips.{start_short}
-use Rattle.walk_offer.proofs.RunLaws.{threaded_along, listed_is}
+use Rattle.walk_offer.proofs.RunLaws.{start_short, threaded_along, listed_is}
 
 those_few : {A : Type 0} (t : A → Bool) (xs : List A) → length (those t xs) ≤ length xs
 those_few t [] = omega arith

@@ -8,7 +8,8 @@ ghost use Rattle.walk_offer.specs.Steps.Runs as R;
 ghost use Rattle.walk_offer.specs.Steps.Offers as O;
 ghost use Rattle.walk.specs.Steps.Walking as W;
 
-use trays::Tray;
+use trays::{MAX_SLIP, Tray};
+use walk_offer::Marks;
 
 // Visits node `v`, of `d` letters: each slip that begins with it is offered to those that properly end with it. These are passed for good once
 // they have a right neighbour.
@@ -18,24 +19,21 @@ fn visit(
     d: usize,
     v: usize,
     count: usize,
-    left: &mut [u16],
-    right: &mut [u16],
-    overs: &mut [u16],
-    first: &mut [u16],
-    last: &mut [u16],
+    marks: &mut Marks,
 ) -> usize
-    requires { W.Visits ends.now work.old d v count left.old right.old overs.old first.old last.old }
+    requires { W.Visits ends.now work.old d v count marks.old }
     ensures { O.JoinsMade work.old
         (S.scan (R.enders_at work.old ends.now d v) d (R.starters_at work.old ends.now d v)
         (joins_in work.old count))
-        work.new left.new right.new overs.new first.new last.new result }
+        work.new marks.new result }
 {
     let mut made = count;
     let mut l = tables::at(work, layout::ENDS, v);
     let mut r = tables::at(work, layout::STARTS, v);
+    // kept: the slips are linked through STARTS_NEXT, so there is no range to go over
     while r != 0 {
-        l = walk_offer::next_free(work, ends, right, d, l);
-        made = walk_offer::offer(work, ends, d, r, l, made, left, right, overs, first, last);
+        l = walk_offer::next_free(work, ends, &marks.right, d, l);
+        made = walk_offer::offer(work, ends, d, r, l, made, marks);
         r = walk_offer::next_starter(work, ends, d, r);
     }
     made
@@ -59,11 +57,11 @@ fn first_counted(
         return v;
     }
     let after = tables::at(work, layout::OWN, v) + 1;
-    let start = after - d;
-    if trays::not_stops(&tray.letters[start..after]) {
-        return v;
+    if trays::not_stops(&tray.letters[after - d..after]) {
+        v
+    } else {
+        v + 1
     }
-    v + 1
 }
 
 // Visits the nodes of `d` letters that count, in byte order.
@@ -75,22 +73,16 @@ fn walk_row(
     nodes: usize,
     d: usize,
     count: usize,
-    left: &mut [u16],
-    right: &mut [u16],
-    overs: &mut [u16],
-    first: &mut [u16],
-    last: &mut [u16],
+    marks: &mut Marks,
 ) -> usize
-    requires { W.RowAsks tray.letters.now tray.ends.now n k nodes work.old d count left.old right.old overs.old first.old last.old }
+    requires { W.RowAsks tray.letters.now tray.ends.now n k nodes work.old d count marks.old }
     ensures { O.JoinsMade work.old (W.row_walked tray.entry.letters.now tray.entry.ends.now n k work.old d count)
-        work.new left.new right.new overs.new first.new last.new result }
+        work.new marks.new result }
 {
     let mut made = count;
     let end = tables::at(work, layout::LEVEL, d + 1);
-    let mut v = first_counted(tray, work, n, nodes, d, end);
-    while v < end {
-        made = visit(work, tray.ends, d, v, made, left, right, overs, first, last);
-        v += 1;
+    for v in first_counted(tray, work, n, nodes, d, end)..end {
+        made = visit(work, tray.ends, d, v, made, marks);
     }
     made
 }
@@ -103,27 +95,19 @@ pub fn walk(
     k: usize,
     nodes: usize,
     least: usize,
-    left: &mut [u16],
-    right: &mut [u16],
-    overs: &mut [u16],
-    first: &mut [u16],
-    last: &mut [u16],
+    marks: &mut Marks,
 ) -> usize
     requires le_least { 1 ≤ least }
     requires walkable { W.Walkable tray.letters.now tray.ends.now n k nodes work.old }
-    requires fresh { W.Fresh left.old right.old overs.old first.old last.old }
+    requires fresh { W.Fresh marks.old }
     ensures { W.Walked least tray.entry.letters.now tray.entry.ends.now k
-        work.old work.new left.new right.new overs.new result }
+        work.old work.new marks.new result }
 {
-    walk_offer::own_marks(first);
-    walk_offer::own_marks(last);
+    walk_offer::own_marks(&mut marks.first);
+    walk_offer::own_marks(&mut marks.last);
     let mut made: usize = 0;
-    let mut d = trays::MAX_SLIP;
-    while least <= d {
-        made = walk_row(
-            tray, work, n, k, nodes, d, made, left, right, overs, first, last,
-        );
-        d -= 1;
+    for d in (least..=MAX_SLIP).rev() {
+        made = walk_row(tray, work, n, k, nodes, d, made, marks);
     }
     made
 }

@@ -1,33 +1,23 @@
 -- The search for the first slip that waits, and the partner.
 --   Searching es w d right from l == the search from `from` on has come to l, and stops where a search from l on does
-use mathlib.Core.Path.{◌≡◌, refl, sym, ap, ◌∙◌}
-use mathlib.Core.List.{List, [], ◌∷◌}
+use mathlib.Core.Path.{◌≡◌, sym, ap, ◌∙◌}
+use mathlib.Core.List.{List, ◌∷◌}
 use Prim.Native.Nat.{ℕ, ◌≤◌, ◌<◌}
 use native.Mathlib.Decide.{ℕ_discrete}
 use native.Mathlib.Omega.{arith}
 use lib.ListN.{length}
 use Rattle.words.specs.Lists.{head_or}
-use Rattle.trays.specs.Limits.{max_slips}
 use Rattle.layout.proofs.Heads.{threaded_head}
 use Rattle.walk_offer.specs.Steps.Runs.{next_ender, enders_from, mark, waiting_in, Real, ListedFrom}
 use Rattle.walk_offer.specs.Steps.Offers.{Searches, FoundPartner, Chooses, partner_in}
-use Rattle.walk_offer.proofs.RunLaws.{listed_none, listed_first, listed_next, listed_real, along_none}
-use Rattle.walk_offer.proofs.ScanLaws.{waiting-stop, waiting_pass, partner-lowest, partner_second}
+use Rattle.walk_offer.proofs.RunLaws.{listed_first, listed_next, listed_real}
+use Rattle.walk_offer.proofs.ScanLaws.{waiting_pass, partner-lowest, partner_second}
 
 pub record Searching (es w : List ℕ) (d : ℕ) (right : List ℕ) (from l : ℕ) : Type 0 where
   pub list : ListedFrom es d (next_ender w es d) l
   pub same : waiting_in right (enders_from w es d l) ≡ waiting_in right (enders_from w es d from)
 
-pub free_start : {es w : List ℕ} {d : ℕ} {right : List ℕ} {from : ℕ} → Searches es w d right from → Searching es w d right from from
-free_start s = record { list = s.list; same = refl }
-
 module _ {es w : List ℕ} {d : ℕ} {right : List ℕ} {from l : ℕ} (s : Searching es w d right from l) where
-  pub free_none : l ≡ 0 → FoundPartner es w d right from 0
-  free_none z =
-      let none = along_none (next_ender w es d) max_slips in
-      let e : waiting_in right (enders_from w es d from) ≡ [] = sym s.same ∙ rw (z, none) in
-      record { rest = none ∙ sym e; list = listed_none (next_ender w es d) es d }
-
   module _ (some : l ≡ 0 → ⊥) where
     first : enders_from w es d l ≡ l ∷ enders_from w es d (next_ender w es d l)
     first = listed_first (next_ender w es d) es d l s.list some
@@ -39,11 +29,6 @@ module _ {es w : List ℕ} {d : ℕ} {right : List ℕ} {from l : ℕ} (s : Sear
     free_within a = omega (arith, free_real.inside, a.sized.few, a.rights)
 
     module _ {taken : ℕ} (t : (taken ≡ mark right l) × (taken < 65536)) where
-      pub free_found : taken ≡ 0 → FoundPartner es w d right from l
-      free_found z =
-          let e = waiting-stop right l (enders_from w es d (next_ender w es d l)) (sym t.0 ∙ z) in
-          record { rest = first ∙ sym e ∙ ap (waiting_in right) (sym first) ∙ s.same; list = s.list }
-
       pub free_turn : (taken ≡ 0 → ⊥) → {l' : ℕ} → l' ≡ next_ender w es d l → Searching es w d right from l'
       free_turn n {l'} q =
           let e = waiting_pass right l (enders_from w es d (next_ender w es d l)) (λ z. n (t.0 ∙ z)) in

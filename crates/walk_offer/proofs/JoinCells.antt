@@ -3,13 +3,12 @@
 --   joins_more     == one join more is the last
 --   joins_same     == the same cells have the same joins
 --   join-put       == three stores behind the first joins
---   ends_marked    == the two stores that join two chains
-use mathlib.Core.Path.{◌≡◌, refl, sym, ap, ap₂, ◌∙◌}
+use mathlib.Core.Path.{◌≡◌, refl, ap, ap₂, ◌∙◌}
 use mathlib.Core.List.{List, [], ◌∷◌, ◌++◌, map, map-append}
-use Prim.Native.Nat.{ℕ, zero, suc, ◌+◌, ◌-◌, ◌*◌, ◌≤◌, ◌<◌}
+use Prim.Native.Nat.{ℕ, zero, suc, ◌+◌, ◌*◌, ◌≤◌, ◌<◌}
 use native.Mathlib.Numerals.{add-one}
 use native.Mathlib.Omega.{arith}
-use lib.ListN.{length, set, length-set}
+use lib.ListN.{length}
 use Rattle.words.proofs.Runs.{up_from_more}
 use Rattle.words.specs.Lists.{up_from}
 use Rattle.tables.specs.Tables.{Put}
@@ -18,10 +17,7 @@ use Rattle.answers.specs.Composing.{join_cells}
 use Rattle.layout.specs.Layout.{JOINS}
 use Rattle.layout.specs.Tables.{cell}
 use Rattle.layout.specs.Staging.{join_in, joins_in}
-use Rattle.walk_offer.specs.Steps.Runs.{mark}
-use Rattle.walk_offer.specs.Steps.Marks.{chain_ends}
-use Rattle.walk_offer.specs.Steps.Offers.{CanJoin, JoinPut, EndsFit, EndsJoined}
-use Rattle.walk_offer.proofs.MarkLaws.{ends-mark, ends_set}
+use Rattle.walk_offer.specs.Steps.Offers.{CanJoin, JoinPut}
 
 pub joins_length : (w : List ℕ) (k : ℕ) → length (joins_in w k) ≡ k
 joins_length w k = count 0 k
@@ -62,36 +58,4 @@ module _ (w : List ℕ) (count l r d : ℕ) (F : CanJoin w count l r d) where
       record {
         joins_are = rw (add-one count) (joins_more w' count ∙ rw (x, y, z, joins_same w w' count old));
         only = cells-put (cells-put (cells-put only-refl p (omega arith)) q (omega arith)) o (omega arith);
-      }
-
-module _ {first last : List ℕ} {l r : ℕ} (F : EndsFit first last l r) where
-  module _ {begin : ℕ} (b : (begin ≡ mark first l) × (begin < 65536)) where
-    begin_is : begin ≡ chain_ends first l
-    begin_is = b.0 ∙ sym (ends-mark first l F.left.0 (omega (arith, F.left.1, F.firsts)))
-
-    pub begin_some : 1 ≤ begin
-    begin_some = omega (arith, begin_is, F.begin)
-
-    pub begin_within : begin ≤ length last
-    begin_within = omega (arith, begin_is, F.begin, F.lasts)
-
-  module _ {end : ℕ} (e : (end ≡ mark last r) × (end < 65536)) where
-    end_is : end ≡ chain_ends last r
-    end_is = e.0 ∙ sym (ends-mark last r F.right.0 (omega (arith, F.right.1, F.lasts)))
-
-    pub end_some : 1 ≤ end
-    end_some = omega (arith, end_is, F.end)
-
-    pub end_within : end ≤ length first
-    end_within = omega (arith, end_is, F.end, F.firsts)
-
-  pub ends_marked : {begin end : ℕ} {first' last' : List ℕ}
-      → (begin ≡ mark first l) × (begin < 65536) → (end ≡ mark last r) × (end < 65536)
-      → last' ≡ set last (begin - 1) end → first' ≡ set first (end - 1) begin → EndsJoined first last l r first' last'
-  ends_marked {begin} {end} b e q p =
-      record {
-        firsts = ap length p ∙ length-set first (end - 1) begin ∙ F.firsts;
-        lasts = ap length q ∙ length-set last (begin - 1) end ∙ F.lasts;
-        first-is = ap chain_ends p ∙ ends_set first end begin (end_some e) (end_within e) ∙ rw (begin_is b, end_is e);
-        last_is = ap chain_ends q ∙ ends_set last begin end (begin_some b) (begin_within b) ∙ rw (begin_is b, end_is e);
       }

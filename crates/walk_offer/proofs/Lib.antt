@@ -1,7 +1,6 @@
 -- Laws of one slip of a visit.
 pub mod AllSpecimens
 pub mod RunLaws
-pub mod NextSlips
 pub mod ScanLaws
 pub mod MarkLaws
 pub mod JoinCells

@@ -1,12 +1,12 @@
 -- Lists of marks: at the start, and with one join more.
---   mark-..      == a mark set, set_cases == what the marks are then
+--   set_cases    == what the marks are when one is set
 --   tells-..     == a list of marks that tells a function of the slips: one of them, one set
 --   Owning i xs  == the first i slips are marked as their own
---   ends-..      == chain ends as a table: a mark set, every slip its own
+--   ends-..      == chain ends as a table: a mark, a slip beyond the list, every slip its own
 --   zeros-..     == how many marks are 0: all at the start, one fewer when one is set
 --   over-..      == overlaps with one join more
---   marks_none   == five lists without a join
---   marks_join   == the five lists when r is joined behind l
+--   marks_none   == marks without a join
+--   marks_join   == the marks when r is joined behind l
 -- The first slip of the chain that l ends and the last of the chain that r begins are slips of the lists: beyond the lists each slip is its own.
 use mathlib.Core.Path.{◌≡◌, refl, sym, ap, fun_ext, ◌∙◌}
 use mathlib.Core.List.Memᴰ
@@ -18,7 +18,7 @@ use native.Mathlib.Numerals.{add-one, sub-one}
 use native.Mathlib.Omega.{arith}
 use lib.Dec.{eqb}
 use lib.ListN.{length, get_or, set, take, replicate, length-set, length-replicate, get_or-replicate, length-append, get_or-eq_default}
-use lib.Seq.{get_or-set_same, get_or-set_other, take-suc-set, take_all}
+use lib.Seq.{get_or-set_same, get_or-set_other, take-suc-set}
 use borrow.Author.Tests.{eq-eqb, ne_eqb}
 use Rattle.words.proofs.Runs.{length-up_from, up_from_more}
 use Rattle.words.specs.Lists.{up_from}
@@ -29,39 +29,29 @@ use Rattle.trays.specs.Limits.{max_slips}
 use Rattle.greedy.specs.Joins.{Join, join, right_of, left_of, last_of}
 use Rattle.greedy.specs.Legends.{overlap_after}
 use Rattle.greedy.proofs.Linked as L
-use Rattle.greedy.proofs.Threads.{threads_none, put_at, threads_join}
+use Rattle.greedy.proofs.Threads.{threads_none, threads_join}
 use Rattle.layout.specs.Staging.{Neighbours}
 use Rattle.walk_offer.specs.Steps.Runs.{mark}
-use Rattle.walk_offer.specs.Steps.Marks.{chain_ends, zeros, Marks}
+use Rattle.walk_offer.specs.Steps.Marks.{chain_ends, zeros, Marked}
+use Rattle.walk_offer.specs.declared.Marks.{Marks}
 use Rattle.walk_offer.specs.Steps.Offers.{EndsFit, EndsJoined}
 
--- a mark set, and every slip marked as its own
-pub mark_set : (xs : List ℕ) (i x r : ℕ) → r ≡ x → set xs (i - 1) r ≡ set xs (i - 1) x
-mark_set xs i x r e = rw e
+-- every slip marked as its own
 
 pub record Owning (i : ℕ) (xs : List ℕ) : Type 0 where
   pub size : length xs ≡ max_slips
   pub upto : i ≤ max_slips
   pub own : take i xs ≡ up_from 1 i
 
-pub own_start : (xs : List ℕ) → length xs ≡ max_slips → Owning 0 xs
-own_start xs e = record { size = e; upto = omega arith; own = refl }
-
 module _ {i : ℕ} {xs : List ℕ} (O : Owning i xs) where
-  pub own_turn : {xs' : List ℕ} (k : ℕ) → i < length xs → xs' ≡ set xs (i + 1 - 1) (i + 1) → k ≡ i + 1 → Owning k xs'
-  own_turn {xs'} k h e q =
-      let p : i + 1 - 1 ≡ i = omega arith in
+  pub own_turn : i < length xs → Owning (i + 1) (set xs i (i + 1))
+  own_turn h =
       let n : 1 + i ≡ suc i = omega arith in
       record {
-        size = ap length e ∙ length-set xs (i + 1 - 1) (i + 1) ∙ O.size;
+        size = length-set xs i (i + 1) ∙ O.size;
         upto = omega (arith, O.size);
-        own = rw (q, e, p, add-one) (take-suc-set xs i (suc i) h ∙ ap (λ l. l ++ (suc i ∷ [])) O.own ∙ sym (up_from_more 1 i ∙ rw n));
+        own = rw add-one (take-suc-set xs i (suc i) h ∙ ap (λ l. l ++ (suc i ∷ [])) O.own ∙ sym (up_from_more 1 i ∙ rw n));
       }
-
-  pub own_end : length xs ≤ i → xs ≡ up_from 1 max_slips
-  own_end h =
-      let e : i ≡ max_slips = omega (arith, O.size, O.upto) in
-      sym (take_all i xs h) ∙ O.own ∙ rw e
 
 pub mark_at : (xs : List ℕ) (i : ℕ) → mark xs (suc i) ≡ get_or xs i 0
 mark_at xs i = rw (sub-one (suc i))
@@ -93,14 +83,6 @@ ends-mark xs (suc i) h l = rw (mark_at xs i) (get_d_default xs i (suc i) 0 l)
 pub ends-beyond : (xs : List ℕ) (i : ℕ) → length xs < i → chain_ends xs i ≡ i
 ends-beyond xs zero h = absurd (omega arith)
 ends-beyond xs (suc i) h = get_or-eq_default xs (suc i) (omega arith)
-
-pub ends_set : (xs : List ℕ) (a v : ℕ) → 1 ≤ a → a ≤ length xs → chain_ends (set xs (a - 1) v) ≡ put_at (chain_ends xs) a v
-ends_set xs a v h l = fun_ext at
-  where
-    at : (i : ℕ) → chain_ends (set xs (a - 1) v) i ≡ put_at (chain_ends xs) a v i
-    at zero = rw (ne_eqb 0 a (λ e. omega arith))
-    at (suc i) =
-        set_cases (λ x. x ≡ put_at (chain_ends xs) a v (suc i)) xs a v i (suc i) (h, l) (λ e. rw (eq-eqb (suc i) a e)) (λ n. rw (ne_eqb (suc i) a n))
 
 pub ends_own : chain_ends (up_from 1 max_slips) ≡ (λ i. i)
 ends_own = fun_ext at
@@ -162,10 +144,9 @@ over_joined (j ∷ js) real l r d z =
       | inr e ↦ rw (e, overlap_after) (over_joined js (λ k m. real k (Memᴰ.tail m)) l r d (rw (e, right_of) at z))
     ]
 
-pub marks_none : (left right overs first last : List ℕ)
-    → left ≡ replicate max_slips 0 → right ≡ replicate max_slips 0 → overs ≡ replicate max_slips 0 → first ≡ up_from 1 max_slips → last ≡ up_from 1 max_slips
-    → Marks [] left right overs first last
-marks_none left right overs first last l r o f e =
+pub marks_none : (marks : Marks) → marks.left ≡ replicate max_slips 0 → marks.right ≡ replicate max_slips 0 → marks.overs ≡ replicate max_slips 0 →
+    marks.first ≡ up_from 1 max_slips → marks.last ≡ up_from 1 max_slips → Marked [] marks
+marks_none marks l r o f e =
     record {
       neighbours = record {
         lefts = ap length l ∙ length-replicate {A = ℕ} max_slips 0;
@@ -183,47 +164,43 @@ marks_none left right overs first last l r o f e =
       spare = rw (l, zeros_all max_slips);
     }
 
-module _ {js : List Join} {left right overs first last : List ℕ} (M : Marks js left right overs first last) where
-  abbrev N : Neighbours js left right overs
+module _ {js : List Join} {marks : Marks} (M : Marked js marks) where
+  abbrev N : Neighbours js marks.left marks.right marks.overs
   N = M.neighbours
 
-  pub left-mark : (i : ℕ) → 1 ≤ i → i ≤ max_slips → mark left i ≡ left_of i js
-  left-mark = tells_mark left (λ i. left_of i js) N.left_is
+  pub left-mark : (i : ℕ) → 1 ≤ i → i ≤ max_slips → mark marks.left i ≡ left_of i js
+  left-mark = tells_mark marks.left (λ i. left_of i js) N.left_is
 
-  pub right_mark : (i : ℕ) → 1 ≤ i → i ≤ max_slips → mark right i ≡ right_of i js
-  right_mark = tells_mark right (λ i. right_of i js) N.right_is
+  pub right_mark : (i : ℕ) → 1 ≤ i → i ≤ max_slips → mark marks.right i ≡ right_of i js
+  right_mark = tells_mark marks.right (λ i. right_of i js) N.right_is
 
   -- the last slip of the chain that r begins
-  pub last_mark : (r : ℕ) → 1 ≤ r → r ≤ max_slips → mark left r ≡ 0 → mark last r ≡ last_of r js
+  pub last_mark : (r : ℕ) → 1 ≤ r → r ≤ max_slips → mark marks.left r ≡ 0 → mark marks.last r ≡ last_of r js
   last_mark r h l z =
-      sym (ends-mark last r h (omega (arith, M.lasts))) ∙ sym (M.threads.last_is r (sym (left-mark r h l) ∙ z))
+      sym (ends-mark marks.last r h (omega (arith, M.lasts))) ∙ sym (M.threads.last_is r (sym (left-mark r h l) ∙ z))
 
   -- there is room for one join more
-  pub marks_room : (r : ℕ) → 1 ≤ r → r ≤ max_slips → mark left r ≡ 0 → length js < max_slips
-  marks_room r h l z = omega (arith, M.spare, zeros-some left (r - 1) (omega (arith, N.lefts)) z)
+  pub marks_room : (r : ℕ) → 1 ≤ r → r ≤ max_slips → mark marks.left r ≡ 0 → length js < max_slips
+  marks_room r h l z = omega (arith, M.spare, zeros-some marks.left (r - 1) (omega (arith, N.lefts)) z)
 
   -- a chain of a slip of the lists has both its ends there
-  begin_real : (l : ℕ) → 1 ≤ l → l ≤ max_slips → right_of l js ≡ 0 → (1 ≤ chain_ends first l) × (chain_ends first l ≤ max_slips)
-  begin_real l h k z = ends_within last (chain_ends first l) l (M.threads.first-is l z).1 h k M.lasts
+  begin_real : (l : ℕ) → 1 ≤ l → l ≤ max_slips → right_of l js ≡ 0 → (1 ≤ chain_ends marks.first l) × (chain_ends marks.first l ≤ max_slips)
+  begin_real l h k z = ends_within marks.last (chain_ends marks.first l) l (M.threads.first-is l z).1 h k M.lasts
 
-  end_real : (r : ℕ) → 1 ≤ r → r ≤ max_slips → left_of r js ≡ 0 → (1 ≤ chain_ends last r) × (chain_ends last r ≤ max_slips)
-  end_real r h k z = ends_within first (chain_ends last r) r (M.threads.back r z) h k M.firsts
-
-  pub last_some : (r : ℕ) → 1 ≤ r → r ≤ max_slips → mark left r ≡ 0 → 1 ≤ mark last r
-  last_some r h l z =
-      rw (← ends-mark last r h (omega (arith, M.lasts))) (end_real r h l (sym (left-mark r h l) ∙ z)).0
+  end_real : (r : ℕ) → 1 ≤ r → r ≤ max_slips → left_of r js ≡ 0 → (1 ≤ chain_ends marks.last r) × (chain_ends marks.last r ≤ max_slips)
+  end_real r h k z = ends_within marks.first (chain_ends marks.last r) r (M.threads.back r z) h k M.firsts
 
   -- r joined behind l
   module _
       (l r d : ℕ) (hl : (1 ≤ l) × (l ≤ max_slips)) (hr : (1 ≤ r) × (r ≤ max_slips))
-      (zl : mark right l ≡ 0) (zr : mark left r ≡ 0) (cycle : l ≡ mark last r → ⊥) where
+      (zl : mark marks.right l ≡ 0) (zr : mark marks.left r ≡ 0) (cycle : l ≡ mark marks.last r → ⊥) where
     right_none : right_of l js ≡ 0
     right_none = sym (right_mark l hl.0 hl.1) ∙ zl
 
     left_none : left_of r js ≡ 0
     left_none = sym (left-mark r hr.0 hr.1) ∙ zr
 
-    pub ends_fit : EndsFit first last l r
+    pub ends_fit : EndsFit marks.first marks.last l r
     ends_fit =
         record {
           firsts = M.firsts;
@@ -250,33 +227,33 @@ module _ {js : List Join} {left right overs first last : List ℕ} (M : Marks js
           | no n ↦ rw (right_others i n) (M.small i)
         ]
 
-    pub marks_join : (left' right' overs' first' last' : List ℕ)
-        → left' ≡ set left (r - 1) l → right' ≡ set right (l - 1) r → overs' ≡ set overs (l - 1) d → EndsJoined first last l r first' last'
-        → Marks (js ++ (join l r d ∷ [])) left' right' overs' first' last'
-    marks_join left' right' overs' first' last' a b o e =
+    pub marks_join : (marks' : Marks)
+        → marks'.left ≡ set marks.left (r - 1) l → marks'.right ≡ set marks.right (l - 1) r → marks'.overs ≡ set marks.overs (l - 1) d → EndsJoined marks.first marks.last l r marks'.first marks'.last
+        → Marked (js ++ (join l r d ∷ [])) marks'
+    marks_join marks' a b o e =
         record {
           neighbours = record {
-            lefts = ap length a ∙ length-set left (r - 1) l ∙ N.lefts;
-            rights = ap length b ∙ length-set right (l - 1) r ∙ N.rights;
-            overlaps = ap length o ∙ length-set overs (l - 1) d ∙ N.overlaps;
+            lefts = ap length a ∙ length-set marks.left (r - 1) l ∙ N.lefts;
+            rights = ap length b ∙ length-set marks.right (l - 1) r ∙ N.rights;
+            overlaps = ap length o ∙ length-set marks.overs (l - 1) d ∙ N.overlaps;
             left_is =
-                rw a (tells_set left (λ i. left_of i js) N.left_is N.lefts (λ i. left_of i more) r l hr
+                rw a (tells_set marks.left (λ i. left_of i js) N.left_is N.lefts (λ i. left_of i more) r l hr
                 (L.left_joined js M.linked l r d hl.0 hr.0 right_none left_none)
                 (L.left_other js M.linked l r d hl.0 hr.0 right_none left_none));
             right_is =
-                rw b (tells_set right (λ i. right_of i js) N.right_is N.rights (λ i. right_of i more) l r hl right_now right_others);
+                rw b (tells_set marks.right (λ i. right_of i js) N.right_is N.rights (λ i. right_of i more) l r hl right_now right_others);
             overlap-is =
-                rw o (tells_set overs (λ i. overlap_after i js) N.overlap-is N.overlaps (λ i. overlap_after i more) l d hl
+                rw o (tells_set marks.overs (λ i. overlap_after i js) N.overlap-is N.overlaps (λ i. overlap_after i more) l d hl
                 (over_joined js M.linked.real l r d right_none) (λ i n. over_other i js (join l r d) n));
           };
           firsts = e.firsts;
           lasts = e.lasts;
           linked = L.linked_more js M.linked l r d hl.0 hr.0 right_none left_none;
           threads = rw (e.last_is, e.first-is)
-              (threads_join js (chain_ends last) (chain_ends first) l r d M.linked M.threads hl.0 hr.0 right_none left_none
-              (λ q. cycle (sym q ∙ ends-mark last r hr.0 (omega (arith, M.lasts)))));
+              (threads_join js (chain_ends marks.last) (chain_ends marks.first) l r d M.linked M.threads hl.0 hr.0 right_none left_none
+              (λ q. cycle (sym q ∙ ends-mark marks.last r hr.0 (omega (arith, M.lasts)))));
           small = small_new;
           spare =
-              let z = zeros-set left (r - 1) l (omega (arith, N.lefts)) zr hl.0 in
+              let z = zeros-set marks.left (r - 1) l (omega (arith, N.lefts)) zr hl.0 in
               rw a (omega (arith, z, M.spare, length-append js (join l r d ∷ [])));
         }

@@ -1,6 +1,7 @@
 -- Lists of slips threaded through the work area.
 --   along-..    == the numbers along next, as a list
---   listed-..   == a list of slips of the tray: none, the next one, from what is threaded
+--   listed-..   == a list of slips of the tray: from what is threaded, its first one, the next one
+--   start_short == a slip starts as early as one ends
 --   starter_kept, ender_kept == the lists are the same in a work area of which only joins have changed
 -- From a slip the list is that slip and the list from the next one: it ends within 200 slips, so one turn fewer is enough for the rest.
 use mathlib.Core.Path.{◌≡◌, refl, sym, ap, fun_ext, ◌∙◌}
@@ -10,14 +11,17 @@ use Prim.Native.Nat.{ℕ, zero, suc, ◌+◌, ◌-◌, ◌≤◌, ◌<◌}
 use native.Mathlib.Omega.{arith}
 use lib.ListN.{length}
 use Rattle.words.proofs.Members.{In, Asc}
-use Rattle.trays.specs.Limits.{max_slips}
+use Rattle.trays.specs.Limits.{max_slips, max_letters}
 use Rattle.trays.specs.Slips.{start_of, end_of}
 use Rattle.tables.specs.Tables.{Cells, Only}
 use Rattle.layout.specs.Layout.{STARTS_NEXT, ENDS_NEXT, JOINS, all_joins}
 use Rattle.layout.specs.Tables.{Threaded}
 use Rattle.walk_offer.specs.Steps.Runs.{along, next_starter, next_ender, Real, ListedFrom}
 use Rattle.walk_offer.specs.Steps.Offers.{Sized}
-use Rattle.walk_offer.proofs.NextSlips.{start_short}
+
+pub start_short : (es : List ℕ) → ((i : ℕ) → end_of es i ≤ max_letters) → (i : ℕ) → start_of es i ≤ max_letters
+start_short es h zero = omega arith
+start_short es h (suc i) = h i
 
 module _ (next : ℕ → ℕ) where
   pub along_none : (n : ℕ) → along next n 0 ≡ []
@@ -46,9 +50,6 @@ module _ (next : ℕ → ℕ) where
     listed_is i xs e a p h =
         let q = threaded_along max_slips i xs e (λ x m. (p x m).some) h in
         record { threaded = rw q e; ascending = rw q a; all = rw q p }
-
-    pub listed_none : ListedFrom es d next 0
-    listed_none = listed_is 0 [] refl tt (λ x m. absurd (Memᴰ.not-nil m)) (omega arith)
 
     module _ (i : ℕ) (L : ListedFrom es d next i) (some : i ≡ 0 → ⊥) where
       first : along next max_slips i ≡ i ∷ along next (max_slips - 1) (next i)

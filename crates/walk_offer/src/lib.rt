@@ -1,5 +1,4 @@
-// One slip of a visit of the walk: the slips at a node, which of them wait, and the join that is made. Neighbours, overlaps and the two ends
-// of each chain stand in lists of 200 marks: the mark of slip i is the one at i - 1, and 0 means none.
+// One slip of a visit of the walk: the slips at a node, which of them wait, and the join that is made.
 #![tactic(auto)]
 
 ghost use Rattle.std.specs.Prelude.{◌≡◌, ◌∷◌, ◌++◌, [], ◌-◌, ◌≤◌, ◌<◌, length, set};
@@ -12,13 +11,24 @@ ghost use Rattle.walk_offer.specs.Steps.Runs as R;
 ghost use Rattle.walk_offer.specs.Steps.Offers as O;
 
 use answers::JOIN_CELLS;
+use trays::MAX_SLIPS;
+
+// Neighbours, overlaps and the two ends of each chain, in lists of marks: the mark of slip i is the one at i - 1, and 0 means none.
+#[derive(Drop)]
+pub struct Marks {
+    pub left: [u16; MAX_SLIPS],
+    pub right: [u16; MAX_SLIPS],
+    pub overs: [u16; MAX_SLIPS],
+    pub first: [u16; MAX_SLIPS],
+    pub last: [u16; MAX_SLIPS],
+}
 
 // The mark of slip `i`.
 fn mark_of(marks: &[u16], i: usize) -> usize
     requires { (1 ≤ i) × (i ≤ length marks.now) }
     ensures { (result ≡ R.mark marks.now i) × (result < 65536) }
 {
-    tables::wide(marks[i - 1])
+    usize::from(marks[i - 1])
 }
 
 // Makes `x` the mark of slip `i`.
@@ -26,7 +36,7 @@ fn set_mark(marks: &mut [u16], i: usize, x: usize)
     requires { (1 ≤ i) × (i ≤ length marks.old) × (x < 65536) }
     ensures { marks.new ≡ set marks.old (i - 1) x }
 {
-    marks[i - 1] = tables::narrow(x);
+    marks[i - 1] = x as u16;
 }
 
 // Makes each slip its own mark: the end of a chain of one.
@@ -34,22 +44,23 @@ pub fn own_marks(marks: &mut [u16])
     requires { length marks.old ≡ max_slips }
     ensures { marks.new ≡ up_from 1 max_slips }
 {
-    let mut i: usize = 0;
-    while i < marks.len() {
-        set_mark(marks, i + 1, i + 1);
-        i += 1;
+    for (i, mark) in marks.iter_mut().enumerate() {
+        *mark = (i + 1) as u16;
     }
 }
 
 // The slip after `r` among those that begin with a node of `d` letters, 0 for none.
+// kept: beside `next_ender`, since each is one line, and one function for both would take the table and the place, which is `tables::at`
 pub fn next_starter(work: &[u16], ends: &[u16], d: usize, r: usize) -> usize
     requires sized { O.Sized ends.now work.now d }
     requires real { R.Real ends.now d r }
     ensures { result ≡ R.next_starter work.now ends.now d r }
 {
-    let span = slips::slip_span(ends, r);
-    let start = span.start;
-    tables::at(work, layout::STARTS_NEXT, start + d - 1)
+    tables::at(
+        work,
+        layout::STARTS_NEXT,
+        slips::slip_span(ends, r).start + d - 1,
+    )
 }
 
 // The slip after `l` among those that properly end with a node of `d` letters, 0 for none.
@@ -58,20 +69,18 @@ fn next_ender(work: &[u16], ends: &[u16], d: usize, l: usize) -> usize
     requires real { R.Real ends.now d l }
     ensures { result ≡ R.next_ender work.now ends.now d l }
 {
-    let span = slips::slip_span(ends, l);
-    let end = span.end;
-    tables::at(work, layout::ENDS_NEXT, end - d)
+    tables::at(work, layout::ENDS_NEXT, slips::slip_span(ends, l).end - d)
 }
 
 // The first slip without a right neighbour from `from` on among those that properly end with a node of `d` letters, 0 for none.
+// kept: the slips are linked through ENDS_NEXT, which holds 0 for none, and what is found goes back into a walk along it: no range, no Option
 pub fn next_free(work: &[u16], ends: &[u16], right: &[u16], d: usize, from: usize) -> usize
     requires { O.Searches ends.now work.now d right.now from }
     ensures { O.FoundPartner ends.now work.now d right.now from result }
 {
     let mut l = from;
     while l != 0 {
-        let taken = mark_of(right, l);
-        if taken == 0 {
+        if mark_of(right, l) == 0 {
             return l;
         }
         l = next_ender(work, ends, d, l);
@@ -84,11 +93,11 @@ fn partner(work: &[u16], ends: &[u16], right: &[u16], d: usize, l: usize, m: usi
     requires { O.Chooses ends.now work.now d right.now l m }
     ensures { result ≡ O.partner_in right.now (R.enders_from work.now ends.now d l) m }
 {
-    if l != m {
-        return l;
+    if l == m {
+        next_free(work, ends, right, d, next_ender(work, ends, d, l))
+    } else {
+        l
     }
-    let next = next_ender(work, ends, d, l);
-    next_free(work, ends, right, d, next)
 }
 
 // Writes the join of `l` and `r` after the first `count`. Answers how many there are then.
@@ -120,21 +129,17 @@ fn make_join(
     l: usize,
     r: usize,
     d: usize,
-    left: &mut [u16],
-    right: &mut [u16],
-    overs: &mut [u16],
-    first: &mut [u16],
-    last: &mut [u16],
+    marks: &mut Marks,
 ) -> usize
-    requires { O.Joinable work.old count l r d left.old right.old overs.old first.old last.old }
+    requires { O.Joinable work.old count l r d marks.old }
     ensures { O.JoinsMade work.old (joins_in work.old count ++ (join l r d ∷ []))
-        work.new left.new right.new overs.new first.new last.new result }
+        work.new marks.new result }
 {
     let made = put_join(work, count, l, r, d);
-    set_mark(left, r, l);
-    set_mark(right, l, r);
-    set_mark(overs, l, d);
-    join_ends(first, last, l, r);
+    set_mark(&mut marks.left, r, l);
+    set_mark(&mut marks.right, l, r);
+    set_mark(&mut marks.overs, l, d);
+    join_ends(&mut marks.first, &mut marks.last, l, r);
     made
 }
 
@@ -147,25 +152,20 @@ pub fn offer(
     r: usize,
     l: usize,
     count: usize,
-    left: &mut [u16],
-    right: &mut [u16],
-    overs: &mut [u16],
-    first: &mut [u16],
-    last: &mut [u16],
+    marks: &mut Marks,
 ) -> usize
-    requires { O.Offers ends.now work.old d r l count left.old right.old overs.old first.old last.old }
+    requires { O.Offers ends.now work.old d r l count marks.old }
     ensures { O.JoinsMade work.old
         (S.offer (R.enders_from work.old ends.now d l) d r (joins_in work.old count))
-        work.new left.new right.new overs.new first.new last.new result }
+        work.new marks.new result }
 {
-    let taken = mark_of(left, r);
-    if taken != 0 {
+    if mark_of(&marks.left, r) != 0 {
         return count;
     }
-    let chain_end = mark_of(last, r);
-    let best = partner(work, ends, right, d, l, chain_end);
+    let chain_end = mark_of(&marks.last, r);
+    let best = partner(work, ends, &marks.right, d, l, chain_end);
     if best == 0 {
         return count;
     }
-    make_join(work, count, best, r, d, left, right, overs, first, last)
+    make_join(work, count, best, r, d, marks)
 }

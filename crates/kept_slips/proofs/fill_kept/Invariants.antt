@@ -1,5 +1,4 @@
 -- Invariant: the first k cells of KEPT hold those of the first j members that are not set aside, and no cell below KEPT has changed.
-use Prim.Native.Nat.{◌-◌}
 use Rattle.layout.specs.Layout.{KEPT}
 use Rattle.layout.specs.Numbered.{SameBelow}
 use Rattle.kept_slips.proofs.KeptLoop.{Sifting}
@@ -7,6 +6,3 @@ use Rattle.kept_slips.proofs.fill_kept.Given as goal
 
 abbrev pub invariant-loop-j : goal.invariant-loop-j
 invariant-loop-j l = Sifting l.tray.letters.now l.tray.ends.now l.n l.nodes l.work l.j l.k × SameBelow KEPT l.initial.work l.work
-
-abbrev pub decreases-loop-j : goal.decreases-loop-j
-decreases-loop-j l = l.n - l.j

@@ -1,5 +1,4 @@
 -- Invariant: the failure link of every node before v is marked, every marked node is the failure link of a node, and no cell below MARK has changed.
-use Prim.Native.Nat.{◌+◌, ◌-◌}
 use Rattle.layout.specs.Layout.{MARK}
 use Rattle.layout.specs.Numbered.{SameBelow}
 use Rattle.kept_slips.proofs.MarkLoop.{Marking}
@@ -7,6 +6,3 @@ use Rattle.kept_slips.proofs.fill_marks.Given as goal
 
 abbrev pub invariant-loop-v : goal.invariant-loop-v
 invariant-loop-v l = Marking l.tray.letters.now l.tray.ends.now l.n l.nodes l.work l.v × SameBelow MARK l.initial.work l.work
-
-abbrev pub decreases-loop-v : goal.decreases-loop-v
-decreases-loop-v l = l.nodes + 1 - l.v

@@ -7,7 +7,7 @@ use Rattle.walk.proofs.visit.Given as goal
 
 abbrev pub invariant-loop-r : goal.invariant-loop-r
 invariant-loop-r l =
-    Visiting l.ends l.d l.v l.initial.work l.count l.work l.made l.l l.r l.left l.right l.overs l.first l.last
+    Visiting l.ends l.d l.v l.initial.work l.count l.work l.made l.l l.r l.marks
 
 abbrev pub decreases-loop-r : goal.decreases-loop-r
 decreases-loop-r l =

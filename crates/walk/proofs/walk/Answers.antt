@@ -1,4 +1,4 @@
-use Rattle.walk.proofs.WalkLoop.{fresh-length, walk_start, walk_asks, walk_turn, walk_end}
+use Rattle.walk.proofs.WalkLoop.{walk_start, walk_asks, walk_turn, walk_end}
 use mathlib.Core.Path.{refl}
 use native.Mathlib.Omega.{arith}
 use Rattle.walk.proofs.walk.Goals as goal
@@ -14,14 +14,9 @@ pub loop-d-preserved : goal.loop-d-preserved
 loop-d-preserved c =
     walk_turn c.loop-d.invariant (omega (arith, c.loop-d-test.true)) _ c.walk_row-made.ensures refl
 
-pub shape_of-left : goal.shape_of-left
-shape_of-left c = search fresh-length
-
-pub shape_of-right : goal.shape_of-right
-shape_of-right c = search fresh-length
-
-pub shape_of-overs : goal.shape_of-overs
-shape_of-overs c = search fresh-length
-
 pub returns : goal.returns
 returns c = search walk_end
+
+pub returns-2 : goal.returns-2
+returns-2 c =
+    walk_end (walk_turn c.loop-d.invariant (omega (arith, c.loop-d-test.true)) _ c.walk_row-made.ensures refl) (omega arith)

@@ -5,8 +5,4 @@ use Rattle.walk.proofs.walk.Given as goal
 
 abbrev pub invariant-loop-d : goal.invariant-loop-d
 invariant-loop-d l =
-    Walking l.least l.tray.letters.now l.tray.ends.now l.n l.k l.nodes l.initial.work l.work l.made l.d l.left l.right l.overs l.first l.last
-
-abbrev pub decreases-loop-d : goal.decreases-loop-d
-decreases-loop-d l =
-    l.d
+    Walking l.least l.tray.letters.now l.tray.ends.now l.n l.k l.nodes l.initial.work l.work l.made l.d l.marks

@@ -1,12 +1,7 @@
 -- Invariant: to visit the nodes of the row from node v on makes of the joins made so far what the whole row makes; the marks are those of the joins made.
-use Prim.Native.Nat.{◌-◌}
 use Rattle.walk.proofs.RowLoop.{RowWalking}
 use Rattle.walk.proofs.walk_row.Given as goal
 
 abbrev pub invariant-loop-v : goal.invariant-loop-v
 invariant-loop-v l =
-    RowWalking l.tray.letters.now l.tray.ends.now l.n l.k l.nodes l.initial.work l.d l.count l.work l.made l.v l.end l.left l.right l.overs l.first l.last
-
-abbrev pub decreases-loop-v : goal.decreases-loop-v
-decreases-loop-v l =
-    l.end - l.v
+    RowWalking l.tray.letters.now l.tray.ends.now l.n l.k l.nodes l.initial.work l.d l.count l.work l.made l.v l.end l.marks

@@ -1,7 +1,7 @@
 -- What the functions of one slip of a visit ask and leave.
 --   Sized es w d            == the tray is small enough, the work area large enough, and d is a length of slips
 --   partner_in right ls m    == whom a slip is joined behind: the first of ls that waits and is not m
---   JoinsMade w js w' .. r  == the joins js stand in w', r of them, and in the five lists; nothing else of w has changed
+--   JoinsMade w js w' m r    == the joins js stand in w', r of them, and in the marks m; nothing else of w has changed
 use Rattle.std.specs.Prelude.{◌≡◌, ◌&&◌, not, List, [], ◌∷◌, ◌++◌, ℕ, ◌≤◌, ◌<◌, eqb, length}
 use Rattle.words.specs.Lists.{those, head_or}
 use Rattle.trays.specs.Limits.{max_slips, max_slip, max_letters, work_need}
@@ -12,7 +12,8 @@ use Rattle.greedy.specs.Steps.Linked.{put_at}
 use Rattle.layout.specs.Layout.{JOINS, all_joins}
 use Rattle.layout.specs.Staging.{joins_in}
 use Rattle.walk_offer.specs.Steps.Runs.{next_ender, enders_from, mark, waiting_in, Real, ListedFrom}
-use Rattle.walk_offer.specs.Steps.Marks.{chain_ends, Marks}
+use Rattle.walk_offer.specs.Steps.Marks.{chain_ends, Marked}
+use Rattle.walk_offer.specs.declared.Marks.{Marks}
 
 pub record Sized (es w : List ℕ) (d : ℕ) : Type 0 where
   pub room : work_need ≤ length w
@@ -44,9 +45,9 @@ pub record Chooses (es w : List ℕ) (d : ℕ) (right : List ℕ) (l m : ℕ) : 
   pub waits : Waits right (enders_from w es d l)
   pub real : 1 ≤ m
 
-pub record JoinsMade (w : List ℕ) (js : List Join) (w' left right overs first last : List ℕ) (r : ℕ) : Type 0 where
+pub record JoinsMade (w : List ℕ) (js : List Join) (w' : List ℕ) (marks : Marks) (r : ℕ) : Type 0 where
   pub joins_are : joins_in w' r ≡ js
-  pub marks : Marks js left right overs first last
+  pub marked : Marked js marks
   pub only : Only (Cells JOINS all_joins) w w'
 
 -- one join more in the work area
@@ -77,19 +78,19 @@ pub record EndsJoined (first last : List ℕ) (l r : ℕ) (first' last' : List �
   pub last_is : chain_ends last' ≡ put_at (chain_ends last) (chain_ends first l) (chain_ends last r)
 
 -- a join of l and r by d letters
-pub record Joinable (w : List ℕ) (count l r d : ℕ) (left right overs first last : List ℕ) : Type 0 where
+pub record Joinable (w : List ℕ) (count l r d : ℕ) (marks : Marks) : Type 0 where
   pub room : work_need ≤ length w
-  pub marks : Marks (joins_in w count) left right overs first last
+  pub marked : Marked (joins_in w count) marks
   pub left_real : (1 ≤ l) × (l ≤ max_slips)
   pub right_real : (1 ≤ r) × (r ≤ max_slips)
   pub overlap_small : d ≤ max_slip
-  pub left-free : mark right l ≡ 0
-  pub right_free : mark left r ≡ 0
-  pub no_cycle : l ≡ mark last r → ⊥
+  pub left-free : mark marks.right l ≡ 0
+  pub right_free : mark marks.left r ≡ 0
+  pub no_cycle : l ≡ mark marks.last r → ⊥
 
 -- one slip r of a visit, where l stands first among those that properly end with the node and wait
-pub record Offers (es w : List ℕ) (d r l count : ℕ) (left right overs first last : List ℕ) : Type 0 where
-  pub search : Searches es w d right l
-  pub waits : Waits right (enders_from w es d l)
+pub record Offers (es w : List ℕ) (d r l count : ℕ) (marks : Marks) : Type 0 where
+  pub search : Searches es w d marks.right l
+  pub waits : Waits marks.right (enders_from w es d l)
   pub real : Real es d r
-  pub marks : Marks (joins_in w count) left right overs first last
+  pub marked : Marked (joins_in w count) marks
