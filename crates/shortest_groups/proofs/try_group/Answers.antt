@@ -4,11 +4,11 @@ use Rattle.shortest_groups.proofs.try_group.Goals as goal
 pub marks-requires : goal.marks-requires
 marks-requires c = try_few c.requires
 
-pub returns-then-marks-n : goal.returns-then-marks-n
-returns-then-marks-n c = search try_skip
-
 pub fill_group-requires : goal.fill_group-requires
 fill_group-requires c = search try_ready
 
-pub returns : goal.returns
-returns c = search try_done
+pub returns-then-marks-n : goal.returns-then-marks-n
+returns-then-marks-n c = search try_done
+
+pub returns-else-marks-n : goal.returns-else-marks-n
+returns-else-marks-n c = search try_skip
