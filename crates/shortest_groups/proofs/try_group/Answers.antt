@@ -1,4 +1,4 @@
-use Rattle.shortest_groups.proofs.FillLoop.{try_few, try_skip, try_ready, try_done}
+use Rattle.shortest_groups.proofs.FillLoop.{try_few, try_ready, try_done}
 use Rattle.shortest_groups.proofs.try_group.Goals as goal
 
 pub marks-requires : goal.marks-requires
@@ -9,6 +9,3 @@ fill_group-requires c = search try_ready
 
 pub returns-then-marks-n : goal.returns-then-marks-n
 returns-then-marks-n c = search try_done
-
-pub returns-else-marks-n : goal.returns-else-marks-n
-returns-else-marks-n c = search try_skip
