@@ -9,7 +9,6 @@ ghost use Rattle.legend_chains.specs.Pieces.{piece_in, pieces_in};
 ghost use Rattle.legend_lay.specs.Laying.{CanLay};
 ghost use Rattle.legend_lay.specs.Steps.OnePiece.{CanLayOne, LaidOne};
 
-use tables::wide;
 use trays::Tray;
 
 // Lays the `k`-th piece: its slip's letters beyond the overlap. Answers how many letters that are.
@@ -18,8 +17,8 @@ fn lay_piece(tray: Tray<'_>, pieces: &[u16], k: usize, legend: &mut [u8]) -> usi
     ensures { LaidOne (slips_of tray.entry.letters.now tray.entry.ends.now) (piece_in pieces.now k) legend.old
         legend.new result }
 {
-    let slip = wide(pieces[2 * k]);
-    let shared = wide(pieces[2 * k + 1]);
+    let slip = usize::from(pieces[2 * k]);
+    let shared = usize::from(pieces[2 * k + 1]);
     let part = slips::slip_part(tray, slip);
     tables::copy(&part[shared..], legend)
 }

@@ -7,6 +7,3 @@ use Rattle.compose_names.proofs.make_records.Given as goal
 
 abbrev pub invariant-loop-i : goal.invariant-loop-i
 invariant-loop-i l = (l.i ≤ l.count) × RowPut RECORDS 0 (each (record_in l.initial.work l.slips l.side) (up_from 0 l.i)) l.initial.work l.work
-
-abbrev pub decreases-loop-i : goal.decreases-loop-i
-decreases-loop-i l = l.count - l.i

@@ -7,6 +7,3 @@ use Rattle.compose_names.proofs.name_joins.Given as goal
 
 abbrev pub invariant-loop-i : goal.invariant-loop-i
 invariant-loop-i l = (l.i ≤ l.count) × RowPut NAMED 0 (each (named_in l.initial.work l.slips) (up_from 0 l.i)) l.initial.work l.work
-
-abbrev pub decreases-loop-i : goal.decreases-loop-i
-decreases-loop-i l = l.count - l.i

@@ -8,6 +8,3 @@ use Rattle.compose_store.proofs.store_places.Given as goal
 
 abbrev pub invariant-loop-i : goal.invariant-loop-i
 invariant-loop-i l = (l.i ≤ l.count) × (l.places ≡ over (firsts (place_at l.work) l.i) l.initial.places)
-
-abbrev pub decreases-loop-i : goal.decreases-loop-i
-decreases-loop-i l = l.count - l.i

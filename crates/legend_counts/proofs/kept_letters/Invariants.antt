@@ -7,6 +7,3 @@ use Rattle.legend_counts.proofs.kept_letters.Given as goal
 
 abbrev pub invariant-loop-i : goal.invariant-loop-i
 invariant-loop-i l = (l.i ≤ l.k) × (l.sum ≡ total (slips_of l.tray.letters.now l.tray.ends.now) (take l.i l.kept)) × (l.sum ≤ 2000 * l.i)
-
-abbrev pub decreases-loop-i : goal.decreases-loop-i
-decreases-loop-i l = l.k - l.i

@@ -9,6 +9,3 @@ use Rattle.legend_places.proofs.aside_places.Given as goal
 abbrev pub invariant-loop-i : goal.invariant-loop-i
 invariant-loop-i l =
     (l.i ≤ length l.tray.ends.now) × (l.places ≡ aside_by (slips_of l.tray.letters.now l.tray.ends.now) l.legend l.initial.places l.i) × (length l.places ≡ length l.initial.places)
-
-abbrev pub decreases-loop-i : goal.decreases-loop-i
-decreases-loop-i l = length l.tray.ends.now - l.i

@@ -6,6 +6,3 @@ use Rattle.legend_places.proofs.kept_places.Given as goal
 
 abbrev pub invariant-loop-q : goal.invariant-loop-q
 invariant-loop-q l = Placing l.tray.letters.now l.tray.ends.now l.pieces l.n l.initial.places l.q l.here l.places
-
-abbrev pub decreases-loop-q : goal.decreases-loop-q
-decreases-loop-q l = l.n - l.q
