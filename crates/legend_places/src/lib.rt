@@ -29,6 +29,7 @@ fn lowest_place(x: &[u8], t: &[u8]) -> Trial
     let mut end = n;
     let mut agreed: usize = 0;
     let last = x[n - 1];
+    // kept: the clause on `compared` counts each letter looked at (`tried`), and that the last one is looked at by itself is a measured choice.
     let place = 'places: loop {
         if t.len() < end {
             break 'places t.len() + 1;

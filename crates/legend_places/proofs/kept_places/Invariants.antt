@@ -1,6 +1,5 @@
 -- Invariant: the places of the first q pieces' slips are written and `here` is where the next letters go: the pieces from q on, placed from `here`,
 -- complete the places.
-use Prim.Native.Nat.{◌-◌}
 use Rattle.legend_places.proofs.PlacesLoop.{Placing}
 use Rattle.legend_places.proofs.kept_places.Given as goal
 
