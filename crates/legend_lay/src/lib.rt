@@ -23,15 +23,14 @@ fn lay_piece(tray: Tray<'_>, pieces: &[u16], k: usize, legend: &mut [u8]) -> usi
     tables::copy(&part[shared..], legend)
 }
 
-// Lays the `n` pieces from the `k`-th on: by the first slip, then the rest in the same manner with one slip fewer.
+// Lays the `n` pieces from the `k`-th on, one behind the other.
 pub fn lay(tray: Tray<'_>, pieces: &[u16], k: usize, n: usize, legend: &mut [u8])
     requires { CanLay tray.letters.now tray.ends.now pieces.now k n (length legend.old) }
     ensures { legend.new
         ≡ over (spelled (slips_of tray.entry.letters.now tray.entry.ends.now) (pieces_in pieces.now k n)) legend.old }
 {
-    if n == 0 {
-        return;
+    let mut here = 0;
+    for i in 0..n {
+        here += lay_piece(tray, pieces, k + i, &mut legend[here..]);
     }
-    let added = lay_piece(tray, pieces, k, legend);
-    lay(tray, pieces, k + 1, n - 1, &mut legend[added..]);
 }
