@@ -1,35 +1,18 @@
 -- One piece laid, and one more behind those before it.
-use mathlib.Core.Path.{◌≡◌, refl, ap, ◌∙◌}
+use mathlib.Core.Path.{◌≡◌, ap, ◌∙◌}
 use mathlib.Core.List.{List, [], ◌∷◌, ◌++◌, append-nil}
-use Prim.Native.Nat.{ℕ, zero, suc, ◌+◌, ◌-◌, ◌*◌, ◌≤◌, ◌<◌}
+use Prim.Native.Nat.{ℕ, zero, suc, ◌+◌, ◌-◌, ◌≤◌, ◌<◌}
 use native.Mathlib.Omega.{arith}
-use lib.ListN.{length, get_or, take, drop, length-append, length-drop}
-use lib.Seq.{take-length}
+use lib.ListN.{length, take, drop, length-append, length-drop}
 use borrow.Rule.Slice.PartMut.{put_mid}
 use Rattle.words.specs.Lists.{over, All}
 use Rattle.words.proofs.Members.{each_append}
 use Rattle.words.proofs.Buffers.{length_over, rest_is, over_mid}
-use Rattle.trays.specs.Slips.{slips_of, slip}
+use Rattle.trays.specs.Slips.{slips_of}
 use Rattle.greedy.specs.Legends.{Piece, added, spelled}
 use Rattle.legend_chains.specs.Pieces.{piece_in, pieces_in}
 use Rattle.legend_lay.specs.Laying.{PieceFits, CanLay}
 use Rattle.legend_lay.specs.Steps.OnePiece.{CanLayOne, LaidOne}
-
--- the part `&part[shared..]` is what the piece adds
-module _ (s es xs : List ℕ) (k room i o : ℕ) (part : List ℕ) (c : CanLayOne s es xs k room)
-    (hi : i ≡ get_or xs (2 * k) 0) (ho : o ≡ get_or xs (2 * k + 1) 0) (hp : part ≡ slip (slips_of s es) i) where
-  pub piece_within : o ≤ length part
-  piece_within = rw (ho, hp, hi) c.fits.within
-
-  piece_added : take (length part - o) (drop o part) ≡ added (slips_of s es) (piece_in xs k)
-  piece_added = rest_is part o ∙ rw (ho, hp, hi)
-
-  pub piece-room : length (take (length part - o) (drop o part)) ≤ room
-  piece-room = rw piece_added c.room-is
-
-  pub piece_laid : (l l' q : List ℕ) (r : ℕ) → q ≡ take (length part - o) (drop o part) → l' ≡ take (length q) q ++ drop (length q) l → r ≡ length q
-      → LaidOne (slips_of s es) (piece_in xs k) l l' r
-  piece_laid l l' q r h e n = record { letters_are = e ∙ rw (take-length, h, piece_added); count_is = n ∙ rw (h, piece_added) }
 
 -- the pieces from k on, one behind the other
 pieces_split : (xs : List ℕ) (k m n : ℕ) → pieces_in xs k (m + n) ≡ pieces_in xs k m ++ pieces_in xs (k + m) n
@@ -54,9 +37,6 @@ module _ (s es xs : List ℕ) where
   pub record Laying (k i : ℕ) (l₀ : List ℕ) (here : ℕ) (l : List ℕ) : Type 0 where
     pub laid : l ≡ over (spelled ss (pieces_in xs k i)) l₀
     pub here_is : length (spelled ss (pieces_in xs k i)) ≡ here
-
-  pub laying_start : (k : ℕ) (l₀ : List ℕ) → Laying k 0 l₀ 0 l₀
-  laying_start k l₀ = record { laid = refl; here_is = refl }
 
   module _ (k n i : ℕ) (l₀ : List ℕ) (a : CanLay s es xs k n (length l₀)) (here : ℕ) (l : List ℕ) (G : Laying k i l₀ here l) (h : i < n) where
     abbrev before : List Piece
@@ -85,9 +65,6 @@ module _ (s es xs : List ℕ) where
 
     size : length l ≡ length l₀
     size = rw G.laid (length_over (spelled ss before) l₀ (omega (arith, room)))
-
-    pub lay_within : here ≤ length l
-    lay_within = omega (arith, size, room, G.here_is)
 
     pub lay_one : CanLayOne s es xs (k + i) (length (take (length l - here) (drop here l)))
     lay_one =
