@@ -20,8 +20,8 @@ use Rattle.greedy.specs.Joins.{Join, rejoin}
 use Rattle.answers.specs.Composing.{join_cells, place_cells, record_cells, join_numbers, flat_joins}
 use Rattle.layout.specs.Layout.{JOINS, PLACES, NAMED, all_joins, RECORDS, all_records}
 use Rattle.layout.specs.Staging.{join_in}
-use Rattle.compose_names.specs.Steps.Naming.{RowPut, SlipsIn, named_in, JoinAsks, NamesAsk, JoinsNamed}
-use Rattle.compose_names.specs.Steps.Naming.{record_in, RecordAsks, RecordsAsk, RecordsMade}
+use Rattle.compose_names.specs.Steps.Naming.{RowPut, named_in, NamesAsk, JoinsNamed}
+use Rattle.compose_names.specs.Steps.Naming.{record_in, RecordsAsk, RecordsMade}
 use Rattle.compose_names.proofs.Rows.{row_append}
 
 pub rows_none : (base : ℕ) (w : List ℕ) → RowPut base 0 [] w w
@@ -68,14 +68,6 @@ module _ (N : List ℕ) (k : ℕ) (w : List ℕ) (h : NamesAsk w N k) (i : ℕ) 
         rows-below (JOINS + (join_cells * i + 2)) f (omega (arith, h.few)),
       )
 
-  pub named_asks : i < k → JoinAsks w' N i
-  named_asks l =
-      record {
-        room = omega (arith, h.room, f.only.same);
-        few = omega (arith, h.few);
-        slips_within = subst (λ (j : Join). SlipsIn N j) (sym (join-same l)) (h.slips_within i l);
-      }
-
   pub named_more : i < k → (w'' : List ℕ) (i' : ℕ) → RowPut NAMED (join_cells * i) (named_in w' N i) w' w'' → i' ≡ i + 1
       → RowPut NAMED 0 (each (named_in w N) (up_from 0 i')) w w''
   named_more l w'' i' r s =
@@ -100,9 +92,6 @@ module _ (N : List ℕ) (b k : ℕ) (w : List ℕ) (h : RecordsAsk w N k) (i : �
         rows-below (PLACES + (place_cells * i + 1)) f (omega (arith, h.few)),
         rows-below (PLACES + (place_cells * i + 2)) f (omega (arith, h.few)),
       )
-
-  pub made_asks : i < k → RecordAsks w' N i
-  made_asks l = record { room = omega (arith, h.room, f.only.same); few = omega (arith, h.few); there = omega (arith, h.there) }
 
   pub made_more : i < k → (w'' : List ℕ) (i' : ℕ) → RowPut RECORDS (record_cells * i) (record_in w' N b i) w' w'' → i' ≡ i + 1
       → RowPut RECORDS 0 (each (record_in w N b) (up_from 0 i')) w w''

@@ -14,9 +14,9 @@ use lib.ListN.{length, length-append}
 use Rattle.words.specs.Lists.{entry}
 use Rattle.tables.specs.Tables.{Got, Put, table}
 use Rattle.tables.proofs.Tables.{put_more, put_only, only_trans, only_wider}
-use Rattle.answers.specs.Composing.{join_cells, place_cells, record_cells}
-use Rattle.layout.specs.Layout.{JOINS, PLACES, NAMED, RECORDS}
-use Rattle.compose_names.specs.Steps.Naming.{RowAsks, RowPut, named_in, RecordAsks, record_in}
+use Rattle.answers.specs.Composing.{place_cells, record_cells}
+use Rattle.layout.specs.Layout.{PLACES, RECORDS}
+use Rattle.compose_names.specs.Steps.Naming.{RowAsks, RowPut, RecordAsks, record_in}
 
 row_one : {base n x : ℕ} {w w' : List ℕ} → base + n < length w → Put w base n x w' → RowPut base n (x ∷ []) w w'
 row_one {base} {n} {x} {w} {w'} h p =
@@ -41,11 +41,6 @@ module _ (base n a b c : ℕ) (w : List ℕ) (h : RowAsks base n (a ∷ (b ∷ (
       let y = row_one (omega (arith, h.room, p.same)) q in
       let z = row_one (omega (arith, h.room, p.same, q.same)) r in
       row_append base n (n + 2) (a ∷ (b ∷ [])) (c ∷ []) w w₂ w₃ (row_append base n (n + 1) (a ∷ []) (b ∷ []) w w₁ w₂ x y refl) z refl
-
-pub join-named : (w N : List ℕ) (i l r o x y : ℕ) (w' : List ℕ) → Got w JOINS (join_cells * i) l → Got w JOINS (join_cells * i + 1) r
-    → Got w JOINS (join_cells * i + 2) o → (x ≡ entry N l) × (x < 65536) → (y ≡ entry N r) × (y < 65536)
-    → RowPut NAMED (join_cells * i) (x ∷ (y ∷ (o ∷ []))) w w' → RowPut NAMED (join_cells * i) (named_in w N i) w w'
-join-named w N i l r o x y w' a b c d e f = rw (d.0, e.0, a.is, b.is, c.is) at f
 
 module _ (w N : List ℕ) (i : ℕ) (h : RecordAsks w N i) where
   pub record_made : (b s p k o : ℕ) (w₁ w₂ w₃ : List ℕ) → Got w PLACES (place_cells * i) p → Got w PLACES (place_cells * i + 1) k

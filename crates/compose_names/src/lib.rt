@@ -41,10 +41,8 @@ pub fn name_joins(work: &mut [u16], slips: &[u16], count: usize)
     requires { N.NamesAsk work.old slips.now count }
     ensures { N.JoinsNamed slips.now count work.old work.new }
 {
-    let mut i: usize = 0;
-    while i < count {
+    for i in 0..count {
         name_join(work, slips, i);
-        i += 1;
     }
 }
 
@@ -71,9 +69,7 @@ pub fn make_records(work: &mut [u16], slips: &[u16], side: u8, count: usize)
     requires { N.RecordsAsk work.old slips.now count }
     ensures { N.RecordsMade slips.now side count work.old work.new }
 {
-    let mut i: usize = 0;
-    while i < count {
+    for i in 0..count {
         make_record(work, slips, side, i);
-        i += 1;
     }
 }

@@ -1,2 +1,3 @@
 -- The records made of the staged numbers.
 pub mod Records
+pub mod Stored

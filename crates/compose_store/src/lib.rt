@@ -46,10 +46,8 @@ pub fn store_joins(work: &[u16], joins: &mut [Join], count: usize)
     requires { (count ≤ length joins.old) × (join_cells * count ≤ length work.now - L.NAMED) }
     ensures { joins.new ≡ over (firsts (M.join_at work.now) count) joins.old }
 {
-    let mut i = 0;
-    while i < count {
-        joins[i] = join_at(work, i);
-        i += 1;
+    for (i, join) in joins[..count].iter_mut().enumerate() {
+        *join = join_at(work, i);
     }
 }
 
@@ -58,9 +56,7 @@ pub fn store_places(work: &[u16], places: &mut [Place], count: usize)
     requires { (count ≤ length places.old) × ((record_cells * count ≤ length work.now - L.RECORDS) × M.SidesFit work.now count) }
     ensures { places.new ≡ over (firsts (M.place_at work.now) count) places.old }
 {
-    let mut i = 0;
-    while i < count {
-        places[i] = place_at(work, i);
-        i += 1;
+    for (i, place) in places[..count].iter_mut().enumerate() {
+        *place = place_at(work, i);
     }
 }

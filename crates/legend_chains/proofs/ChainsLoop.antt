@@ -1,43 +1,19 @@
 -- All chains put one after another.
 use mathlib.Core.Path.{◌≡◌, sym, ◌∙◌, ap}
 use mathlib.Core.List.{List, [], ◌∷◌, ◌++◌, append-nil}
-use Prim.Native.Nat.{ℕ, suc, ◌+◌, ◌-◌, ◌≤◌, ◌<◌}
-use borrow.Author.Tests.{eq-eqb, ne_eqb}
+use Prim.Native.Nat.{ℕ, suc, ◌+◌, ◌≤◌, ◌<◌}
 use native.Mathlib.Numerals.{add-one}
 use native.Mathlib.Omega.{arith}
 use lib.ListN.{length, get_or, take, drop, length-append, take-append-drop}
-use lib.Seq.{take-suc, take-take}
+use lib.Seq.{take-suc, take-take, get_or-take}
+use Rattle.std.proofs.lemmas.List.{length-take}
 use Rattle.words.proofs.Members.{each_append}
 use Rattle.trays.specs.Limits.{max_slips}
 use Rattle.greedy.specs.Legends.{Piece}
 use Rattle.legend_chains.specs.Pieces.{PiecesBehind}
-use Rattle.legend_chains.specs.Chains.{chain_by, chain_of, pieces_by, PiecesAsk}
-use Rattle.legend_chains.specs.Steps.Following.{ChainAsks, AddAsks}
+use Rattle.legend_chains.specs.Chains.{chain_of, pieces_by, PiecesAsk}
+use Rattle.legend_chains.specs.Steps.Following.{AddAsks}
 use Rattle.legend_chains.proofs.Behind.{behind_none, behind_append}
-
--- one slip: its chain, if it begins one
-module _ (left right overs : List ℕ) (n i : ℕ) (xs : List ℕ) (m mark : ℕ) (e : mark ≡ get_or left (i - 1) 0) where
-  pub add_none : (mark ≡ 0 → ⊥) → PiecesBehind (chain_of left right overs n i) m xs xs m
-  add_none z = rw (ne_eqb (get_or left (i - 1) 0) 0 (λ q. z (e ∙ q)), chain_of) (behind_none xs m)
-
-  module _ (z : mark ≡ 0) where
-    chain_is : chain_of left right overs n i ≡ chain_by right overs n i 0
-    chain_is = rw (eq-eqb (get_or left (i - 1) 0) 0 (sym e ∙ z), chain_of)
-
-    pub add_asks : AddAsks left right overs n i xs m → ChainAsks right overs n i 0 xs m
-    add_asks a =
-        record {
-          rights = a.rights;
-          overlaps = a.overlaps;
-          right_small = a.right_small;
-          small = a.small;
-          overlap_small = omega arith;
-          cells = a.cells;
-          room = rw chain_is at a.room;
-        }
-
-    pub add-some : (xs' : List ℕ) (r : ℕ) → PiecesBehind (chain_by right overs n i 0) m xs xs' r → PiecesBehind (chain_of left right overs n i) m xs xs' r
-    add-some xs' r f = rw chain_is f
 
 -- all slips, one after another
 module _ (kept : List ℕ) (n : ℕ) (left right overs : List ℕ) (turns : ℕ) (xs₀ : List ℕ) (a : PiecesAsk kept n left right overs turns xs₀) where
@@ -47,10 +23,17 @@ module _ (kept : List ℕ) (n : ℕ) (left right overs : List ℕ) (turns : ℕ)
   pub pieces_start : PiecesBehind (by (take 0 kept)) 0 xs₀ xs₀ 0
   pieces_start = behind_none xs₀ 0
 
-  module _ (k count slip : ℕ) (xs : List ℕ) (l : k < n) (f : PiecesBehind (by (take k kept)) 0 xs₀ xs count) (e : slip ≡ get_or kept k 0) where
+  module _ (k count slip : ℕ) (xs : List ℕ) (q : k < length (take n kept)) (f : PiecesBehind (by (take k kept)) 0 xs₀ xs count)
+      (d : slip ≡ get_or (take n kept) k 0) where
+    l : k < n
+    l = omega (arith, length-take n kept)
+
+    e : slip ≡ get_or kept k 0
+    e = d ∙ get_or-take n kept k 0 l
+
     more : by (take (suc k) kept) ≡ by (take k kept) ++ chain_of left right overs turns slip
     more =
-        rw (take-suc kept k 0 (omega (arith, a.enough)), ← e)
+        rw (take-suc kept k 0 (omega (arith, a.enough, l)), ← e)
         (each_append (chain_of left right overs turns) (take k kept) (slip ∷ []) ∙ rw append-nil)
 
     -- what is put so far is a first part of the whole

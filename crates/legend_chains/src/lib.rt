@@ -8,7 +8,6 @@ ghost use Rattle.legend_chains.specs.Pieces.{PiecesBehind};
 ghost use Rattle.legend_chains.specs.Chains.{chain_by, chain_of, pieces_by, PiecesAsk};
 ghost use Rattle.legend_chains.specs.Steps.Following.{ChainAsks, AddAsks};
 
-use tables::wide;
 use trays::MAX_SLIPS;
 
 // How many numbers the pieces have, two each, and at most one piece for each slip.
@@ -23,32 +22,31 @@ pub fn put_piece(pieces: &mut [u16], m: usize, slip: usize, shared: usize)
     pieces[2 * m + 1] = shared as u16;
 }
 
-// Writes the chain from `slip` on after the first `m` pieces, at most `turns` slips: by its first slip, which shares `shared` letters with the slip before,
-// then the rest in the same manner with one slip fewer. Answers how many pieces there are then.
-// A chain has at most 200 slips, so at most 201 calls stand open: one for each slip, and one that finds no further slip.
+// Writes the chain from `slip` on after the first `m` pieces, at most `turns` slips: its first slip shares `shared` letters with the slip before, each
+// further one what it shares with its left neighbour. Answers how many pieces there are then.
 fn chain_pieces(
     right: &[u16],
     overs: &[u16],
     turns: usize,
-    slip: usize,
-    shared: usize,
+    mut slip: usize,
+    mut shared: usize,
     pieces: &mut [u16],
-    m: usize,
+    mut m: usize,
 ) -> usize
     requires { ChainAsks right.now overs.now turns slip shared pieces.old m }
     ensures { PiecesBehind (chain_by right.now overs.now turns slip shared) m pieces.old
         pieces.new result }
 {
-    if turns == 0 {
-        return m;
+    for _ in 0..turns {
+        if slip == 0 {
+            break;
+        }
+        put_piece(pieces, m, slip, shared);
+        shared = usize::from(overs[slip - 1]);
+        slip = usize::from(right[slip - 1]);
+        m += 1;
     }
-    if slip == 0 {
-        return m;
-    }
-    put_piece(pieces, m, slip, shared);
-    let next = wide(right[slip - 1]);
-    let common = wide(overs[slip - 1]);
-    chain_pieces(right, overs, turns - 1, next, common, pieces, m + 1)
+    m
 }
 
 // The same if `slip` has no left neighbour; nothing otherwise.
@@ -65,8 +63,7 @@ fn add_chain(
     ensures { PiecesBehind (chain_of left.now right.now overs.now turns slip) m pieces.old
         pieces.new result }
 {
-    let mark = wide(left[slip - 1]);
-    if mark != 0 {
+    if left[slip - 1] != 0 {
         return m;
     }
     chain_pieces(right, overs, turns, slip, 0, pieces, m)
@@ -88,12 +85,9 @@ pub fn all_pieces(
         (pieces_by left.now right.now overs.now turns (take n kept.now)) 0 pieces.old
         pieces.new result }
 {
-    let mut count: usize = 0;
-    let mut k: usize = 0;
-    while k < n {
-        let slip = wide(kept[k]);
-        count = add_chain(left, right, overs, turns, slip, pieces, count);
-        k += 1;
+    let mut count = 0;
+    for slip in &kept[..n] {
+        count = add_chain(left, right, overs, turns, usize::from(*slip), pieces, count);
     }
     count
 }

@@ -61,11 +61,6 @@ module _ (s es w : List ℕ) (k j : ℕ) (a : CountAsks s es w k j) where
         real = λ i h. rw (kept_part_lem, table_at w KEPT max_slips i (omega (arith, a.few_kept))) (a.real i h);
       }
 
-  pub joins_asks : (j ≤ max_slips) × (join_cells * j ≤ length (joins_part w))
-  joins_asks =
-      let l : length (joins_part w) ≡ all_joins = rw joins_part_lem (table-length w JOINS all_joins (omega (arith, a.room))) in
-      (a.few_joins, omega (arith, a.few_joins))
-
   module _ (n m : ℕ) (e : n ≡ total (slips_of s es) (take k (kept_part w))) (f : m ≡ thirds (joins_part w) j) where
     letters_are : n ≡ total (slips_of s es) (kept_in w k)
     letters_are = e ∙ rw first-kept

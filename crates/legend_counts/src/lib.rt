@@ -24,13 +24,9 @@ fn kept_letters(tray: Tray<'_>, kept: &[u16], k: usize) -> usize
     requires { KeptReal tray.letters.now tray.ends.now kept.now k }
     ensures { result ≡ total (slips_of tray.entry.letters.now tray.entry.ends.now) (take k kept.now) }
 {
-    let mut sum: usize = 0;
-    let mut i: usize = 0;
-    while i < k {
-        let slip = tables::wide(kept[i]);
-        let part = slips::slip_part(tray, slip);
-        sum += part.len();
-        i += 1;
+    let mut sum = 0;
+    for slip in &kept[..k] {
+        sum += slips::slip_part(tray, usize::from(*slip)).len();
     }
     sum
 }
@@ -40,11 +36,9 @@ fn saved_letters(joins: &[u16], n: usize) -> usize
     requires { (n ≤ max_slips) × (join_cells * n ≤ length joins.now) }
     ensures { result ≡ thirds joins.now n }
 {
-    let mut sum: usize = 0;
-    let mut i: usize = 0;
-    while i < n {
-        sum += tables::wide(joins[JOIN_CELLS * i + 2]);
-        i += 1;
+    let mut sum = 0;
+    for i in 0..n {
+        sum += usize::from(joins[JOIN_CELLS * i + 2]);
     }
     sum
 }

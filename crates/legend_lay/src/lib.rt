@@ -9,7 +9,6 @@ ghost use Rattle.legend_chains.specs.Pieces.{piece_in, pieces_in};
 ghost use Rattle.legend_lay.specs.Laying.{CanLay};
 ghost use Rattle.legend_lay.specs.Steps.OnePiece.{CanLayOne, LaidOne};
 
-use tables::wide;
 use trays::Tray;
 
 // Lays the `k`-th piece: its slip's letters beyond the overlap. Answers how many letters that are.
@@ -18,21 +17,20 @@ fn lay_piece(tray: Tray<'_>, pieces: &[u16], k: usize, legend: &mut [u8]) -> usi
     ensures { LaidOne (slips_of tray.entry.letters.now tray.entry.ends.now) (piece_in pieces.now k) legend.old
         legend.new result }
 {
-    let slip = wide(pieces[2 * k]);
-    let shared = wide(pieces[2 * k + 1]);
+    let slip = usize::from(pieces[2 * k]);
+    let shared = usize::from(pieces[2 * k + 1]);
     let part = slips::slip_part(tray, slip);
     tables::copy(&part[shared..], legend)
 }
 
-// Lays the `n` pieces from the `k`-th on: by the first slip, then the rest in the same manner with one slip fewer.
+// Lays the `n` pieces from the `k`-th on, one behind the other.
 pub fn lay(tray: Tray<'_>, pieces: &[u16], k: usize, n: usize, legend: &mut [u8])
     requires { CanLay tray.letters.now tray.ends.now pieces.now k n (length legend.old) }
     ensures { legend.new
         ≡ over (spelled (slips_of tray.entry.letters.now tray.entry.ends.now) (pieces_in pieces.now k n)) legend.old }
 {
-    if n == 0 {
-        return;
+    let mut here = 0;
+    for i in 0..n {
+        here += lay_piece(tray, pieces, k + i, &mut legend[here..]);
     }
-    let added = lay_piece(tray, pieces, k, legend);
-    lay(tray, pieces, k + 1, n - 1, &mut legend[added..]);
 }

@@ -1,5 +1,5 @@
 -- One slip more in an order.
---   shared_none, shared_some == what a slip shares with the one before it
+--   shared_some              == what a slip shares with the one before it
 --   slip-added               == its piece is put, and so many letters are added
 --   chain_more               == the chain with it: the chain before, and its piece
 --   Arranging                == the pieces of the first m slips stand there, and their legend has n letters
@@ -20,10 +20,9 @@ use Rattle.trays.proofs.Spans.{accepted_spanned}
 use Rattle.greedy.specs.Legends.{Piece, piece, added, spelled}
 use Rattle.greedy.specs.Orders.{weight, laid_after}
 use Rattle.greedy.proofs.Chains.{last_append}
-use Rattle.greedy.proofs.Letters.{weight_none}
 use Rattle.legend_chains.specs.Pieces.{pieces_in, PiecesBehind}
-use Rattle.slips.specs.Pairs.{TwoSlips, Overlap}
-use Rattle.legend_order.specs.Arranging.{order_pieces, OrderAsks, Arranged}
+use Rattle.slips.specs.Pairs.{Overlap}
+use Rattle.legend_order.specs.Arranging.{order_pieces, OrderAsks}
 use Rattle.legend_order.specs.Steps.OneSlip.{prior_of, piece_of, SlipAsks, Shared, AddAsks, Added}
 
 prior_is : (xs : List ℕ) (m : ℕ) → (m ≡ 0 → ⊥) → prior_of xs m ≡ get_or xs (m - 1) 0
@@ -34,23 +33,7 @@ module _ (least : ℕ) (s es xs : List ℕ) (m : ℕ) (A : SlipAsks s es xs m) w
   abbrev ss : List (List ℕ)
   ss = slips_of s es
 
-  pub shared_none : m ≡ 0 → Shared least s es xs m 0
-  shared_none e =
-      record { is = rw (e, weight_none (counted least) ss (get_or xs 0 0)); within = omega arith; short = omega arith }
-
   module _ (z : m ≡ 0 → ⊥) (l r : ℕ) (el : l ≡ get_or xs (m - 1) 0) (er : r ≡ get_or xs m 0) where
-    pub neighbours_real : TwoSlips s es l r
-    neighbours_real =
-        let left = A.real (m - 1) (omega arith) in
-        let right = A.real m (omega arith) in
-        record {
-          tray = A.tray;
-          left-some = rw el left.0;
-          left-most = rw el left.1;
-          right_some = rw er right.0;
-          right_most = rw er right.1;
-        }
-
     pub shared_some : (n : ℕ) → Overlap least s es l r n → Shared least s es xs m n
     shared_some n O =
         record {
@@ -64,14 +47,8 @@ module _ (least : ℕ) (s es xs : List ℕ) (m : ℕ) (ps : List ℕ) (A : AddAs
   pub slip-some : 1 ≤ i
   slip-some = rw e (A.asks.real m (omega arith)).0
 
-  pub slip-most : i ≤ length es
-  slip-most = rw e (A.asks.real m (omega arith)).1
-
   -- it shares o letters, and x are its own
   module _ (o : ℕ) (x : List ℕ) (S : Shared least s es xs m o) (ex : x ≡ slip (slips_of s es) i) where
-    pub shared_fits : o ≤ length x
-    shared_fits = omega (arith, S.within, ap length ex, ap (λ i. length (slip (slips_of s es) i)) e)
-
     pub slip-added : (ps' : List ℕ) → PiecesBehind (piece i o ∷ []) m ps ps' (m + 1) → Added least s es xs m ps ps' (length x - o)
     slip-added ps' P =
         let ss = slips_of s es in
@@ -104,22 +81,7 @@ module _ (least : ℕ) (s es xs : List ℕ) where
   chain_more m h =
       rw (take-suc xs m 0 h, laid_more (weight (counted least) (slips_of s es)) 0 (take m xs) (get_or xs m 0), last_prior xs m (omega arith))
 
-  pub arranging_none : (k : ℕ) (ps : List ℕ) → Arranging least s es xs k 0 ps ps 0
-  arranging_none k ps = record { upto = omega arith; same = refl; pieces_are = refl; need_is = refl; short = omega arith }
-
   module _ (k : ℕ) (ps₀ : List ℕ) (A : OrderAsks s es xs k ps₀) where
-    pub slip_asks : (m : ℕ) (ps : List ℕ) (n : ℕ) → Arranging least s es xs k m ps₀ ps n → m < k → AddAsks s es xs m ps
-    slip_asks m ps n G h =
-        record {
-          asks = record {
-            tray = A.tray;
-            few = omega (arith, A.few);
-            listed = omega (arith, A.listed);
-            real = λ a q. A.real a (omega arith);
-          };
-          room = omega (arith, A.room, G.same);
-        }
-
     module _ (m : ℕ) (ps : List ℕ) (n : ℕ) (G : Arranging least s es xs k m ps₀ ps n) (h : m < k) (ps' : List ℕ) (r : ℕ)
         (D : Added least s es xs m ps ps' r) where
       pub need_fits : n + r < 2 ^ 64
@@ -138,8 +100,3 @@ module _ (least : ℕ) (s es xs : List ℕ) where
                 (omega (arith, G.need_is, D.letters));
             short = omega (arith, G.short, D.short);
           })
-
-    pub arranging_all : (m : ℕ) (ps : List ℕ) (n : ℕ) → Arranging least s es xs k m ps₀ ps n → k ≤ m → Arranged least s es xs k ps₀ ps n
-    arranging_all m ps n G h =
-        let e : m ≡ k = omega (arith, G.upto) in
-        record { same = G.same; pieces_are = rw e at G.pieces_are; need_is = rw e at G.need_is }

@@ -4,7 +4,6 @@
 ghost use Rattle.legend_order.specs.Arranging.{OrderAsks, Arranged};
 ghost use Rattle.legend_order.specs.Steps.OneSlip.{SlipAsks, Shared, AddAsks, Added};
 
-use tables::wide;
 use trays::Tray;
 
 // How many letters the `m`-th slip shares with the one before it; the first shares none.
@@ -15,8 +14,8 @@ fn shared_before(tray: Tray<'_>, order: &[u16], m: usize, least: usize) -> usize
     if m == 0 {
         return 0;
     }
-    let left = wide(order[m - 1]);
-    let right = wide(order[m]);
+    let left = usize::from(order[m - 1]);
+    let right = usize::from(order[m]);
     slips::slip_overlap(tray, left, right, least)
 }
 
@@ -25,7 +24,7 @@ fn add_slip(tray: Tray<'_>, order: &[u16], m: usize, least: usize, pieces: &mut 
     requires { AddAsks tray.letters.now tray.ends.now order.now m pieces.old }
     ensures { Added least tray.entry.letters.now tray.entry.ends.now order.now m pieces.old pieces.new result }
 {
-    let slip = wide(order[m]);
+    let slip = usize::from(order[m]);
     let shared = shared_before(tray, order, m, least);
     legend_chains::put_piece(pieces, m, slip, shared);
     let part = slips::slip_part(tray, slip);
@@ -44,11 +43,8 @@ pub fn order_pieces(
     ensures { Arranged least tray.entry.letters.now tray.entry.ends.now order.now k pieces.old pieces.new result }
 {
     let mut need: usize = 0;
-    let mut m: usize = 0;
-    while m < k {
-        let added = add_slip(tray, order, m, least, pieces);
-        need += added;
-        m += 1;
+    for m in 0..k {
+        need += add_slip(tray, order, m, least, pieces);
     }
     need
 }

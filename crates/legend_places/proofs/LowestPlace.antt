@@ -31,11 +31,6 @@ pub record Agrees (x t : List ℕ) (e c k : ℕ) : Type 0 where
   pub behind : begins (drop (length x - k) x) (drop (e - k) t) ≡ true
 
 module _ (x t : List ℕ) where
-  pub trial_start : Came x t (length x) 0
-  trial_start =
-      let z : length x - length x ≡ 0 = omega arith in
-      record { start = omega arith; within = omega arith; place_is = rw z; count_is = rw z (omega arith); few = omega arith }
-
   module _ (e c : ℕ) (a : Came x t e c) where
     abbrev rest : List ℕ
     rest = drop (e - length x) t
@@ -119,9 +114,6 @@ module _ (x t : List ℕ) where
 
   -- the same of the last letter, which is compared first
   module _ (e c : ℕ) (some : 1 ≤ length x) (a : Came x t e c) (h : e ≤ length t) where
-    pub trial_last : get_or t (e - 1) 0 ≡ get_or x (length x - 1) 0 → Agrees x t e c 1
-    trial_last q = trial_agrees e c 0 (trial_place e c a h) some q
-
     pub trial_other : length x ≤ max_slip → (get_or t (e - 1) 0 ≡ get_or x (length x - 1) 0 → ⊥) → Came x t (e + 1) c
     trial_other m d = rw (add-zero c) at (trial_differs e c 0 (trial_place e c a h) some m d)
 

@@ -10,7 +10,6 @@ ghost use Rattle.legend_places.specs.Places.{placed_by, aside_at, aside_by, Plac
 ghost use Rattle.legend_places.specs.Steps.OnePlace.{PutPlaceAsks, PlacedOne, AsidePlaceAsks};
 
 use answers::PLACE_CELLS;
-use tables::wide;
 use trays::Tray;
 
 // A place in a text, and the letters compared to find it.
@@ -30,6 +29,7 @@ fn lowest_place(x: &[u8], t: &[u8]) -> Trial
     let mut end = n;
     let mut agreed: usize = 0;
     let last = x[n - 1];
+    // kept: the clause on `compared` counts each letter looked at (`tried`), and that the last one is looked at by itself is a measured choice.
     let place = 'places: loop {
         if t.len() < end {
             break 'places t.len() + 1;
@@ -38,14 +38,12 @@ fn lowest_place(x: &[u8], t: &[u8]) -> Trial
             end += 1;
             continue 'places;
         }
-        let mut k: usize = 1;
-        while k < n {
+        for k in 1..n {
             if t[end - (k + 1)] != x[n - (k + 1)] {
                 agreed += k;
                 end += 1;
                 continue 'places;
             }
-            k += 1;
         }
         agreed += n;
         break 'places end - n + 1;
@@ -71,8 +69,8 @@ fn put_place(tray: Tray<'_>, pieces: &[u16], q: usize, here: usize, places: &mut
     ensures { PlacedOne (slips_of tray.entry.letters.now tray.entry.ends.now) (piece_in pieces.now q) here places.old
         places.new result }
 {
-    let slip = wide(pieces[2 * q]);
-    let shared = wide(pieces[2 * q + 1]);
+    let slip = usize::from(pieces[2 * q]);
+    let shared = usize::from(pieces[2 * q + 1]);
     let part = slips::slip_part(tray, slip);
     put_three(places, PLACE_CELLS * (slip - 1), here - shared, 1, 0);
     here + (part.len() - shared)
@@ -85,10 +83,8 @@ pub fn kept_places(tray: Tray<'_>, pieces: &[u16], n: usize, places: &mut [u16])
         ≡ placed_by (slips_of tray.entry.letters.now tray.entry.ends.now) places.old 1 (pieces_in pieces.now 0 n) }
 {
     let mut here: usize = 1;
-    let mut q: usize = 0;
-    while q < n {
+    for q in 0..n {
         here = put_place(tray, pieces, q, here, places);
-        q += 1;
     }
 }
 
@@ -98,8 +94,7 @@ fn aside_place(tray: Tray<'_>, legend: &[u8], i: usize, places: &mut [u16])
     ensures { places.new
         ≡ aside_at (slips_of tray.entry.letters.now tray.entry.ends.now) legend.now places.old i }
 {
-    let mark = wide(places[PLACE_CELLS * i + 1]);
-    if mark != 0 {
+    if places[PLACE_CELLS * i + 1] != 0 {
         return;
     }
     let part = slips::slip_part(tray, i + 1);
@@ -113,9 +108,7 @@ pub fn aside_places(tray: Tray<'_>, legend: &[u8], places: &mut [u16])
     ensures { places.new
         ≡ aside_by (slips_of tray.entry.letters.now tray.entry.ends.now) legend.now places.old (length tray.entry.ends.now) }
 {
-    let mut i: usize = 0;
-    while i < tray.ends.len() {
+    for i in 0..tray.ends.len() {
         aside_place(tray, legend, i, places);
-        i += 1;
     }
 }

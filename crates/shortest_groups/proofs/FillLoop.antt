@@ -71,29 +71,22 @@ filling_then : {w v v' : List ℕ} {k n g m h : ℕ} → Filling w k n g v → F
 filling_then f s = record { size = s.size ∙ f.size; pairs = s.pairs ∙ f.pairs; begun = s.begun }
 
 pub count_more :
-    {w v : List ℕ} {k n g : ℕ} (v' : List ℕ) (m : ℕ) → Filling w k n g v → Filling v k n (suc g) v' → m ≡ g + 1 → Filling w k n m v'
-count_more {g = g} v' m f s e = rw (e, add-one g) (filling_then f s)
+    {w v : List ℕ} {k n g : ℕ} (v' : List ℕ) → Filling w k n g v → Filling v k n (suc g) v' → Filling w k n (g + 1) v'
+count_more {g = g} v' f s = rw (add-one g) (filling_then f s)
 
 pub count_all : {w v : List ℕ} {k n g : ℕ} (all : ℕ) → all ≡ 2 ^ k → g ≤ all → all ≤ g → Filling w k n g v → Filling w k n (2 ^ k) v
 count_all {k = k} {g = g} all e l m f = let q : g ≡ 2 ^ k = omega arith in rw (← q) f
 
 -- all groups
-pub groups_start : (w : List ℕ) (k : ℕ) → Paired w k → Filling w k (k - 0) 0 w
-groups_start w k p =
-    let z : k - 0 ≡ k = omega arith in
-    rw z (count_start w k k (record { paired = p; worked = worked_start (pairs_of w) k (cell_of w) }))
+pub groups_start : (w : List ℕ) (k : ℕ) → Paired w k → Filling w k k 0 w
+groups_start w k p = count_start w k k (record { paired = p; worked = worked_start (pairs_of w) k (cell_of w) })
 
-pub groups_more :
-    {w v : List ℕ} {k left : ℕ} (v' : List ℕ) (next : ℕ) → left < k → Filling w k (k - left) 0 v → Filling v k (k - left) (2 ^ k) v'
-    → next ≡ left + 1 → Filling w k (k - next) 0 v'
-groups_more {k = k} {left = left} v' next l f s e =
+pub groups_more : {w v : List ℕ} {k n : ℕ} (v' : List ℕ) → 1 ≤ n → Filling w k n 0 v → Filling v k n (2 ^ k) v' → Filling w k (n - 1) 0 v'
+groups_more {k = k} {n = n} v' l f s =
     let b = s.begun in
-    let one : k - left ≡ suc (k - next) = omega arith in
+    let one : n ≡ suc (n - 1) = omega arith in
     record {
       size = s.size ∙ f.size;
       pairs = s.pairs ∙ f.pairs;
-      begun = record { paired = b.paired; worked = worked_count (pairs_of v') k (cell_of v') (k - next) (k - left) one b.worked };
+      begun = record { paired = b.paired; worked = worked_count (pairs_of v') k (cell_of v') (n - 1) n one b.worked };
     }
-
-pub groups_all : {w v : List ℕ} {k left : ℕ} → left ≤ k → k ≤ left → Filling w k (k - left) 0 v → Filling w k 0 0 v
-groups_all {k = k} {left = left} l m f = let z : k - left ≡ 0 = omega arith in rw z at f

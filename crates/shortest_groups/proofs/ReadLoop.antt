@@ -14,6 +14,7 @@ use native.Mathlib.Omega.{arith}
 use lib.ListN.{length, get_or, take, drop, set, replicate}
 use lib.Pow.{pow_pos, pow_mono}
 use lib.Seq.{take-suc, drop-cons, take_all, length-take-le}
+use Rattle.std.specs.Prelude.{Option, Some}
 use Rattle.words.specs.Lists.{up_from, over, head_or, tail_of}
 use Rattle.words.proofs.Buffers.{over-set}
 use Rattle.words.proofs.Members.{In}
@@ -23,9 +24,10 @@ use Rattle.shortest.specs.Orders.{without}
 use Rattle.shortest.specs.Steps.Choosing.{choose}
 use Rattle.shortest.proofs.Without.{without-length}
 use Rattle.shortest.proofs.Places.{choose-length}
+use Rattle.shortest_groups.specs.declared.Choice.{Choice}
 use Rattle.shortest_groups.specs.Groups.{pairs_of, Ordered}
 use Rattle.shortest_groups.specs.Steps.Marks.{bit, rest_of}
-use Rattle.shortest_groups.specs.Steps.NextPlace.{cell_of, Seeking, BestAsks}
+use Rattle.shortest_groups.specs.Steps.NextPlace.{cell_of, value_of, place_of, Seeking, BestAsks}
 use Rattle.shortest_groups.specs.Steps.Working.{Begun, Filling, Reading}
 use Rattle.shortest_groups.proofs.BestPlace.{choose-step}
 use Rattle.shortest_groups.proofs.GroupMarks.{in_rest, rest_none, mark_rest, mark-below}
@@ -63,7 +65,10 @@ module _ {w r : List ℕ} {k i g a : ℕ} (B : Begun w k 0 0) (R : Reading w k i
       take_all i (chosen w k) (omega (arith, choose-length (pairs_of w) k max_shortest (up_from 0 k))) in
       R.order_is ∙ ap padded all
 
-  module _ (value which : ℕ) (l : i < k) (s : Seeking w g a k value which) where
+  module _ (found : Option Choice) (c : Choice) (l : i < k) (s : Seeking w g a k (value_of found) (place_of found)) (o : found ≡ Some c) where
+    abbrev which : ℕ
+    which = c.place
+
     -- the order goes on with the place that is found
     next :
         (choose (pairs_of w) (length (rest_of g k)) a (rest_of g k)
@@ -71,7 +76,7 @@ module _ {w r : List ℕ} {k i g a : ℕ} (B : Begun w k 0 0) (R : Reading w k i
         × In which (rest_of g k)
     next =
         choose-step (pairs_of w) a (λ j. cell_of w (g + 2 ^ j) j) (rest_of g k) which (omega (arith, R.left))
-        (worked_right (pairs_of w) k (cell_of w) 0 0 g B.worked R.group (omega arith)) s.which_is
+        (worked_right (pairs_of w) k (cell_of w) 0 0 g B.worked R.group (omega arith)) (sym (ap place_of o) ∙ s.which_is)
 
     next_below : which < k
     next_below = (in_rest g k next.1).0
@@ -82,11 +87,11 @@ module _ {w r : List ℕ} {k i g a : ℕ} (B : Begun w k 0 0) (R : Reading w k i
     pub next_free : bit g which ≡ 0
     next_free = (in_rest g k next.1).1
 
-    pub read_more : (h x n : ℕ) → h ≡ g + 2 ^ which → x ≡ which → n ≡ i + 1 → Reading w k n h which (set r i x)
-    read_more h x n f q e =
+    pub read_more : (h : ℕ) → h ≡ g + 2 ^ which → Reading w k (i + 1) h which (set r i which)
+    read_more h f =
         let C = chosen w k in
         let size : length C ≡ k = choose-length (pairs_of w) k max_shortest (up_from 0 k) in
-        let m : n ≡ suc i = e ∙ add-one i in
+        let m : i + 1 ≡ suc i = add-one i in
         let rest : rest_of h k ≡ without which (rest_of g k) = rw f (mark_rest g which k next_free) in
         let cut : get_or C i 0 ∷ drop (suc i) C ≡ which ∷ choose (pairs_of w) (length (rest_of h k)) which (rest_of h k) =
         sym (drop-cons C i 0 (omega arith)) ∙ R.behind ∙ next.0 ∙ rw rest in
@@ -98,7 +103,7 @@ module _ {w r : List ℕ} {k i g a : ℕ} (B : Begun w k 0 0) (R : Reading w k i
           left = omega (arith, R.left, ap length rest, without-length which (rest_of g k) next.1);
           behind = rw m (ap tail_of cut);
           order_is =
-              rw (R.order_is, q, m)
+              rw (R.order_is, m)
               (over-set 0 (take i C) (replicate max_shortest 0) i which (length-take-le i C (omega arith)) (omega (arith, B.paired.few))
               ∙ ap padded longer);
         }

@@ -3,24 +3,37 @@
 --   store_skip, store-put               == not in the group; put
 --   storing_start, storing_more, storing_all == the cells of the first a places
 use mathlib.Core.Path.{◌≡◌, sym, ap, ◌∙◌}
+use mathlib.Core.Bool.{Bool, false, not}
 use mathlib.Core.List.{List}
 use Prim.Native.Nat.{ℕ, ◌+◌, ◌-◌, ◌*◌, ◌^◌, ◌≤◌, ◌<◌}
 use native.Mathlib.Decide.{ℕ_discrete}
 use native.Mathlib.Omega.{arith}
 use lib.ListN.{length}
 use lib.Pow.{pow_mono, pow_pos}
+use Rattle.std.specs.Prelude.{Option, None, Some, eqb}
 use Rattle.trays.specs.Limits.{max_slip, max_shortest}
 use Rattle.tables.specs.Tables.{Room, Put, Cells, Only}
 use Rattle.tables.proofs.Tables.{only-refl, only_trans, only_wider, put_only, put-here}
 use Rattle.shortest.specs.Orders.{without}
 use Rattle.shortest.specs.Steps.Choosing.{most}
+use Rattle.shortest_groups.specs.declared.Choice.{Choice}
 use Rattle.shortest_groups.specs.Groups.{pair_cells, pairs_of}
 use Rattle.shortest_groups.specs.Steps.Marks.{bit, rest_of}
-use Rattle.shortest_groups.specs.Steps.NextPlace.{cell_of, Seeking, BestAsks}
+use Rattle.shortest_groups.specs.Steps.NextPlace.{cell_of, value_of, place_of, Seeking, BestAsks}
 use Rattle.shortest_groups.specs.Steps.Working.{Ready, Stored, Storing}
 use Rattle.shortest_groups.proofs.BestPlace.{most_step, most-bound}
 use Rattle.shortest_groups.proofs.GroupMarks.{rest_few}
+use Rattle.shortest_groups.proofs.SeekLoop.{free}
 use Rattle.shortest_groups.proofs.Pairs.{pairs_kept, pairs_same, pairs_bound, paired_kept}
+
+-- what is saved by a choice, 0 where there is none
+abbrev pub Saves : Option Choice → ℕ → Type 0
+Saves None saved = saved ≡ 0
+Saves (Some c) saved = saved ≡ c.saved
+
+saves : (found : Option Choice) (saved : ℕ) → Saves found saved → saved ≡ value_of found - 1
+saves None saved e = let h : saved ≡ 0 = e in omega (arith, h)
+saves (Some c) saved e = let h : saved ≡ c.saved = e in omega (arith, h)
 
 -- one cell
 module _ {w : List ℕ} {k g a : ℕ} (R : Ready w k g × (a < k)) where
@@ -32,8 +45,8 @@ module _ {w : List ℕ} {k g a : ℕ} (R : Ready w k g × (a < k)) where
       let m : 2 ^ k ≤ 2 ^ max_shortest = pow_mono ready.paired.few in
       omega (arith, ready.below, ready.paired.few, R.1)
 
-  pub store_skip : (m : ℕ) → m ≡ bit g a → m ≡ 0 → Stored w k g a w
-  store_skip m e z = record { only = only-refl; here = λ o. absurd (omega arith) }
+  pub store_skip : (b : Bool) → b ≡ not (eqb (bit g a) 0) → b ≡ false → Stored w k g a w
+  store_skip b e z = record { only = only-refl; here = λ o. absurd (omega (arith, free b (bit g a) e z)) }
 
   pub store_asks : BestAsks w k g a
   store_asks =
@@ -44,10 +57,10 @@ module _ {w : List ℕ} {k g a : ℕ} (R : Ready w k g × (a < k)) where
         row = omega (arith, ready.paired.few, R.1);
       }
 
-  module _ (value which saved : ℕ) (s : Seeking w g a k value which) (e : saved ≡ value - 1) where
+  module _ (found : Option Choice) (saved : ℕ) (s : Seeking w g a k (value_of found) (place_of found)) (e : Saves found saved) where
     saved-is : saved ≡ most (pairs_of w) (length (rest_of g k)) a (rest_of g k)
     saved-is =
-        e ∙ ap (λ n. n - 1) s.value_is
+        saves found saved e ∙ ap (λ n. n - 1) s.value_is
         ∙ sym (most_step (pairs_of w) a (λ j. cell_of w (g + 2 ^ j) j) (rest_of g k) ready.behind)
 
     pub store-room : Room w pair_cells (max_shortest * g + a) saved
@@ -76,8 +89,8 @@ pub storing_start : (w : List ℕ) (k g : ℕ) → Ready w k g → Storing w k g
 storing_start w k g r = record { only = only-refl; ready = r; done = λ b l. absurd (omega arith) }
 
 module _ {w v : List ℕ} {k g a : ℕ} (S : Storing w k g a v) where
-  pub storing_more : (v' : List ℕ) (n : ℕ) → a < k → Stored v k g a v' → n ≡ a + 1 → Storing w k g n v'
-  storing_more v' n l s e =
+  pub storing_more : (v' : List ℕ) → a < k → Stored v k g a v' → Storing w k g (a + 1) v'
+  storing_more v' l s =
       let few : a < max_shortest = omega (arith, S.ready.paired.few) in
       let f : Only (Cells (pair_cells + max_shortest * g) max_shortest) v v' = only_wider s.only (λ p q. omega arith) in
       let saved : ℕ → (ℕ → ℕ → ℕ) → ℕ = λ b u. most u (length (rest_of g k)) b (rest_of g k) in

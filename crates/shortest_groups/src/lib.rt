@@ -2,17 +2,17 @@
 // bit of `1 << a` is set. For each group and each place of it, laid last, the table says the most that can be saved by laying the others after it.
 #![tactic(auto)]
 
-ghost use Rattle.std.specs.Prelude.{◌≡◌, suc, ◌+◌, ◌-◌, ◌^◌, ◌≤◌, ◌<◌, replicate};
+ghost use Rattle.std.specs.Prelude.{◌≡◌, suc, ◌+◌, ◌^◌, ◌≤◌, ◌<◌, eqb, not, replicate};
 ghost use Rattle.std.specs.Int.Count.{ones};
 ghost use Rattle.words.specs.Lists.{up_from, over};
 ghost use Rattle.trays.specs.Limits.{max_shortest};
 ghost use Rattle.shortest.specs.Steps.Choosing.{choose};
 ghost use Rattle.shortest_groups.specs.Groups.{pairs_of, Paired, Ordered};
 ghost use Rattle.shortest_groups.specs.Steps.Marks.{bit};
-ghost use Rattle.shortest_groups.specs.Steps.NextPlace.{Seeking, StepAsks, BestAsks};
+ghost use Rattle.shortest_groups.specs.Steps.NextPlace.{value_of, place_of, Seeking, StepAsks, BestAsks};
 ghost use Rattle.shortest_groups.specs.Steps.Working.{Begun, Filling, Ready, Stored, Storing};
 
-use tables::{at, narrow, put};
+use tables::{at, put};
 use trays::MAX_SHORTEST;
 
 // How many places there are at most, and how many cells a row of either table has.
@@ -33,12 +33,12 @@ const GROUPS: usize = PAIRS + PAIR_CELLS;
 // How many cells it has: with ten places there are 1,024 groups.
 pub const GROUP_CELLS: usize = PLACES * 1024;
 
-// 1 if place `a` is in the group `g`, and 0 otherwise.
-fn mark(g: usize, a: usize) -> usize
+// Whether place `a` is in the group `g`.
+fn holds(g: usize, a: usize) -> bool
     requires { a < max_shortest }
-    ensures { result ≡ bit g a }
+    ensures { result ≡ not (eqb (bit g a) 0) }
 {
-    (g >> a) & 1
+    (g >> a) & 1 != 0
 }
 
 // The group of place `a` alone. The groups of the first `a` places are the numbers below it.
@@ -62,54 +62,42 @@ fn marks(g: usize) -> usize
     requires { g < 2 ^ max_shortest }
     ensures { result ≡ ones g }
 {
-    u32::count_ones(g as u32) as usize
+    g.count_ones() as usize
 }
 
-// One less than `x`, and 0 if `x` is 0.
-fn one_less(x: usize) -> usize
-    ensures { result ≡ x - 1 }
-{
-    if x == 0 {
-        return 0;
-    }
-    x - 1
-}
-
-// The best place found so far, and one more than it saves: 0 while there is none, so that a place that saves nothing is taken too.
+// A place laid next, and the most that is saved from it on.
 #[derive(Clone, Copy)]
-struct Chosen {
-    value: usize,
-    which: usize,
+struct Choice {
+    place: usize,
+    saved: usize,
 }
 
 // Tries place `j` next, after `a`. It is taken if it is not in the group and saves more than the places before it: of several the lowest stays.
-fn step(table: &[u16], g: usize, a: usize, j: usize, found: Chosen) -> Chosen
-    requires { StepAsks table.now g a j found.value found.which }
-    ensures { Seeking table.now g a (suc j) result.value result.which }
+fn step(table: &[u16], g: usize, a: usize, j: usize, found: Option<Choice>) -> Option<Choice>
+    requires { StepAsks table.now g a j (value_of found) (place_of found) }
+    ensures { Seeking table.now g a (suc j) (value_of result) (place_of result) }
 {
-    if mark(g, j) != 0 {
+    if holds(g, j) {
         return found;
     }
     let group = marked(g, j);
     let here = at(table, PAIRS, PLACES * a + j);
     let behind = at(table, GROUPS, PLACES * group + j);
-    let value = here + behind + 1;
-    if found.value < value {
-        return Chosen { value, which: j };
+    let saved = here + behind;
+    match found {
+        Some(choice) if saved <= choice.saved => found,
+        _ => Some(Choice { place: j, saved }),
     }
-    found
 }
 
-// The place that is best laid next, where those of the group `g` are laid and `a` was the last of them.
-fn best(table: &[u16], k: usize, g: usize, a: usize) -> Chosen
+// The place that is best laid next, where those of the group `g` are laid and `a` was the last of them; none where all are laid.
+fn best(table: &[u16], k: usize, g: usize, a: usize) -> Option<Choice>
     requires { BestAsks table.now k g a }
-    ensures { Seeking table.now g a k result.value result.which }
+    ensures { Seeking table.now g a k (value_of result) (place_of result) }
 {
-    let mut found = Chosen { value: 0, which: 0 };
-    let mut j: usize = 0;
-    while j < k {
+    let mut found = None;
+    for j in 0..k {
         found = step(table, g, a, j, found);
-        j += 1;
     }
     found
 }
@@ -119,11 +107,13 @@ fn store(table: &mut [u16], k: usize, g: usize, a: usize)
     requires { Ready table.old k g × (a < k) }
     ensures { Stored table.old k g a table.new }
 {
-    if mark(g, a) == 0 {
+    if !holds(g, a) {
         return;
     }
-    let found = best(table, k, g, a);
-    let saved = one_less(found.value);
+    let saved = match best(table, k, g, a) {
+        Some(choice) => choice.saved,
+        None => 0,
+    };
     put(table, GROUPS, PLACES * g + a, saved);
 }
 
@@ -132,10 +122,8 @@ fn fill_group(table: &mut [u16], k: usize, g: usize)
     requires { Ready table.old k g }
     ensures { Storing table.old k g k table.new }
 {
-    let mut a: usize = 0;
-    while a < k {
+    for a in 0..k {
         store(table, k, g, a);
-        a += 1;
     }
 }
 
@@ -144,10 +132,9 @@ fn try_group(table: &mut [u16], k: usize, n: usize, g: usize)
     requires { Begun table.old k n g × (g < 2 ^ k) }
     ensures { Filling table.old k n (suc g) table.new }
 {
-    if marks(g) != n {
-        return;
+    if marks(g) == n {
+        fill_group(table, k, g);
     }
-    fill_group(table, k, g);
 }
 
 // Fills the rows of all groups of `n` places.
@@ -155,11 +142,8 @@ fn fill_count(table: &mut [u16], k: usize, n: usize)
     requires { Begun table.old k n 0 }
     ensures { Filling table.old k n (2 ^ k) table.new }
 {
-    let all = alone(k);
-    let mut g: usize = 0;
-    while g < all {
+    for g in 0..alone(k) {
         try_group(table, k, n, g);
-        g += 1;
     }
 }
 
@@ -168,10 +152,8 @@ fn fill_groups(table: &mut [u16], k: usize)
     requires { Paired table.old k }
     ensures { Filling table.old k 0 0 table.new }
 {
-    let mut left: usize = 0;
-    while left < k {
-        fill_count(table, k, k - left);
-        left += 1;
+    for n in (1..=k).rev() {
+        fill_count(table, k, n);
     }
 }
 
@@ -183,13 +165,10 @@ fn read_order(table: &[u16], k: usize) -> [u16; MAX_SHORTEST]
     let mut order = [0u16; MAX_SHORTEST];
     let mut g: usize = 0;
     let mut a: usize = START;
-    let mut i: usize = 0;
-    while i < k {
-        let found = best(table, k, g, a);
-        a = found.which;
-        order[i] = narrow(a);
+    for i in 0..k {
+        a = best(table, k, g, a).unwrap().place;
+        order[i] = a as u16;
         g = marked(g, a);
-        i += 1;
     }
     order
 }

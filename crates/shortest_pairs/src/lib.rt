@@ -6,7 +6,6 @@ ghost use Rattle.shortest_pairs.specs.Pairs.{PairsAsk, PairsAre};
 ghost use Rattle.shortest_pairs.specs.Steps.Pairing.{RowAsks, PairedTo};
 
 use shortest_groups::PAIR_CELLS;
-use tables::wide;
 use trays::{MAX_SHORTEST, Tray};
 
 // Fills the row of place `a`.
@@ -15,13 +14,11 @@ fn fill_row(tray: Tray<'_>, kept: &[u16], k: usize, a: usize, least: usize, tabl
     ensures { PairedTo least tray.entry.letters.now tray.entry.ends.now kept.now k (a + 1) 0 table.old
         table.new }
 {
-    let left = wide(kept[a]);
-    let mut b: usize = 0;
-    while b < k {
-        let right = wide(kept[b]);
+    let left = usize::from(kept[a]);
+    for (b, slip) in kept[..k].iter().enumerate() {
+        let right = usize::from(*slip);
         let shared = slips::slip_overlap(tray, left, right, least);
         tables::put(table, 0, MAX_SHORTEST * a + b, shared);
-        b += 1;
     }
 }
 
@@ -31,9 +28,7 @@ pub fn fill_pairs(tray: Tray<'_>, kept: &[u16], k: usize, least: usize, table: &
     ensures { PairsAre least tray.entry.letters.now tray.entry.ends.now kept.now k table.old table.new }
 {
     tables::clear(table, 0, PAIR_CELLS);
-    let mut a: usize = 0;
-    while a < k {
+    for a in 0..k {
         fill_row(tray, kept, k, a, least, table);
-        a += 1;
     }
 }

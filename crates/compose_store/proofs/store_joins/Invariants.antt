@@ -1,13 +1,9 @@
 -- Invariant: the first i staged joins stand at the start of the list, and the rest of it is as it was.
 use mathlib.Core.Path.{◌≡◌}
-use Prim.Native.Nat.{◌-◌, ◌≤◌}
 use Rattle.words.specs.Lists.{over}
 use Rattle.store_loops.specs.Firsts.{firsts}
 use Rattle.compose_store.specs.Steps.Made.{join_at}
 use Rattle.compose_store.proofs.store_joins.Given as goal
 
 abbrev pub invariant-loop-i : goal.invariant-loop-i
-invariant-loop-i l = (l.i ≤ l.count) × (l.joins ≡ over (firsts (join_at l.work) l.i) l.initial.joins)
-
-abbrev pub decreases-loop-i : goal.decreases-loop-i
-decreases-loop-i l = l.count - l.i
+invariant-loop-i l = l.join-items ≡ over (firsts (join_at l.work) l.i) l.initial.join-items

@@ -1,6 +1,5 @@
 -- Invariant: of the first i slips each that is not marked as kept has its place in the legend; the places of the others are as they were.
 use mathlib.Core.Path.{◌≡◌}
-use Prim.Native.Nat.{◌-◌, ◌≤◌}
 use lib.ListN.{length}
 use Rattle.trays.specs.Slips.{slips_of}
 use Rattle.legend_places.specs.Places.{aside_by}
@@ -8,7 +7,4 @@ use Rattle.legend_places.proofs.aside_places.Given as goal
 
 abbrev pub invariant-loop-i : goal.invariant-loop-i
 invariant-loop-i l =
-    (l.i ≤ length l.tray.ends.now) × (l.places ≡ aside_by (slips_of l.tray.letters.now l.tray.ends.now) l.legend l.initial.places l.i) × (length l.places ≡ length l.initial.places)
-
-abbrev pub decreases-loop-i : goal.decreases-loop-i
-decreases-loop-i l = length l.tray.ends.now - l.i
+    (l.places ≡ aside_by (slips_of l.tray.letters.now l.tray.ends.now) l.legend l.initial.places l.i) × (length l.places ≡ length l.initial.places)

@@ -1,11 +1,7 @@
 -- Invariant: the places of the first q pieces' slips are written and `here` is where the next letters go: the pieces from q on, placed from `here`,
 -- complete the places.
-use Prim.Native.Nat.{◌-◌}
 use Rattle.legend_places.proofs.PlacesLoop.{Placing}
 use Rattle.legend_places.proofs.kept_places.Given as goal
 
 abbrev pub invariant-loop-q : goal.invariant-loop-q
 invariant-loop-q l = Placing l.tray.letters.now l.tray.ends.now l.pieces l.n l.initial.places l.q l.here l.places
-
-abbrev pub decreases-loop-q : goal.decreases-loop-q
-decreases-loop-q l = l.n - l.q

@@ -8,9 +8,6 @@ use Rattle.legend_places.proofs.lowest_place.Given as goal
 abbrev pub invariant-loop-k : goal.invariant-loop-k
 invariant-loop-k l = Agrees l.x l.t l.end l.agreed l.k × (l.end ≡ l.initial.end)
 
-abbrev pub decreases-loop-k : goal.decreases-loop-k
-decreases-loop-k l = l.n - l.k
-
 abbrev pub invariant-places : goal.invariant-places
 invariant-places l = Came l.x l.t l.end l.agreed
 

@@ -1,11 +1,15 @@
-use Rattle.shortest_groups.proofs.SeekLoop.{seek_marked, seek_taken, seek_left}
+use Rattle.std.proofs.Common.{rules}
+use Rattle.shortest_groups.proofs.SeekLoop.{seek_marked, seek_first, seek_taken, seek_left}
 use Rattle.shortest_groups.proofs.step.Goals as goal
 
-pub returns-then-mark-ne0 : goal.returns-then-mark-ne0
-returns-then-mark-ne0 c = search seek_marked
+pub returns-then-holds : goal.returns-then-holds
+returns-then-holds c = search seek_marked
 
-pub returns-then-found-value : goal.returns-then-found-value
-returns-then-found-value c = search seek_taken
+pub returns-in-Some : goal.returns-in-Some
+returns-in-Some c = search (rules, seek_left)
 
-pub returns : goal.returns
-returns c = search seek_left
+pub returns-in_default : goal.returns-in_default
+returns-in_default c = search (rules, seek_taken)
+
+pub returns-in_default-2 : goal.returns-in_default-2
+returns-in_default-2 c = search (rules, seek_first)
