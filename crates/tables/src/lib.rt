@@ -6,34 +6,6 @@ ghost use Rattle.words.specs.Lists.{over};
 ghost use Rattle.tables.specs.Copying.{CanCopy};
 ghost use Rattle.tables.specs.Tables.{Got, Put, Room, Filled, table};
 
-// A cell of 16 bits as a number.
-pub fn wide(x: u16) -> usize
-    ensures { (result ≡ x) × (result < 65536) }
-{
-    usize::from(x)
-}
-
-// A cell as a number of 32 bits.
-pub fn number(x: u16) -> u32
-    ensures { result ≡ x }
-{
-    u32::from(x)
-}
-
-// A number of 32 bits as a count.
-pub fn whole(x: u32) -> usize
-    ensures { result ≡ x }
-{
-    x as usize
-}
-
-pub fn narrow(x: usize) -> u16
-    requires { x < 65536 }
-    ensures { result ≡ x }
-{
-    x as u16
-}
-
 // What stands in cell `i` of the table at `base`.
 pub fn at(work: &[u16], base: usize, i: usize) -> usize
     requires { base + i < length work.now }
