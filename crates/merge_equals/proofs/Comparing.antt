@@ -50,8 +50,8 @@ module _ (s es cs : List ℕ) (side : ℕ) (letters : List ℕ) (n : ℕ) (as_ma
         rw (e, add-one i, take-suc xs i [] (omega (arith, many, there)), any_append, a, differs)
 
 -- a slip of the second tray
-module _ (s es cs t fs ds : List ℕ) (i : ℕ) (some : 1 ≤ i) (there : i ≤ length fs) (as_many : length ds ≡ length fs) (side : ℕ) (o : side ≡ get_or ds (i - 1) 0) (letters : List ℕ)
-    (p : letters ≡ slip (slips_of t fs) i) where
+module _ (s es cs t fs ds : List ℕ) (i : ℕ) (some : 1 ≤ i) (there : i ≤ length fs) (as_many : length ds ≡ length fs) (side : ℕ)
+    (o : side ≡ get_or ds (i - 1) 0) (letters : List ℕ) (p : letters ≡ slip (slips_of t fs) i) where
   abbrev ws : List (List ℕ)
   ws = labelled (slips_of s es) cs
 

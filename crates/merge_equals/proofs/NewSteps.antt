@@ -1,15 +1,15 @@
 -- The loop over the second tray's slips.
 --   Found ws xs ls i count total ns == the new ones of the first i slips of xs, whose letters are ls, are the first `count` numbers of ns, and have `total`
 --                                      letters
---   found_none, found_new, found_old, found_all == at the start, after a slip that is new or is not, at the end
-use mathlib.Core.Path.{◌≡◌, refl, sym, ◌∙◌, ap}
+--   found_new, found_old, found_all == after a slip that is new or is not, at the end
+use mathlib.Core.Path.{◌≡◌, sym, ◌∙◌, ap}
 use mathlib.Core.Bool.{Bool, true, false}
-use mathlib.Core.List.{List, [], ◌∷◌, ◌++◌, map-append, append-nil, append_assoc}
+use mathlib.Core.List.{List, [], ◌∷◌, ◌++◌, map-append, append_assoc}
 use Prim.Native.Nat.{ℕ, suc, ◌+◌, ◌-◌, ◌*◌, ◌^◌, ◌≤◌, ◌<◌}
 use native.Mathlib.Numerals.{add-one}
 use native.Mathlib.Omega.{arith}
 use borrow.Author.Tests.{not-true, not-false}
-use lib.ListN.{length, take, set, replicate, length-append, length-set}
+use lib.ListN.{length, take, set, length-append, length-set}
 use lib.Seq.{take_all, take-suc, take-suc-set}
 use Rattle.words.specs.Lists.{any, All}
 use Rattle.words.specs.Words.{same}
@@ -51,18 +51,6 @@ module _ (s es cs t fs ds : List ℕ) (acc : (tray_fault t fs).number ≡ 0) whe
 
   few_slips : length fs ≤ max_slips
   few_slips = (accepted_tells t fs acc).few
-
-  pub found_none : Found ws xs ls 0 0 0 (replicate max_slips 0)
-  found_none =
-      record {
-        upto = omega arith;
-        few = omega arith;
-        size = refl;
-        real = tt;
-        slips_are = sym (append-nil ws);
-        letters_are = refl;
-        bound = omega arith;
-      }
 
   -- the number of slip i + 1 fits a cell, and there is room for it
   module _ (i : ℕ) (h : i < length fs) where

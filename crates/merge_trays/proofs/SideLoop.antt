@@ -55,25 +55,22 @@ module _ (cs ds : List ℕ) (new : Fresh) (d : List ℕ) (C : CanWriteSides cs d
       pub putting_same : length d' ≡ length d
       putting_same = rw P.are (length_over (cs ++ map (side_of ds) (take i N)) d₁ (omega (arith, size, long, C.room, P.upto, many)) ∙ long)
 
-      pub putting_all : new.count ≤ i → d' ≡ over (sides_merged cs ds new) d
+      pub putting_all : length N ≤ i → d' ≡ over (sides_merged cs ds new) d
       putting_all h =
-          let all : take i N ≡ N = take_all i N (omega (arith, many)) in
+          let all : take i N ≡ N = take_all i N h in
           P.are ∙ rw (all, copied) (over-again cs (map (side_of ds) N) d)
 
-      module _ (h : i < new.count) (k : ℕ) (e : k ≡ get_or new.slips i 0) where
-        k_is : k ≡ get_or N i 0
-        k_is = e ∙ sym (get_or-take new.count new.slips i 0 h)
-
+      module _ (h : i < length N) (k : ℕ) (e : k ≡ get_or N i 0) where
         pub slip_real : (1 ≤ k) × (k ≤ length ds)
-        slip_real = rw k_is (all_at (λ j. (1 ≤ j) × (j ≤ length ds)) N (get_or N i 0) C.real (get_or_in 0 N i (omega (arith, many))))
+        slip_real = rw e (all_at (λ j. (1 ≤ j) × (j ≤ length ds)) N (get_or N i 0) C.real (get_or_in 0 N i h))
 
         pub putting_more : (i' : ℕ) → i' ≡ i + 1 → Putting cs ds N d₁ i' (set d' (here + i) (get_or ds (k - 1) 0))
         putting_more i' u =
             let more : map (side_of ds) (take i' N) ≡ map (side_of ds) (take i N) ++ (side_of ds k ∷ []) =
-            rw (u, add-one i, take-suc N i 0 (omega (arith, many)), map-append, ← k_is) in
+            rw (u, add-one i, take-suc N i 0 h, map-append, ← e) in
             record {
-              upto = omega (arith, many);
+              upto = omega arith;
               are =
                   rw (entry_at ds k slip_real.0, P.are, more, ← append_assoc)
-                  (over-set 0 (cs ++ map (side_of ds) (take i N)) d₁ (here + i) (side_of ds k) size (omega (arith, long, C.room)));
+                  (over-set 0 (cs ++ map (side_of ds) (take i N)) d₁ (here + i) (side_of ds k) size (omega (arith, long, C.room, many)));
             }
