@@ -1,29 +1,25 @@
 -- What refuses a merge, row by row: before the outcome is known, and then by its size.
---   lent-..       == the ways through check_lent
---   one-..        == the ways through check_one; both-.. == through check_both; size-.. == through check_size
---   lent_room     == where 15 is silent, room for any tray is lent
+--   lent_few, lent_enough == the ways through check_lent; lent_room == where 15 is silent, room for any tray is lent
+--   one_is        == the rows of one tray are those that the check of a tray with its sides decides
 --   one_many      == where one tray is not refused, it has a side for each slip
 --   fault_is      == what refuses the call: 15, the two trays, and then 1 and 4 of the outcome
+--   size_silent   == where 1 and 4 are silent, the outcome is within the limits
 use mathlib.Core.Path.{◌≡◌, sym, ◌∙◌, ap}
 use mathlib.Core.Bool.{◌||◌}
 use mathlib.Core.List.{List, [], ◌∷◌, ◌++◌}
 use mathlib.Core.Logic.{◌⊎◌, inl, inr}
 use Prim.Native.Nat.{ℕ, ◌≤◌, ◌<◌}
 use borrow.Author.Tests.{lt-ltb, le-ltb, ltb-false}
-use native.Mathlib.Omega.{arith}
 use lib.Dec.{ltb}
 use lib.ListN.{length}
 use Rattle.words.proofs.Tests.{neither}
 use Rattle.trays.specs.declared.Refusal.{Refusal}
-use Rattle.trays.specs.declared.fault.Fault.{Fault}
-use Rattle.trays.specs.Told.{told}
 use Rattle.trays.specs.Limits.{max_slips, max_letters}
 use Rattle.trays.specs.Faults.{refusal, accepted, row, or_else, first_row}
 use Rattle.trays.specs.Written.{letters_of, size_rows}
 use Rattle.trays.specs.Sides.{sided_tray_rows, sided_tray_fault}
 use Rattle.trays.proofs.Accepted.{row_silent}
 use Rattle.trays.proofs.Rows.{or_assoc, both_silent, rows_append}
-use Rattle.trays.proofs.Told.{told-first, told_next}
 use Rattle.trays.proofs.SidedTrays.{sides_tell, rows-accepted}
 use Rattle.merge_rule.specs.Merging.{letters_among, merged_sides, lent_row, merge_fault}
 use Rattle.merge_rule.proofs.MergedTrays.{merge_fault_lem}
@@ -62,14 +58,8 @@ module _ (s es cs : List ℕ) where
       let silent : (sided_tray_fault s es cs).number ≡ 0 = ap (λ (r : Refusal). r.number) (sym e) in
       (sides_tell es cs (rows-accepted s es cs silent).sides).0
 
--- both
+-- the whole call
 module _ (s es cs t fs ds : List ℕ) where
-  pub both_first : (f : Fault) → told f ≡ one_fault s es cs → told f ≡ both_fault s es cs t fs ds
-  both_first f e = told-first f (one_fault s es cs) (one_fault t fs ds) e
-
-  pub both_second : accepted ≡ one_fault s es cs → (r : Refusal) → r ≡ one_fault t fs ds → r ≡ both_fault s es cs t fs ds
-  both_second e r q = q ∙ told_next (one_fault s es cs) (one_fault t fs ds) e
-
   pub fault_is : (a b d : ℕ) →
       let ms = letters_among (merged_sides s es cs t fs ds) in
       merge_fault a b d s es cs t fs ds ≡ or_else (lent_fault a b d) (or_else (both_fault s es cs t fs ds) (size_fault (length (letters_of ms)) (length ms)))
@@ -83,20 +73,9 @@ module _ (s es cs t fs ds : List ℕ) where
       (rows_append one (two ++ size) ∙ ap (or_else (first_row one)) (rows_append two size) ∙ sym (or_assoc (first_row one) (first_row two) (first_row size)))
 
 -- the outcome
-module _ (n k : ℕ) where
-  pub size_slips : max_slips < k → refusal 1 0 ≡ size_fault n k
-  size_slips h = rw (lt-ltb max_slips k h)
-
-  module _ (h : k ≤ max_slips) where
-    pub size_letters : max_letters < n → refusal 4 0 ≡ size_fault n k
-    size_letters l = rw (le-ltb max_slips k h, lt-ltb max_letters n l)
-
-    pub size_within : n ≤ max_letters → accepted ≡ size_fault n k
-    size_within l = rw (le-ltb max_slips k h, le-ltb max_letters n l)
-
-  pub size_silent : accepted ≡ size_fault n k → (n ≤ max_letters) × (k ≤ max_slips)
-  size_silent e =
-      let silent : (size_fault n k).number ≡ 0 = ap (λ (r : Refusal). r.number) (sym e) in
-      let (many, long) = both_silent (row 1 (ltb max_slips k) 0) (first_row (row 4 (ltb max_letters n) 0 ∷ [])) silent in
-      let letters = (both_silent (row 4 (ltb max_letters n) 0) accepted long).0 in
-      (ltb-false max_letters n (row_silent 3 _ 0 letters), ltb-false max_slips k (row_silent 0 _ 0 many))
+pub size_silent : (n k : ℕ) → accepted ≡ size_fault n k → (n ≤ max_letters) × (k ≤ max_slips)
+size_silent n k e =
+    let silent : (size_fault n k).number ≡ 0 = ap (λ (r : Refusal). r.number) (sym e) in
+    let (many, long) = both_silent (row 1 (ltb max_slips k) 0) (first_row (row 4 (ltb max_letters n) 0 ∷ [])) silent in
+    let letters = (both_silent (row 4 (ltb max_letters n) 0) accepted long).0 in
+    (ltb-false max_letters n (row_silent 3 _ 0 letters), ltb-false max_slips k (row_silent 0 _ 0 many))

@@ -1,9 +1,9 @@
 -- From the new slips to the outcome.
 --   slips_sum, letters_sum  == how many slips and letters the outcome has
---   first-.., rest-..       == the first tray is copied, and the new slips are written into the rest of both buffers
---   merged-written          == together they are the letters and ends of the outcome
+--   copied_letters, copied_ends == the first tray is copied
+--   merged-written          == with the new slips, written into the rest of both buffers, it is the letters and ends of the outcome
 --   few_and_small           == how large the counts are that the code adds up; outcome_size == their sums are the counts of the outcome
---   can_merge, can_write_sides == what writing asks, where no row speaks
+--   can_write_sides == what writing the sides asks, where no row speaks
 --   sizes_refused, sizes_within == the ways through merge_sided
 --   merge_lent, merge_inputs, merge_sizes == the ways through merge_trays
 use mathlib.Core.Path.{◌≡◌, refl, sym, ◌∙◌, ap}
@@ -12,12 +12,11 @@ use Rattle.std.specs.Prelude.{Ok}
 use Prim.Native.Nat.{ℕ, ◌+◌, ◌-◌, ◌*◌, ◌≤◌}
 use borrow.Rule.Slice.PartMut.{put_mid}
 use native.Mathlib.Omega.{arith}
-use lib.ListN.{length, take, drop, length-append, length-drop, length-map}
+use lib.ListN.{length, take, drop, length-append, length-map}
 use lib.Seq.{take-length, length-take-le}
 use Rattle.words.specs.Lists.{over}
-use Rattle.words.proofs.Buffers.{length_over, rest_is, over_mid}
+use Rattle.words.proofs.Buffers.{over_mid}
 use Rattle.tables.specs.Tables.{table}
-use Rattle.tables.specs.Copying.{CanCopy}
 use Rattle.trays.specs.declared.Refusal.{Refusal}
 use Rattle.trays.specs.declared.Written.{Written}
 use Rattle.trays.specs.Limits.{max_slips, max_slip, max_letters}
@@ -28,13 +27,13 @@ use Rattle.trays.specs.Faults.{accepted, or_else, first_row, tray_fault}
 use Rattle.trays.specs.Written.{letters_of, ends_from, ends_of, size_rows}
 use Rattle.trays.proofs.Accepted.{accepted_tells, slips_count}
 use Rattle.trays.proofs.Told.{told_speaks, told-first, told_next}
-use Rattle.trays.proofs.WrittenSlips.{length-ends, letters_append, ends_append, tray_refused}
+use Rattle.trays.proofs.WrittenSlips.{letters_append, ends_append, tray_refused}
 use Rattle.trays.proofs.WrittenTrays.{written_slips}
 use Rattle.merge_rule.specs.Merging.{letters_among, sides_among, merged_sides, merge_fault, MergeSays}
 use Rattle.merge_equals.specs.declared.Fresh.{Fresh}
 use Rattle.merge_equals.specs.declared.sided.Sided.{Sided}
 use Rattle.merge_equals.specs.Equals.{NewSlips}
-use Rattle.tray_cut.specs.Choosing.{CanWrite, SlipsWritten}
+use Rattle.tray_cut.specs.Choosing.{SlipsWritten}
 use Rattle.merge_trays.specs.Steps.Merging.{lent_fault, both_fault, size_fault, Room, AreSided, SizesSay, chosen, slips_merged, sides_merged}
 use Rattle.merge_trays.specs.Steps.Merging.{CanMerge, LettersWritten, CanWriteSides}
 use Rattle.merge_trays.proofs.InputRows.{fault_is, size_silent}
@@ -82,16 +81,7 @@ module _ (s es t fs : List ℕ) (new : Fresh) where
     slips_sum = rw (length-append, slips_count, length-map, numbers_count)
 
   -- the first tray is copied into the front of both buffers
-  module _ (one : (tray_fault s es).number ≡ 0) (two : (tray_fault t fs).number ≡ 0) (a b : List ℕ) (C : CanMerge s es t fs new (length a) (length b)) where
-    pub first-room : length s ≤ length a
-    first-room = omega (arith, C)
-
-    pub first_slots : CanCopy es 0 (length es) b
-    first_slots = record { there = omega arith; room = omega (arith, C) }
-
-    pub new_counted : new.count ≡ length M
-    new_counted = sym (numbers_count C.listed)
-
+  module _ (one : (tray_fault s es).number ≡ 0) (a b : List ℕ) (C : CanMerge s es t fs new (length a) (length b)) where
     module _ (a₁ b₁ : List ℕ) (here : ℕ) (p : a₁ ≡ take (length s) s ++ drop (length s) a) (q : here ≡ length s)
         (r : b₁ ≡ over (table es 0 (length es)) b) where
       copied_letters : a₁ ≡ over s a
@@ -99,31 +89,6 @@ module _ (s es t fs : List ℕ) (new : Fresh) where
 
       copied_ends : b₁ ≡ over es b
       copied_ends = r ∙ ap (λ l. over l b) (table_all es)
-
-      letters_long : length a₁ ≡ length a
-      letters_long = rw copied_letters (length_over s a first-room)
-
-      ends_long : length b₁ ≡ length b
-      ends_long = rw copied_ends (length_over es b (omega (arith, C)))
-
-      pub rest_letters : here ≤ length a₁
-      rest_letters = omega (arith, letters_long, first-room)
-
-      pub rest_ends : length es ≤ length b₁
-      rest_ends = omega (arith, ends_long, C)
-
-      pub rest_can : CanWrite t fs M here (length (take (length a₁ - here) (drop here a₁))) (length (take (length b₁ - length es) (drop (length es) b₁)))
-      rest_can =
-          let room : length (take (length a₁ - here) (drop here a₁)) ≡ length a - here = rw (rest_is a₁ here, length-drop, letters_long) in
-          let slots : length (take (length b₁ - length es) (drop (length es) b₁)) ≡ length b - length es =
-          rw (rest_is b₁ (length es), length-drop, ends_long) in
-          record {
-            tray = two;
-            real = C.real;
-            few = omega (arith, new_counted, slots, C);
-            room = omega (arith, room, C);
-            small = omega (arith, C);
-          }
 
       -- the new slips stand in the rest of both
       module _ (a₂ b₂ : List ℕ) (g : ℕ)
@@ -134,12 +99,6 @@ module _ (s es t fs : List ℕ) (new : Fresh) where
         all_ends : put_mid (length es) (length b₁ - length es) b₁ b₂ ≡ over (ends_of m) b
         all_ends =
             rw (ends_are one) (over_mid es (ends_from (length s) ys) b b₁ b₂ (length es) refl copied_ends (W.ends_are ∙ rw q))
-
-        pub all_long : length (put_mid here (length a₁ - here) a₁ a₂) ≡ length a
-        all_long = rw all_letters (length_over (letters_of m) a (omega (arith, letters_sum one C.counted, C)))
-
-        pub all_many : length (put_mid (length es) (length b₁ - length es) b₁ b₂) ≡ length b
-        all_many = rw all_ends (length_over (ends_of m) b (omega (arith, length-ends 0 m, slips_sum C.listed, C)))
 
         pub merged-written : (n k : ℕ) → n ≡ here + new.letters → k ≡ length es + new.count
             → LettersWritten s es t fs new a (put_mid here (length a₁ - here) a₁ a₂) b (put_mid (length es) (length b₁ - length es) b₁ b₂)
@@ -181,17 +140,6 @@ module _ (s es cs t fs ds : List ℕ) (one : (tray_fault s es).number ≡ 0) (ma
     module _ (R : Room (length a) (length b) (length d)) (e : accepted ≡ size_fault (length s + new.letters) (length es + new.count)) where
       within : (length s + new.letters ≤ max_letters) × (length es + new.count ≤ max_slips)
       within = size_silent (length s + new.letters) (length es + new.count) e
-
-      pub can_merge : CanMerge s es t fs new (length a) (length b)
-      can_merge = record {
-        listed = listed;
-        real = N.real;
-        counted = N.letters_are;
-        few = within.1;
-        small = within.0;
-        room = R.letters;
-        slots = R.ends;
-      }
 
       pub can_write_sides : CanWriteSides cs ds new (length d)
       can_write_sides = record {

@@ -77,7 +77,13 @@ fn write_merged(
     let count = first.ends.len();
     tables::copy_cells(first.ends, 0, count, ends);
     let slips = &new.slips[..new.count];
-    tray_cut::write_slips(second, slips, here, &mut letters[here..], &mut ends[count..]);
+    tray_cut::write_slips(
+        second,
+        slips,
+        here,
+        &mut letters[here..],
+        &mut ends[count..],
+    );
     TraySize {
         letters: (here + new.letters) as u32,
         slips: (count + new.count) as u32,
@@ -110,7 +116,10 @@ fn merge_sided(
         letters.old letters.new ends.old ends.new sides.old sides.new (written_from result) }
 {
     let new = new_slips(first, second);
-    check_size(first.tray.letters.len() + new.letters, first.tray.ends.len() + new.count)?;
+    check_size(
+        first.tray.letters.len() + new.letters,
+        first.tray.ends.len() + new.count,
+    )?;
     let size = write_merged(first.tray, second.tray, new, letters, ends);
     write_sides(first, second, new, sides);
     Ok(size)
