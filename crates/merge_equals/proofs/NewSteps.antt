@@ -1,15 +1,15 @@
 -- The loop over the second tray's slips.
 --   Found ws xs ls i count total ns == the new ones of the first i slips of xs, whose letters are ls, are the first `count` numbers of ns, and have `total`
 --                                      letters
---   found_none, found_new, found_old, found_all == at the start, after a slip that is new or is not, at the end
-use mathlib.Core.Path.{◌≡◌, refl, sym, ◌∙◌, ap}
+--   found_new, found_old, found_all == after a slip that is new or is not, at the end
+use mathlib.Core.Path.{◌≡◌, sym, ◌∙◌, ap}
 use mathlib.Core.Bool.{Bool, true, false}
-use mathlib.Core.List.{List, [], ◌∷◌, ◌++◌, map-append, append-nil, append_assoc}
+use mathlib.Core.List.{List, [], ◌∷◌, ◌++◌, map-append, append_assoc}
 use Prim.Native.Nat.{ℕ, suc, ◌+◌, ◌-◌, ◌*◌, ◌^◌, ◌≤◌, ◌<◌}
 use native.Mathlib.Numerals.{add-one}
 use native.Mathlib.Omega.{arith}
 use borrow.Author.Tests.{not-true, not-false}
-use lib.ListN.{length, take, set, replicate, length-append, length-set}
+use lib.ListN.{length, take, set, length-append, length-set}
 use lib.Seq.{take_all, take-suc, take-suc-set}
 use Rattle.words.specs.Lists.{any, All}
 use Rattle.words.specs.Words.{same}
@@ -17,6 +17,7 @@ use Rattle.words.proofs.Orders.{same_trans}
 use Rattle.words.proofs.Sums.{all_append}
 use Rattle.trays.specs.Limits.{max_slips, max_slip}
 use Rattle.trays.specs.Slips.{slip, slips_of, only}
+use Rattle.trays.specs.Faults.{tray_fault}
 use Rattle.trays.specs.Written.{letters_of}
 use Rattle.trays.proofs.Accepted.{accepted_tells, slips_count}
 use Rattle.trays.proofs.Spans.{accepted_spanned}
@@ -24,7 +25,7 @@ use Rattle.trays.proofs.WrittenSlips.{letters_snoc}
 use Rattle.merge_rule.specs.Merging.{merged, labelled}
 use Rattle.merge_rule.proofs.Labelled.{labelled_count}
 use Rattle.merge_rule.proofs.Merged.{merged_equal, merged_new}
-use Rattle.merge_equals.specs.Equals.{BothTrays, SecondSlip, is_new, NewSlips}
+use Rattle.merge_equals.specs.Equals.{is_new, NewSlips}
 
 pub record Found (ws xs ls : List (List ℕ)) (i count total : ℕ) (ns : List ℕ) : Type 0 where
   pub upto : i ≤ length xs
@@ -35,7 +36,7 @@ pub record Found (ws xs ls : List (List ℕ)) (i count total : ℕ) (ns : List �
   pub letters_are : total ≡ length (letters_of (only ls (take count ns)))
   pub bound : total ≤ max_slip * i
 
-module _ (s es cs t fs ds : List ℕ) (B : BothTrays s es cs t fs ds) where
+module _ (s es cs t fs ds : List ℕ) (acc : (tray_fault t fs).number ≡ 0) where
   abbrev ws : List (List ℕ)
   ws = labelled (slips_of s es) cs
 
@@ -49,25 +50,10 @@ module _ (s es cs t fs ds : List ℕ) (B : BothTrays s es cs t fs ds) where
   many = labelled_count (slips_of t fs) ds ∙ slips_count t fs
 
   few_slips : length fs ≤ max_slips
-  few_slips = (accepted_tells t fs B.second).few
+  few_slips = (accepted_tells t fs acc).few
 
-  pub found_none : Found ws xs ls 0 0 0 (replicate max_slips 0)
-  found_none =
-      record {
-        upto = omega arith;
-        few = omega arith;
-        size = refl;
-        real = tt;
-        slips_are = sym (append-nil ws);
-        letters_are = refl;
-        bound = omega arith;
-      }
-
-  -- slip i + 1 is there, its number fits a cell, and there is room for it
+  -- the number of slip i + 1 fits a cell, and there is room for it
   module _ (i : ℕ) (h : i < length fs) where
-    pub found_slip : (i' : ℕ) → i' ≡ i + 1 → SecondSlip s es cs t fs ds i'
-    found_slip i' e = record { trays = B; some = omega arith; there = omega arith }
-
     pub found_fits : (i' : ℕ) → i' ≡ i + 1 → i' < 2 ^ 16
     found_fits i' e = omega (arith, few_slips)
 
@@ -100,7 +86,7 @@ module _ (s es cs t fs ds : List ℕ) (B : BothTrays s es cs t fs ds) where
 
     module _ (b : Bool) (q : b ≡ is_new ws xs i') (y : b ≡ true) (part : List ℕ) (p : part ≡ slip ls i') where
       part_short : length part ≤ max_slip
-      part_short = rw p ((accepted_spanned t fs B.second).short i' (omega arith) (omega arith))
+      part_short = rw p ((accepted_spanned t fs acc).short i' (omega arith) (omega arith))
 
       pub found_new : (k count' total' : ℕ) → k ≡ i' → count' ≡ count + 1 → total' ≡ total + length part
           → Found ws xs ls i' count' total' (set ns count k)

@@ -1,7 +1,5 @@
 -- Slips of a second tray, t with ends fs and sides ds, that equal none before them, those of a first tray, s with ends es and sides cs, included. Slips are
 -- equal if side and letters are.
---   FirstSlips s es cs n == the tray is accepted, has a side for each slip, and has n slips
---   BothTrays            == both trays are accepted, with a side for each slip; SecondSlip == and the second has this slip
 --   is_new ws xs i        == slip i of xs equals none of ws, and none of xs before it
 --   NewSlips             == the numbers of the slips that are written after the first tray's, and the letters that they have together
 use Rattle.std.specs.Prelude.{◌≡◌, Bool, not, List, ◌++◌, ℕ, ◌-◌, ◌*◌, ◌≤◌, length, take}
@@ -9,26 +7,9 @@ use Rattle.words.specs.Lists.{any, All}
 use Rattle.words.specs.Words.{same}
 use Rattle.trays.specs.Limits.{max_slips, max_slip}
 use Rattle.trays.specs.Slips.{slip, slips_of, only}
-use Rattle.trays.specs.Faults.{tray_fault}
 use Rattle.trays.specs.Written.{letters_of}
 use Rattle.merge_rule.specs.Merging.{labelled, merged_sides}
 use Rattle.merge_equals.specs.declared.Fresh.{Fresh}
-
-pub record FirstSlips (s es cs : List ℕ) (n : ℕ) : Type 0 where
-  pub tray : (tray_fault s es).number ≡ 0
-  pub sides : length cs ≡ length es
-  pub there : n ≤ length es
-
-pub record BothTrays (s es cs t fs ds : List ℕ) : Type 0 where
-  pub first : (tray_fault s es).number ≡ 0
-  pub first_sides : length cs ≡ length es
-  pub second : (tray_fault t fs).number ≡ 0
-  pub second_sides : length ds ≡ length fs
-
-pub record SecondSlip (s es cs t fs ds : List ℕ) (i : ℕ) : Type 0 where
-  pub trays : BothTrays s es cs t fs ds
-  pub some : 1 ≤ i
-  pub there : i ≤ length fs
 
 abbrev pub is_new : List (List ℕ) → List (List ℕ) → ℕ → Bool
 is_new ws xs i = not (any (same (slip xs i)) (ws ++ take (i - 1) xs))

@@ -15,7 +15,7 @@ use Rattle.merge_rule.specs.Merging.{labelled, letters_among, sides_among, merge
 use Rattle.merge_rule.proofs.Labelled.{letters-labelled, sides_labelled, side_at}
 use Rattle.merge_rule.proofs.SameLegend.{only-map}
 use Rattle.merge_equals.specs.declared.Fresh.{Fresh}
-use Rattle.merge_equals.specs.Equals.{BothTrays, NewSlips}
+use Rattle.merge_equals.specs.Equals.{NewSlips}
 use Rattle.merge_trays.specs.Steps.Merging.{chosen, slips_merged, sides_merged}
 
 module _ (xs ys : List (List ℕ)) (cs ds N : List ℕ) where
@@ -30,11 +30,11 @@ module _ (xs ys : List (List ℕ)) (cs ds N : List ℕ) where
       let side : (i : ℕ) → head_or 0 (slip zs i) ≡ side_of ds i = λ i. sym (side_at zs i) ∙ ap (λ l. side_of l i) (sides_labelled ys ds d) in
       rw (map-append, sides_labelled xs cs c, map_same (slip zs) (λ i. Unit {0}) (side_of ds) (head_or 0) (λ i p. side i) N (all_in _ N (λ i m. tt)))
 
-module _ (s es cs t fs ds : List ℕ) (new : Fresh) (B : BothTrays s es cs t fs ds) (N : NewSlips s es cs t fs ds new) where
+module _ (s es cs t fs ds : List ℕ) (new : Fresh) (N : NewSlips s es cs t fs ds new) where
   pub letters-merged : letters_among (merged_sides s es cs t fs ds) ≡ slips_merged s es t fs new
   letters-merged = rw N.slips_are (slips_outcome (slips_of s es) (slips_of t fs) cs ds (chosen new))
 
-  pub sides_merged_lem : sides_among (merged_sides s es cs t fs ds) ≡ sides_merged cs ds new
-  sides_merged_lem =
+  pub sides_merged_lem : length cs ≡ length es → length ds ≡ length fs → sides_among (merged_sides s es cs t fs ds) ≡ sides_merged cs ds new
+  sides_merged_lem p q =
       rw N.slips_are
-      (sides_outcome (slips_of s es) (slips_of t fs) cs ds (chosen new) (B.first_sides ∙ sym (slips_count s es)) (B.second_sides ∙ sym (slips_count t fs)))
+      (sides_outcome (slips_of s es) (slips_of t fs) cs ds (chosen new) (p ∙ sym (slips_count s es)) (q ∙ sym (slips_count t fs)))

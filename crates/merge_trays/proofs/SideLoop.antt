@@ -1,15 +1,15 @@
 -- The sides of the outcome, written: those of the first tray are copied, and the loop goes on after them.
 --   Putting cs ds N d i d' == after those of the first tray, cs, the sides of the first i of the slips N of the second, whose sides are ds, stand in d', where
 --                             the list was d when the loop began
---   putting-..             == at the start, after one slip more, at the end; the list keeps its length
+--   putting-..             == after one slip more, at the end
 --   slip_real              == the next of the slips is one of the second tray
-use mathlib.Core.Path.{◌≡◌, refl, sym, ◌∙◌}
-use mathlib.Core.List.{List, [], ◌∷◌, ◌++◌, map, map-append, append-nil, append_assoc}
+use mathlib.Core.Path.{◌≡◌, refl, ◌∙◌}
+use mathlib.Core.List.{List, [], ◌∷◌, ◌++◌, map, map-append, append_assoc}
 use Prim.Native.Nat.{ℕ, ◌+◌, ◌-◌, ◌≤◌, ◌<◌}
 use native.Mathlib.Numerals.{add-one}
 use native.Mathlib.Omega.{arith}
 use lib.ListN.{length, get_or, take, drop, set, length-append, length-map}
-use lib.Seq.{take_all, take-suc, take-length, length-take-le, drop_at, drop-drop, get_or-take}
+use lib.Seq.{take_all, take-suc, take-length, length-take-le, drop_at, drop-drop}
 use Rattle.words.specs.Lists.{over}
 use Rattle.words.proofs.Buffers.{length_over, over-set}
 use Rattle.words.proofs.Picks.{entry_at, get_or_in}
@@ -34,7 +34,7 @@ module _ (cs ds : List ℕ) (new : Fresh) (d : List ℕ) (C : CanWriteSides cs d
   many : length N ≡ new.count
   many = length-take-le new.count new.slips (omega (arith, C.size, C.few))
 
-  pub first-room : length cs ≤ length d
+  first-room : length cs ≤ length d
   first-room = omega (arith, C.room)
 
   -- the first tray's are copied
@@ -45,35 +45,26 @@ module _ (cs ds : List ℕ) (new : Fresh) (d : List ℕ) (C : CanWriteSides cs d
     long : length d₁ ≡ length d
     long = rw copied (length_over cs d first-room)
 
-    pub putting_none : Putting cs ds N d₁ 0 d₁
-    putting_none = record { upto = omega arith; are = copied ∙ sym (rw copied (over-again cs [] d ∙ rw append-nil)) }
-
     module _ (i : ℕ) (d' : List ℕ) (P : Putting cs ds N d₁ i d') where
       size : length (cs ++ map (side_of ds) (take i N)) ≡ here + i
       size = rw (length-append, length-map) (omega (arith, length-take-le i N P.upto))
 
-      pub putting_same : length d' ≡ length d
-      putting_same = rw P.are (length_over (cs ++ map (side_of ds) (take i N)) d₁ (omega (arith, size, long, C.room, P.upto, many)) ∙ long)
-
-      pub putting_all : new.count ≤ i → d' ≡ over (sides_merged cs ds new) d
+      pub putting_all : length N ≤ i → d' ≡ over (sides_merged cs ds new) d
       putting_all h =
-          let all : take i N ≡ N = take_all i N (omega (arith, many)) in
+          let all : take i N ≡ N = take_all i N h in
           P.are ∙ rw (all, copied) (over-again cs (map (side_of ds) N) d)
 
-      module _ (h : i < new.count) (k : ℕ) (e : k ≡ get_or new.slips i 0) where
-        k_is : k ≡ get_or N i 0
-        k_is = e ∙ sym (get_or-take new.count new.slips i 0 h)
-
-        pub slip_real : (1 ≤ k) × (k ≤ length ds)
-        slip_real = rw k_is (all_at (λ j. (1 ≤ j) × (j ≤ length ds)) N (get_or N i 0) C.real (get_or_in 0 N i (omega (arith, many))))
+      module _ (h : i < length N) (k : ℕ) (e : k ≡ get_or N i 0) where
+        slip_real : (1 ≤ k) × (k ≤ length ds)
+        slip_real = rw e (all_at (λ j. (1 ≤ j) × (j ≤ length ds)) N (get_or N i 0) C.real (get_or_in 0 N i h))
 
         pub putting_more : (i' : ℕ) → i' ≡ i + 1 → Putting cs ds N d₁ i' (set d' (here + i) (get_or ds (k - 1) 0))
         putting_more i' u =
             let more : map (side_of ds) (take i' N) ≡ map (side_of ds) (take i N) ++ (side_of ds k ∷ []) =
-            rw (u, add-one i, take-suc N i 0 (omega (arith, many)), map-append, ← k_is) in
+            rw (u, add-one i, take-suc N i 0 h, map-append, ← e) in
             record {
-              upto = omega (arith, many);
+              upto = omega arith;
               are =
                   rw (entry_at ds k slip_real.0, P.are, more, ← append_assoc)
-                  (over-set 0 (cs ++ map (side_of ds) (take i N)) d₁ (here + i) (side_of ds k) size (omega (arith, long, C.room)));
+                  (over-set 0 (cs ++ map (side_of ds) (take i N)) d₁ (here + i) (side_of ds k) size (omega (arith, long, C.room, many)));
             }

@@ -1,5 +1,5 @@
-use Rattle.merge_equals.proofs.Comparing.{equal_here, equal_next, equal_none}
-use borrow.Author.Rules.{rules}
+use Rattle.std.proofs.Common.{rules}
+use Rattle.merge_equals.proofs.Comparing.{equal_here, equal_next}
 use Rattle.merge_equals.proofs.equal_among.Goals as goal
 
 pub returns-then-same_slip : goal.returns-then-same_slip
@@ -7,6 +7,3 @@ returns-then-same_slip c = search equal_here
 
 pub loop-i-preserved : goal.loop-i-preserved
 loop-i-preserved c = (search rules, search equal_next)
-
-pub returns : goal.returns
-returns c = search equal_none

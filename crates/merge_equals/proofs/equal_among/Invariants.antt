@@ -2,7 +2,7 @@
 use mathlib.Core.Path.{◌≡◌}
 use mathlib.Core.Bool.{false}
 use mathlib.Core.List.{◌∷◌}
-use Prim.Native.Nat.{◌-◌, ◌≤◌}
+use Prim.Native.Nat.{◌≤◌}
 use lib.ListN.{take}
 use Rattle.words.specs.Lists.{any}
 use Rattle.words.specs.Words.{same}
@@ -11,7 +11,6 @@ use Rattle.merge_rule.specs.Merging.{labelled}
 use Rattle.merge_equals.proofs.equal_among.Given as goal
 
 abbrev pub invariant-loop-i : goal.invariant-loop-i
-invariant-loop-i l = (l.i ≤ l.n) × (any (same (l.side ∷ l.x)) (take l.i (labelled (slips_of l.letters l.ends) l.sides)) ≡ false)
-
-abbrev pub decreases-loop-i : goal.decreases-loop-i
-decreases-loop-i l = l.n - l.i
+invariant-loop-i l =
+    (l.i ≤ l.n)
+    × (any (same (l.side ∷ l.x)) (take l.i (labelled (slips_of l.among.tray.letters.now l.among.tray.ends.now) l.among.sides.now)) ≡ false)

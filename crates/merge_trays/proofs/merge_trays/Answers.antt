@@ -1,40 +1,23 @@
-use Rattle.merge_trays.proofs.InputRows.{both_trays}
-use Rattle.merge_trays.proofs.MergeSteps.{merge_lent, merge_inputs, few_and_small, merge_size, can_merge, can_write_sides, merge_done}
-use native.Mathlib.Omega.{arith}
+use Rattle.std.proofs.lemmas.Result.{err_from_is_err_and}
+use Rattle.merge_trays.proofs.InputRows.{lent_room}
+use Rattle.merge_trays.proofs.MergeSteps.{merge_lent, merge_inputs, merge_sizes}
 use Rattle.merge_trays.proofs.merge_trays.Goals as goal
 
-pub returns-then-lent-ne0 : goal.returns-then-lent-ne0
-returns-then-lent-ne0 c = search merge_lent
+pub returns-in_err-check_lent : goal.returns-in_err-check_lent
+returns-in_err-check_lent c =
+    let p = err_from_is_err_and c.from_residual.result c.from_residual.ensures.1 in
+    rw (p.1, p.2) (merge_lent _ _ _ _ _ _ _ _ _ _ c.in_err-check_lent.ensures)
 
-pub returns-then-fault-ne0 : goal.returns-then-fault-ne0
-returns-then-fault-ne0 c = search merge_inputs
+pub returns-in_err-first : goal.returns-in_err-first
+returns-in_err-first c =
+    let e = c.from_residual-in_err-first in
+    let p = err_from_is_err_and e.result e.ensures.1 in
+    rw (p.1, p.2) (merge_inputs _ _ _ _ _ _ _ _ _ c.in_ok-check_lent.ensures _ c.in_err-first.ensures.fault)
 
-pub new_slips-new-requires : goal.new_slips-new-requires
-new_slips-new-requires c = both_trays _ _ _ _ _ _ _ c.check_both-fault.ensures c.if-fault-ne0.false
-
-pub overflow_add-letters1 : goal.overflow_add-letters1
-overflow_add-letters1 c =
-    omega (arith, few_and_small _ _ _ _ _ _ _ c.check_both-fault.ensures c.if-fault-ne0.false _ c.new_slips-new.ensures)
-
-pub overflow_add-ends1 : goal.overflow_add-ends1
-overflow_add-ends1 c =
-    omega (arith, few_and_small _ _ _ _ _ _ _ c.check_both-fault.ensures c.if-fault-ne0.false _ c.new_slips-new.ensures)
-
-pub returns-then-size-ne0 : goal.returns-then-size-ne0
-returns-then-size-ne0 c = search merge_size
-
-pub write_merged-written-requires : goal.write_merged-written-requires
-write_merged-written-requires c =
-    can_merge _ _ _ _ _ _ _ c.check_both-fault.ensures c.if-fault-ne0.false _ c.new_slips-new.ensures _ _ _ _ c.check_lent-lent.ensures
-    c.if-lent-ne0.false _ c.check_size-size.ensures c.if-size-ne0.false
-
-pub write_sides-requires : goal.write_sides-requires
-write_sides-requires c =
-    can_write_sides _ _ _ _ _ _ _ c.check_both-fault.ensures c.if-fault-ne0.false _ c.new_slips-new.ensures _ _ _ _ c.check_lent-lent.ensures
-    c.if-lent-ne0.false _ c.check_size-size.ensures c.if-size-ne0.false
+pub merge_sided-requires : goal.merge_sided-requires
+merge_sided-requires c = lent_room _ _ _ c.in_ok-check_lent.ensures
 
 pub returns : goal.returns
 returns c =
-    merge_done _ _ _ _ _ _ _ _ _ _ c.check_lent-lent.ensures c.if-lent-ne0.false _ c.check_both-fault.ensures
-    c.if-fault-ne0.false _ c.new_slips-new.ensures _ c.check_size-size.ensures c.if-size-ne0.false _ _ _ _ c.write_merged-written.ensures
-    c.write_sides.ensures
+    merge_sizes _ _ _ _ _ _ _ _ _ c.in_ok-check_lent.ensures c.in_ok-first.ensures.fault c.in_ok-first.first c.in_ok-first.second
+    c.in_ok-first.ensures.sided _ _ _ _ c.merge_sided.ensures

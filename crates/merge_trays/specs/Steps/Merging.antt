@@ -1,27 +1,27 @@
 -- What the steps of merging two trays ask and leave: s with ends es and sides cs is the first, t with ends fs and sides ds the second.
---   unwritten f      == the answer where f refuses
 --   lent_fault a b d  == 15, where a letters, b ends and d sides are lent
 --   one_fault         == what refuses one tray: 1 to 6 and 22; both_fault == the first tray, then the second
 --   size_fault n k    == what refuses an outcome of n letters and k slips: 1 and 4
 --   Room a b d       == enough is lent for any tray
 --   chosen new       == the numbers of the new slips
 --   slips_merged      == the slips of the first tray, and after them the new ones; sides_merged == their sides
+--   IsSided s es cs r == where r is a tray with its sides, these are just the lent ones; AreSided == so of two trays
+--   SizesSay         == what is promised of two accepted trays, where room for any tray is lent: 1 and 4 of the outcome alone can refuse
 --   CanMerge         == the new slips are known, and the outcome is within the limits; LettersWritten == its letters and ends are written, with answer r
 --   CanWriteSides    == there is a side for each new slip, and room for all
-use Rattle.std.specs.Prelude.{◌≡◌, List, [], ◌∷◌, ◌++◌, map, ℕ, ◌+◌, ◌≤◌, ltb, length, take}
+use Rattle.std.specs.Prelude.{◌≡◌, List, [], ◌∷◌, ◌++◌, map, ℕ, ◌+◌, ◌≤◌, ltb, length, take, Result, Ok, Err}
 use Rattle.words.specs.Lists.{All, over}
 use Rattle.trays.specs.declared.Refusal.{Refusal}
 use Rattle.trays.specs.declared.Written.{Written}
 use Rattle.trays.specs.Limits.{max_slips, max_letters}
 use Rattle.trays.specs.Slips.{slips_of, only}
-use Rattle.trays.specs.Faults.{row, or_else, first_row, tray_fault}
-use Rattle.trays.specs.Written.{letters_of, ends_of, wrote}
+use Rattle.trays.specs.declared.fault.Fault.{Fault}
+use Rattle.trays.specs.Faults.{row, or_else, first_row}
+use Rattle.trays.specs.Written.{letters_of, ends_of, wrote, size_rows, TrayWritten}
 use Rattle.trays.specs.Sides.{side_of, sided_tray_rows}
-use Rattle.merge_rule.specs.Merging.{lent_row}
+use Rattle.merge_rule.specs.Merging.{letters_among, sides_among, merged_sides, lent_row}
+use Rattle.merge_equals.specs.declared.sided.Sided.{Sided}
 use Rattle.merge_equals.specs.declared.Fresh.{Fresh}
-
-abbrev pub unwritten : Refusal → Written
-unwritten f = record { number = f.number; detail = f.detail; letters = 0; slips = 0 }
 
 unfoldable pub lent_fault : ℕ → ℕ → ℕ → Refusal
 lent_fault a b d = lent_row a b d
@@ -40,6 +40,19 @@ pub record Room (a b d : ℕ) : Type 0 where
   pub ends : max_slips ≤ b
   pub sides : max_slips ≤ d
 
+abbrev pub IsSided : List ℕ → List ℕ → List ℕ → Result Sided Fault → Type 0
+IsSided s es cs (Ok x) = (x.tray.letters.now ≡ s) × (x.tray.ends.now ≡ es) × (x.sides.now ≡ cs)
+IsSided s es cs (Err f) = Unit {0}
+
+abbrev pub AreSided : (s es cs t fs ds : List ℕ) → Result (Sided × Sided) Fault → Type 0
+AreSided s es cs t fs ds (Ok p) = IsSided s es cs (Ok p.0) × IsSided t fs ds (Ok p.1)
+AreSided s es cs t fs ds (Err f) = Unit {0}
+
+abbrev pub SizesSay : (s es cs t fs ds a a' b b' d d' : List ℕ) → Written → Type 0
+SizesSay s es cs t fs ds a a' b b' d d' r =
+    let m = merged_sides s es cs t fs ds in
+    TrayWritten (first_row (size_rows (letters_among m))) (letters_among m) (sides_among m) a a' b b' d d' r
+
 abbrev pub chosen : Fresh → List ℕ
 chosen new = take new.count new.slips
 
@@ -50,8 +63,6 @@ abbrev pub sides_merged : List ℕ → List ℕ → Fresh → List ℕ
 sides_merged cs ds new = cs ++ map (side_of ds) (chosen new)
 
 pub record CanMerge (s es t fs : List ℕ) (new : Fresh) (a b : ℕ) : Type 0 where
-  pub first : (tray_fault s es).number ≡ 0
-  pub second : (tray_fault t fs).number ≡ 0
   pub listed : new.count ≤ length new.slips
   pub real : All (λ i. (1 ≤ i) × (i ≤ length fs)) (chosen new)
   pub counted : new.letters ≡ length (letters_of (only (slips_of t fs) (chosen new)))
