@@ -1,7 +1,6 @@
 -- The table of groups, filled by counts of places, from all k places down to one.
---   try_few, try_ready, try_skip, try_done  == one group: what counting its places and filling its row ask; another count; its row filled
---   count_start, count_more, count_all    == the groups of one count
---   groups_start, groups_more, groups_all == all groups
+--   try_few, try_ready, try_done == one group: what counting its places and filling its row ask; its row filled
+--   count_start, groups_start    == before the first group of a count, and of all
 use mathlib.Core.Path.{◌≡◌, refl, sym, subst, ◌∙◌}
 use mathlib.Core.List.{List}
 use Prim.Native.Nat.{ℕ, suc, ◌+◌, ◌*◌, ◌^◌, ◌<◌}
@@ -53,9 +52,6 @@ module _ (w : List ℕ) (k n g m : ℕ) (B : Begun w k n g × (g < 2 ^ k)) (e : 
 -- the groups of one count
 pub count_start : (w : List ℕ) (k n : ℕ) → Begun w k n 0 → Filling w k n 0 w
 count_start w k n b = record { size = refl; pairs = refl; begun = b }
-
-filling_then : {w v v' : List ℕ} {k n g m h : ℕ} → Filling w k n g v → Filling v k m h v' → Filling w k m h v'
-filling_then f s = record { size = s.size ∙ f.size; pairs = s.pairs ∙ f.pairs; begun = s.begun }
 
 -- all groups
 pub groups_start : (w : List ℕ) (k : ℕ) → Paired w k → Filling w k k 0 w

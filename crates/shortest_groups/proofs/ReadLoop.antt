@@ -1,10 +1,9 @@
 -- The best order, read forward off the table of groups.
 --   chosen w k, padded xs == the best order of k places; an order in ten cells, with 0 past its end
 --   read_start            == no place is laid, and the start stands behind the last
---   read_asks, read_group == what seeking the next place asks
+--   read_group            == the group is one of the table
 --   next, next-..         == the next place: the order goes on with it, and it is not in the group
 --   read_more             == it is laid
---   read_end              == all places
 --   read_ordered          == what the search gives, from the filled table
 use mathlib.Core.Path.{◌≡◌, refl, sym, ap, ◌∙◌}
 use mathlib.Core.List.{List, [], ◌∷◌, ◌++◌}

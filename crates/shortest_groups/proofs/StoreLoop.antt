@@ -1,7 +1,8 @@
 -- The row of one group, filled place by place.
---   store_within, store_asks, store-room == one cell: its place, and what seeking and putting ask
---   store_skip, store-put               == not in the group; put
---   storing_start, storing_more, storing_all == the cells of the first a places
+--   Saves o n, saves         == n is what the choice o saves
+--   store_within, store-room == one cell: its place, and what putting asks
+--   store-put                == it is put
+--   storing_more             == one cell more of the row
 use mathlib.Core.Path.{◌≡◌, sym, ap, ◌∙◌}
 use mathlib.Core.List.{List}
 use Prim.Native.Nat.{ℕ, ◌+◌, ◌-◌, ◌*◌, ◌^◌, ◌≤◌, ◌<◌}
