@@ -1,11 +1,9 @@
 -- The table of groups, filled by counts of places, from all k places down to one.
---   try_few, try_ready, try_skip, try_done  == one group: what counting its places and filling its row ask; another count; its row filled
---   count_start, count_more, count_all    == the groups of one count
---   groups_start, groups_more, groups_all == all groups
+--   try_few, try_ready, try_done == one group: what counting its places and filling its row ask; its row filled
+--   count_start, groups_start    == before the first group of a count, and of all
 use mathlib.Core.Path.{◌≡◌, refl, sym, subst, ◌∙◌}
 use mathlib.Core.List.{List}
-use Prim.Native.Nat.{ℕ, suc, ◌+◌, ◌-◌, ◌*◌, ◌^◌, ◌≤◌, ◌<◌}
-use native.Mathlib.Numerals.{add-one}
+use Prim.Native.Nat.{ℕ, suc, ◌+◌, ◌*◌, ◌^◌, ◌<◌}
 use native.Mathlib.Omega.{arith}
 use lib.Count.{ones}
 use lib.ListN.{take}
@@ -15,25 +13,13 @@ use Rattle.shortest_groups.specs.Groups.{pair_cells, pairs_of, Paired}
 use Rattle.shortest_groups.specs.Steps.NextPlace.{cell_of}
 use Rattle.shortest_groups.specs.Steps.Working.{Worked, Begun, Filling, Ready, Storing}
 use Rattle.shortest_groups.proofs.Pairs.{pairs_kept, pairs_same}
-use Rattle.shortest_groups.proofs.Worked.{worked_start, worked_skip, worked_group, worked_count, worked_right}
+use Rattle.shortest_groups.proofs.Worked.{worked_start, worked_group, worked_right}
 
 -- one group
 pub try_few : {w : List ℕ} {k n g : ℕ} → Begun w k n g × (g < 2 ^ k) → g < 2 ^ max_shortest
 try_few B = omega (arith, B.1, pow_mono B.0.paired.few)
 
 module _ (w : List ℕ) (k n g m : ℕ) (B : Begun w k n g × (g < 2 ^ k)) (e : m ≡ ones g) where
-  pub try_skip : (m ≡ n → ⊥) → Filling w k n (suc g) w
-  try_skip ne =
-      record {
-        size = refl;
-        pairs = refl;
-        begun =
-            record {
-              paired = B.0.paired;
-              worked = worked_skip (pairs_of w) k (cell_of w) n g (λ q. ne (e ∙ q)) B.0.worked;
-            };
-      }
-
   module _ (z : m ≡ n) where
     pub try_ready : Ready w k g
     try_ready =
@@ -67,26 +53,6 @@ module _ (w : List ℕ) (k n g m : ℕ) (B : Begun w k n g × (g < 2 ^ k)) (e : 
 pub count_start : (w : List ℕ) (k n : ℕ) → Begun w k n 0 → Filling w k n 0 w
 count_start w k n b = record { size = refl; pairs = refl; begun = b }
 
-filling_then : {w v v' : List ℕ} {k n g m h : ℕ} → Filling w k n g v → Filling v k m h v' → Filling w k m h v'
-filling_then f s = record { size = s.size ∙ f.size; pairs = s.pairs ∙ f.pairs; begun = s.begun }
-
-pub count_more :
-    {w v : List ℕ} {k n g : ℕ} (v' : List ℕ) → Filling w k n g v → Filling v k n (suc g) v' → Filling w k n (g + 1) v'
-count_more {g = g} v' f s = rw (add-one g) (filling_then f s)
-
-pub count_all : {w v : List ℕ} {k n g : ℕ} (all : ℕ) → all ≡ 2 ^ k → g ≤ all → all ≤ g → Filling w k n g v → Filling w k n (2 ^ k) v
-count_all {k = k} {g = g} all e l m f = let q : g ≡ 2 ^ k = omega arith in rw (← q) f
-
 -- all groups
 pub groups_start : (w : List ℕ) (k : ℕ) → Paired w k → Filling w k k 0 w
 groups_start w k p = count_start w k k (record { paired = p; worked = worked_start (pairs_of w) k (cell_of w) })
-
-pub groups_more : {w v : List ℕ} {k n : ℕ} (v' : List ℕ) → 1 ≤ n → Filling w k n 0 v → Filling v k n (2 ^ k) v' → Filling w k (n - 1) 0 v'
-groups_more {k = k} {n = n} v' l f s =
-    let b = s.begun in
-    let one : n ≡ suc (n - 1) = omega arith in
-    record {
-      size = s.size ∙ f.size;
-      pairs = s.pairs ∙ f.pairs;
-      begun = record { paired = b.paired; worked = worked_count (pairs_of v') k (cell_of v') (n - 1) n one b.worked };
-    }

@@ -1,19 +1,18 @@
 -- The best order, read forward off the table of groups.
 --   chosen w k, padded xs == the best order of k places; an order in ten cells, with 0 past its end
 --   read_start            == no place is laid, and the start stands behind the last
---   read_asks, read_group == what seeking the next place asks
+--   read_group            == the group is one of the table
 --   next, next-..         == the next place: the order goes on with it, and it is not in the group
 --   read_more             == it is laid
---   read_end              == all places
 --   read_ordered          == what the search gives, from the filled table
 use mathlib.Core.Path.{◌≡◌, refl, sym, ap, ◌∙◌}
 use mathlib.Core.List.{List, [], ◌∷◌, ◌++◌}
-use Prim.Native.Nat.{ℕ, suc, ◌+◌, ◌^◌, ◌≤◌, ◌<◌}
+use Prim.Native.Nat.{ℕ, suc, ◌+◌, ◌^◌, ◌<◌}
 use native.Mathlib.Numerals.{add-one}
 use native.Mathlib.Omega.{arith}
 use lib.ListN.{length, get_or, take, drop, set, replicate}
 use lib.Pow.{pow_pos, pow_mono}
-use lib.Seq.{take-suc, drop-cons, take_all, length-take-le}
+use lib.Seq.{take-suc, drop-cons, length-take-le}
 use Rattle.std.specs.Prelude.{Option, Some}
 use Rattle.words.specs.Lists.{up_from, over, head_or, tail_of}
 use Rattle.words.proofs.Buffers.{over-set}
@@ -27,7 +26,7 @@ use Rattle.shortest.proofs.Places.{choose-length}
 use Rattle.shortest_groups.specs.declared.Choice.{Choice}
 use Rattle.shortest_groups.specs.Groups.{pairs_of, Ordered}
 use Rattle.shortest_groups.specs.Steps.Marks.{bit, rest_of}
-use Rattle.shortest_groups.specs.Steps.NextPlace.{cell_of, value_of, place_of, Seeking, BestAsks}
+use Rattle.shortest_groups.specs.Steps.NextPlace.{cell_of, value_of, place_of, Seeking}
 use Rattle.shortest_groups.specs.Steps.Working.{Begun, Filling, Reading}
 use Rattle.shortest_groups.proofs.BestPlace.{choose-step}
 use Rattle.shortest_groups.proofs.GroupMarks.{in_rest, rest_none, mark_rest, mark-below}
@@ -53,17 +52,8 @@ read_start w k =
     }
 
 module _ {w r : List ℕ} {k i g a : ℕ} (B : Begun w k 0 0) (R : Reading w k i g a r) where
-  pub read_asks : BestAsks w k g a
-  read_asks = record { room = B.paired.room; few = B.paired.few; group = R.group; row = R.row }
-
   pub read_group : g < 2 ^ max_shortest
   read_group = omega (arith, R.group, pow_mono B.paired.few)
-
-  pub read_end : i ≤ k → k ≤ i → r ≡ padded (chosen w k)
-  read_end l m =
-      let all : take i (chosen w k) ≡ chosen w k =
-      take_all i (chosen w k) (omega (arith, choose-length (pairs_of w) k max_shortest (up_from 0 k))) in
-      R.order_is ∙ ap padded all
 
   module _ (found : Option Choice) (c : Choice) (l : i < k) (s : Seeking w g a k (value_of found) (place_of found)) (o : found ≡ Some c) where
     abbrev which : ℕ

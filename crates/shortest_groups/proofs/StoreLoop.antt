@@ -1,29 +1,28 @@
 -- The row of one group, filled place by place.
---   store_within, store_asks, store-room == one cell: its place, and what seeking and putting ask
---   store_skip, store-put               == not in the group; put
---   storing_start, storing_more, storing_all == the cells of the first a places
+--   Saves o n, saves         == n is what the choice o saves
+--   store_within, store-room == one cell: its place, and what putting asks
+--   store-put                == it is put
+--   storing_more             == one cell more of the row
 use mathlib.Core.Path.{◌≡◌, sym, ap, ◌∙◌}
-use mathlib.Core.Bool.{Bool, false, not}
 use mathlib.Core.List.{List}
 use Prim.Native.Nat.{ℕ, ◌+◌, ◌-◌, ◌*◌, ◌^◌, ◌≤◌, ◌<◌}
 use native.Mathlib.Decide.{ℕ_discrete}
 use native.Mathlib.Omega.{arith}
 use lib.ListN.{length}
 use lib.Pow.{pow_mono, pow_pos}
-use Rattle.std.specs.Prelude.{Option, None, Some, eqb}
+use Rattle.std.specs.Prelude.{Option, None, Some}
 use Rattle.trays.specs.Limits.{max_slip, max_shortest}
 use Rattle.tables.specs.Tables.{Room, Put, Cells, Only}
-use Rattle.tables.proofs.Tables.{only-refl, only_trans, only_wider, put_only, put-here}
+use Rattle.tables.proofs.Tables.{only_trans, only_wider, put_only, put-here}
 use Rattle.shortest.specs.Orders.{without}
 use Rattle.shortest.specs.Steps.Choosing.{most}
 use Rattle.shortest_groups.specs.declared.Choice.{Choice}
 use Rattle.shortest_groups.specs.Groups.{pair_cells, pairs_of}
-use Rattle.shortest_groups.specs.Steps.Marks.{bit, rest_of}
-use Rattle.shortest_groups.specs.Steps.NextPlace.{cell_of, value_of, place_of, Seeking, BestAsks}
+use Rattle.shortest_groups.specs.Steps.Marks.{rest_of}
+use Rattle.shortest_groups.specs.Steps.NextPlace.{cell_of, value_of, place_of, Seeking}
 use Rattle.shortest_groups.specs.Steps.Working.{Ready, Stored, Storing}
 use Rattle.shortest_groups.proofs.BestPlace.{most_step, most-bound}
 use Rattle.shortest_groups.proofs.GroupMarks.{rest_few}
-use Rattle.shortest_groups.proofs.SeekLoop.{free}
 use Rattle.shortest_groups.proofs.Pairs.{pairs_kept, pairs_same, pairs_bound, paired_kept}
 
 -- what is saved by a choice, 0 where there is none
@@ -44,18 +43,6 @@ module _ {w : List ℕ} {k g a : ℕ} (R : Ready w k g × (a < k)) where
   store_within =
       let m : 2 ^ k ≤ 2 ^ max_shortest = pow_mono ready.paired.few in
       omega (arith, ready.below, ready.paired.few, R.1)
-
-  pub store_skip : (b : Bool) → b ≡ not (eqb (bit g a) 0) → b ≡ false → Stored w k g a w
-  store_skip b e z = record { only = only-refl; here = λ o. absurd (omega (arith, free b (bit g a) e z)) }
-
-  pub store_asks : BestAsks w k g a
-  store_asks =
-      record {
-        room = ready.paired.room;
-        few = ready.paired.few;
-        group = ready.below;
-        row = omega (arith, ready.paired.few, R.1);
-      }
 
   module _ (found : Option Choice) (saved : ℕ) (s : Seeking w g a k (value_of found) (place_of found)) (e : Saves found saved) where
     saved-is : saved ≡ most (pairs_of w) (length (rest_of g k)) a (rest_of g k)
@@ -85,9 +72,6 @@ ready_kept {w} {w'} {k} {g} f r =
     }
 
 -- the row
-pub storing_start : (w : List ℕ) (k g : ℕ) → Ready w k g → Storing w k g 0 w
-storing_start w k g r = record { only = only-refl; ready = r; done = λ b l. absurd (omega arith) }
-
 module _ {w v : List ℕ} {k g a : ℕ} (S : Storing w k g a v) where
   pub storing_more : (v' : List ℕ) → a < k → Stored v k g a v' → Storing w k g (a + 1) v'
   storing_more v' l s =
@@ -106,6 +90,3 @@ module _ {w v : List ℕ} {k g a : ℕ} (S : Storing w k g a v) where
                   s.only.kept (pair_cells + (max_shortest * g + b)) (λ q. ne (omega arith)) ∙ S.done b (omega arith) o ∙ ap (saved b) same
             ];
       }
-
-  pub storing_all : a ≤ k → k ≤ a → Storing w k g k v
-  storing_all l m = let e : a ≡ k = omega arith in rw e at S

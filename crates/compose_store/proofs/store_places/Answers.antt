@@ -9,4 +9,6 @@ loop-i-preserved c =
     rw (c.loop-i.invariant, c.place_at.ensures) (stored_set (place_at c.args.work.now) (take c.args.count c.args.places.now) c.loop-i.i c.loop-i-test.true)
 
 pub returns : goal.returns
-returns c = stored_all (place_at c.args.work.now) c.args.places.now _ c.args.count c.loop-i.i c.requires.0 c.loop-i.invariant c.loop-i.auto.i-end c.loop-i-test.false
+returns c =
+    stored_all (place_at c.args.work.now) c.args.places.now _ c.args.count c.loop-i.i c.requires.0
+    c.loop-i.invariant c.loop-i.auto.i-end c.loop-i-test.false
