@@ -1,7 +1,7 @@
 // A tray written into lent letters, ends and sides.
 ghost use Rattle.std.specs.Prelude.{◌<◌, ◌^◌};
 
-use trays::Written;
+use trays::{Fault, TraySize, Written};
 use trials_lines::room::{BYTE_MARK, CELL_MARK, part};
 use trials_lines::sums;
 use trials_lines::writing::{put, refusal};
@@ -17,7 +17,7 @@ pub struct Rooms {
 // Lends room for a tray to a call, at most this many letters and slips, and writes its answer, and the sums of what was lent.
 pub fn show<const LETTERS: usize, const SLIPS: usize, F>(tag: &[u8], rooms: Rooms, call: F)
 where
-    F: FnOnce(&mut [u8], &mut [u16], &mut [u8]) -> Written,
+    F: FnOnce(&mut [u8], &mut [u16], &mut [u8]) -> Result<TraySize, Fault>,
     requires can_call { F.IsAlwaysCallable call }
     requires sizes { (LETTERS < 2 ^ 32) × (SLIPS < 2 ^ 32) }
 {
@@ -27,7 +27,7 @@ where
     let letters = part(&mut letters, rooms.letters);
     let ends = part(&mut ends, rooms.ends);
     let sides = part(&mut sides, rooms.sides);
-    let a = call(letters, ends, sides);
+    let a = Written::from(call(letters, ends, sides));
     io::write_all(1, tag);
     refusal(a.number, a.detail);
     put(a.letters);
