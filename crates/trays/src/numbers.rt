@@ -2,7 +2,7 @@
 ghost use Rattle.std.specs.Prelude.{◌≡◌};
 ghost use Rattle.trays.specs.Told.{verdict, located_from, pair_from, written_from};
 
-use crate::{Fault, Located, Pair, Refusal, Location, TraySize, Written};
+use crate::{Fault, Located, Location, Pair, Refusal, TraySize, Written};
 
 impl From<Result<(), Fault>> for Refusal {
     ghost from_gives = { λ answer r. r ≡ verdict answer };

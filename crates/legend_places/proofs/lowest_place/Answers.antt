@@ -14,5 +14,7 @@ pub loop-k-preserved : goal.loop-k-preserved
 loop-k-preserved c = search (rules, trial_agrees)
 
 pub returns : goal.returns
-returns c = elim c.if-t-end.branch [ then-t-end w ↦ (search short_place, search short_count)
-    | else-t-end+else-t-end-2+else-loop-k-test w ↦ (search whole-place, search whole_count) ]
+returns c = elim c.if-t-end.branch [
+  | then-t-end w ↦ (search short_place, search short_count)
+  | else-t-end+else-t-end-2+else-loop-k-test w ↦ (search whole-place, search whole_count)
+]
