@@ -6,4 +6,3 @@ use Rattle.trie_heads.proofs.fill_heads.Given as goal
 
 abbrev pub invariant-loop-j : goal.invariant-loop-j
 invariant-loop-j l = Heading l.tray.letters.now l.tray.ends.now l.n l.nodes l.work l.j × SameBelow HEAD l.initial.work l.work
-
