@@ -13,5 +13,6 @@ pub returns-then-u-ne0 : goal.returns-then-u-ne0
 returns-then-u-ne0 c =
     elim c.then-u-ne0.branch [
       | then-u-ne0-via-then-u-ne0 w ↦ search (rules, dropping_extends)
-      | then-u-ne0-via-else-u-ne0+then-state-eq0 w ↦ rw w.if-u-ne0.false (dropping_ends c.loop-n.invariant c.child-u.ensures w.if-u-ne0.false w.if-state-eq0.true)
+      | then-u-ne0-via-else-u-ne0+then-state-eq0 w ↦
+          rw w.if-u-ne0.false (dropping_ends c.loop-n.invariant c.child-u.ensures w.if-u-ne0.false w.if-state-eq0.true)
     ]
