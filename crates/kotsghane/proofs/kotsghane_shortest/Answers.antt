@@ -4,10 +4,10 @@ use Rattle.kotsghane.proofs.kotsghane_shortest.Goals as goal
 pub returns : goal.returns
 returns c =
     record {
-      answer = c.shortest_legend-r.result;
-      says = c.shortest_legend-r.ensures;
+      answer = c.from-r.result;
+      says = rw c.from-r.ensures c.shortest_legend-shortest.ensures;
       numbers_are =
-          ten_numbers c.shortest_legend-r.result _ _ _ _ _ _ _ _ _ _ c.number.ensures c.number-2.ensures c.number-3.ensures
-          c.number-4.ensures c.number-5.ensures c.number-6.ensures c.number-7.ensures c.number-8.ensures c.number-9.ensures
-          c.number-10.ensures;
+          rw c.from.ensures
+          (ten_numbers c.from-r.result _ _ _ _ _ _ _ _ _ _ c.from-2.ensures c.from-3.ensures c.from-4.ensures c.from-5.ensures
+          c.from-6.ensures c.from-7.ensures c.from-8.ensures c.from-9.ensures c.from-10.ensures c.from-11.ensures);
     }
