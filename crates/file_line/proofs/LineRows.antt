@@ -3,11 +3,10 @@
 --   parse_line, parse_end == the answers of line_at, the second behind the file's end
 use mathlib.Core.Path.{◌≡◌, refl, sym, ◌∙◌}
 use mathlib.Core.Bool.{true, false, and-false}
-use mathlib.Core.List.{List, [], ◌∷◌}
+use mathlib.Core.List.{List}
 use Prim.Native.Nat.{ℕ, suc, ◌+◌, ◌-◌, ◌≤◌, ◌<◌}
 use borrow.Author.Tests.{le-leb, lt-leb, eq-eqb, ne_eqb}
 use native.Mathlib.Nat.{add-sub_cancel_left}
-use native.Mathlib.Numerals.{sub-one}
 use native.Mathlib.Omega.{arith}
 use lib.ListN.{length, get_or, take, drop, drop_of_length-le}
 use Rattle.words.specs.Lists.{last_or}
@@ -22,15 +21,8 @@ use Rattle.file_rule.specs.Faults.{line_fault}
 use Rattle.file_rule.specs.declared.Line.{Line}
 use Rattle.file_line.specs.Steps.Parsed.{IsLine}
 use Rattle.file_rule.proofs.FirstLines.{first-take}
+use Rattle.file_rule.proofs.LastBytes.{last_byte}
 use Rattle.file_rule.proofs.LineFaults.{letters-length}
-
-last_at : (d : ℕ) (xs : List ℕ) → last_or d xs ≡ get_or (d ∷ xs) (length xs) 0
-last_at d [] = refl
-last_at d (x ∷ xs) = last_at x xs
-
-ends_with : (l : List ℕ) → 1 ≤ length l → last_or 0 l ≡ get_or l (length l - 1) 0
-ends_with [] h = absurd (omega arith)
-ends_with (x ∷ xs) h = rw sub-one (last_at x xs)
 
 module _ (l : List ℕ) (k : ℕ) where
   pub line_short : length l < 10 → refusal 17 k ≡ line_fault k l
@@ -38,7 +30,7 @@ module _ (l : List ℕ) (k : ℕ) where
 
   -- what a line of 10 bytes at least ends with
   last_is : 10 ≤ length l → last_or 0 l ≡ get_or l (length l - 1) 0
-  last_is h = ends_with l (omega arith)
+  last_is h = last_byte l (omega arith)
 
   pub line_open : 10 ≤ length l → (get_or l (length l - 1) 0 ≡ lf → ⊥) → refusal 17 k ≡ line_fault k l
   line_open h e = rw (le-leb 10 (length l) h, ne_eqb (last_or 0 l) lf (λ q. e (sym (last_is h) ∙ q)))

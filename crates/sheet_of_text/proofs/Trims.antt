@@ -11,9 +11,9 @@ use native.Mathlib.Omega.{arith}
 use lib.ListN.{length, get_or, take, drop, length-append, length-drop, length-map}
 use lib.Seq.{take-length, length-take-le, take_at}
 use Rattle.words.specs.Lists.{last_or}
-use Rattle.tray_check.proofs.CheckLoops.{last_some}
 use Rattle.fold_rule.specs.Folding.{fold}
 use Rattle.file_rule.specs.Lines.{lf}
+use Rattle.file_rule.proofs.LastBytes.{last_byte}
 use Rattle.sheet_of_text.specs.Steps.Lent.{Trimmed, Filed}
 
 pub trim_empty : (x : List ℕ) → length x ≡ 0 → Trimmed x 0
@@ -26,7 +26,7 @@ told x b = elim b [ true ↦ take (length x - 1) x | false ↦ x ]
 
 module _ (x : List ℕ) (some : length x ≡ 0 → ⊥) where
   last : get_or x (length x - 1) 0 ≡ last_or 0 x
-  last = last_some x (get_or x (length x - 1) 0) some refl
+  last = sym (last_byte x (omega arith))
 
   pub trim_ended : get_or x (length x - 1) 0 ≡ lf → Trimmed x (length x - 1)
   trim_ended e = record { within = omega arith; is = sym (ap (told x) (eq-eqb (last_or 0 x) lf (sym last ∙ e))) }

@@ -1,4 +1,5 @@
 -- A refusal's number has at most two digits, and its detail at most six.
+--   fault_speaks       == a fault is told by a number above 0
 --   or_fits, rows_fit  == of rows that fit, the first that speaks fits
 --   NAME-most          == a slip or place that NAME counts from 1 is at most the length
 use mathlib.Core.Path.{◌≡◌}
@@ -13,16 +14,22 @@ use Rattle.words.specs.Lists.{any, last_or, tail_of}
 use Rattle.words.proofs.Tests.{by_test}
 use Rattle.words.proofs.Sums.{All}
 use Rattle.trays.specs.declared.Refusal.{Refusal}
+use Rattle.trays.specs.declared.fault.Fault.{Fault}
 use Rattle.trays.specs.Limits.{max_slips, max_slip, max_letters, max_file, ends_need}
 use Rattle.trays.specs.Slips.{slips_of, is_letter}
 use Rattle.trays.specs.Faults.{row, or_else, first_row, not_above, too_long, bad_slip, bad_place, tray_rows, tray_fault}
 use Rattle.trays.specs.Sides.{is_side, sides_row, sided_tray_rows}
+use Rattle.trays.specs.Told.{told}
+use Rattle.trays.proofs.Told.{told_speaks}
 use Rattle.trays.proofs.Rows.{or_zero, or_some, by_number, rows_append}
 use Rattle.trays.proofs.Accepted.{row_silent, slips_count}
 use Rattle.file_rule.specs.Lines.{lf, on_first, lines_of, is_laid_out, slip_field, length_field, letters}
 use Rattle.file_rule.specs.Faults.{line_fault, lines_fault, read_fault}
 use Rattle.sheet_rule.specs.Sheets.{detail_width}
 use Rattle.sheet_sizes.specs.Fits.{RefusalFits}
+
+pub fault_speaks : (f : Fault) → (told f).number ≡ 0 → ⊥
+fault_speaks f e = let h = told_speaks f in omega arith
 
 pub row_fits : (n : ℕ) (b : Bool) (d : ℕ) → n < 10 ^ 2 → d < 10 ^ detail_width → RefusalFits (row n b d)
 row_fits n true d h l = record { number_fits = h; detail_fits = l }

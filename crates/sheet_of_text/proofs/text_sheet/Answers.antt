@@ -1,26 +1,22 @@
 use Rattle.sheet_of_text.proofs.TextSteps.{refused_can, text_refused, found_within, found_count, lines_can, text_printed}
+use Rattle.sheet_sizes.proofs.RefusalsFit.{fault_speaks}
+use Rattle.std.proofs.Common.{refl}
 use Rattle.sheet_of_text.proofs.text_sheet.Goals as goal
 
 pub refused_line-requires : goal.refused_line-requires
-refused_line-requires c =
-    refused_can _ _ _ _ _ _ c.requires _ _ _ c.find_flat-a.ensures c.if-a-ne0.true
+refused_line-requires c = refused_can _ _ _ _ _ _ c.requires _ _ _ c.in-Err.ensures (fault_speaks c.in-Err.fault)
 
-pub returns-then-a-ne0 : goal.returns-then-a-ne0
-returns-then-a-ne0 c =
-    text_refused _ _ _ _ _ _ c.requires _ _ _ c.find_flat-a.ensures c.if-a-ne0.true _ _ c.refused_line.ensures
+pub returns-in-Err : goal.returns-in-Err
+returns-in-Err c = text_refused _ _ _ _ _ _ c.requires _ _ _ c.in-Err.ensures (fault_speaks c.in-Err.fault) _ _ c.refused_line.ensures
 
 pub slice_bounds-find_lines-end : goal.slice_bounds-find_lines-end
-slice_bounds-find_lines-end c =
-    found_within _ _ _ _ _ _ c.requires _ _ _ c.find_flat-a.ensures c.if-a-ne0.false
+slice_bounds-find_lines-end c = found_within _ _ _ _ _ _ c.requires _ _ _ c.in-Ok.ensures refl
 
 pub slice_bounds-find_lines-end-2 : goal.slice_bounds-find_lines-end-2
-slice_bounds-find_lines-end-2 c =
-    found_count _ _ _ _ _ _ c.requires _ _ _ c.find_flat-a.ensures c.if-a-ne0.false
+slice_bounds-find_lines-end-2 c = found_count _ _ _ _ _ _ c.requires _ _ _ c.in-Ok.ensures refl
 
 pub find_lines-requires : goal.find_lines-requires
-find_lines-requires c =
-    lines_can _ _ _ _ _ _ c.requires _ _ _ c.find_flat-a.ensures c.if-a-ne0.false
+find_lines-requires c = lines_can _ _ _ _ _ _ c.requires _ _ _ c.in-Ok.ensures refl
 
 pub returns : goal.returns
-returns c =
-    text_printed _ _ _ _ _ _ c.requires _ _ _ c.find_flat-a.ensures c.if-a-ne0.false _ _ c.find_lines.ensures
+returns c = text_printed _ _ _ _ _ _ c.requires _ _ _ c.in-Ok.ensures refl _ _ c.find_lines.ensures
