@@ -4,11 +4,9 @@
 ghost use Rattle.std.specs.Prelude.{◌≡◌, ◌==◌, not, ◌+◌, ◌≤◌, length, drop, position};
 ghost use Rattle.file_rule.specs.Lines as L;
 ghost use Rattle.file_rule.specs.Faults as F;
-ghost use Rattle.trays.specs.Told.{verdict};
-ghost use Rattle.file_line.specs.Steps.Parsed.{IsLine, plus_one};
+ghost use Rattle.file_line.specs.Steps.Parsed.{IsLine, fault_number, plus_one};
 
-use file_rule::{BLANK, LF, Line};
-use trays::Fault;
+use file_rule::{BLANK, LF, Line, LineFault};
 
 // Where the side and the letters of a line start, counted from 0: columns 9 and 10.
 pub const SIDE_COLUMN: usize = 8;
@@ -51,21 +49,21 @@ fn field(columns: &[u8]) -> Option<usize>
 }
 
 // Refusals 17, 18, 19 of a line, with its LF, as line k.
-fn check_line(line: &[u8], k: u32) -> Result<(), Fault>
-    ensures { verdict result ≡ F.line_fault k line.now }
+fn check_line(line: &[u8], k: usize) -> Result<(), LineFault>
+    ensures { fault_number result ≡ (F.line_fault k line.now).number }
 {
     let n = line.len();
     if n < 10 || line[n - 1] != LF || !tray_check::is_side(line[SIDE_COLUMN]) {
-        return Err(Fault::BadLine(k));
+        return Err(LineFault::Layout);
     }
     let (Some(slip), Some(stated)) = (field(&line[..4]), field(&line[4..8])) else {
-        return Err(Fault::BadLine(k));
+        return Err(LineFault::Layout);
     };
-    if slip != k as usize {
-        return Err(Fault::WrongSlipNumber(k));
+    if slip != k {
+        return Err(LineFault::Number);
     }
     if stated != n - 10 {
-        return Err(Fault::WrongLength(k));
+        return Err(LineFault::Length);
     }
     Ok(())
 }
@@ -98,12 +96,12 @@ pub fn line_end(file: &[u8], at: usize) -> usize
 }
 
 // The line parser: line k, which starts at a place of the file. Behind the file's end the line is empty.
-pub fn line_at(file: &[u8], at: usize, k: u32) -> Line
+pub fn line_at(file: &[u8], at: usize, k: usize) -> Line
     ensures { IsLine file.now at k result }
 {
     if file.len() <= at {
         return Line {
-            checked: Err(Fault::BadLine(k)),
+            checked: Err(LineFault::Layout),
             next: at,
         };
     }

@@ -2,6 +2,7 @@
 --   or_accepted   == where two rows turn nothing back, neither does
 --   or_last       == no row behind the last one
 --   rows a b c    == the rows 17, 18, 19 of line k, where a, b, c say whether each holds
+--   fault_detail  == a fault of line k has k as its detail
 --   laid_out      == a line without a fault has the layout of a tray line; long_enough == and at least 10 bytes
 use mathlib.Core.Path.{◌≡◌, refl, sym, ◌∙◌, ap}
 use mathlib.Core.Bool.{Bool, true, false, not}
@@ -13,7 +14,7 @@ use lib.Dec.{eqb, leb}
 use lib.ListN.{length, length-take, length-drop, length-map}
 use Rattle.words.proofs.Tests.{both}
 use Rattle.trays.specs.declared.Refusal.{Refusal}
-use Rattle.trays.specs.Faults.{accepted, row, or_else, first_row}
+use Rattle.trays.specs.Faults.{refusal, accepted, row, or_else, first_row}
 use Rattle.trays.proofs.Rows.{by_number, or_zero, or_some}
 use Rattle.file_rule.specs.Lines.{is_laid_out, slip_field, length_field, letters}
 use Rattle.file_rule.specs.Faults.{line_fault, lines_fault}
@@ -34,6 +35,12 @@ module _ (k : ℕ) where
   abbrev rows : Bool → Bool → Bool → Refusal
   rows a b c = first_row (row 17 a k ∷ (row 18 b k ∷ (row 19 c k ∷ [])))
 
+  detail : (a b c : Bool) → ((rows a b c).number ≡ 0 → ⊥) → refusal (rows a b c).number k ≡ rows a b c
+  detail true b c z = refl
+  detail false true c z = refl
+  detail false false true z = refl
+  detail false false false z = absurd (z refl)
+
   silent : (a b c : Bool) → (rows a b c).number ≡ 0 → a ≡ false
   silent true b c z = absurd (omega arith)
   silent false b c z = refl
@@ -44,6 +51,9 @@ module _ (k : ℕ) where
 
     abbrev mismeasured : Bool
     mismeasured = not (eqb (length_field l) (suc (length (letters l))))
+
+    pub fault_detail : ((line_fault k l).number ≡ 0 → ⊥) → refusal (line_fault k l).number k ≡ line_fault k l
+    fault_detail = detail (not (is_laid_out l)) misnumbered mismeasured
 
     pub laid_out : (line_fault k l).number ≡ 0 → is_laid_out l ≡ true
     laid_out z = not-false (is_laid_out l) (silent (not (is_laid_out l)) misnumbered mismeasured z)

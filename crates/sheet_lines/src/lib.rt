@@ -2,6 +2,7 @@
 #![tactic(auto)]
 
 ghost use Rattle.std.specs.Prelude.{◌≡◌, ◌+◌, ◌*◌, ◌^◌, ◌≤◌, ◌<◌, length};
+ghost use Rattle.trays.specs.Faults.{refusal};
 ghost use Rattle.trays.specs.Told.{told};
 ghost use Rattle.sheet_rule.specs.Sheets as S;
 ghost use Rattle.sheet_columns.specs.Steps.Wrote.{Room, Writes};
@@ -187,16 +188,24 @@ pub fn find_lines(
     sheet.at
 }
 
-// The line of a refusal. Answers how many bytes it has.
-pub fn refused_line(fault: Fault, out: &mut [u8]) -> usize
+// The line of a refusal by its number and detail. Answers how many bytes it has.
+pub fn refused_line(number: u8, detail: u32, out: &mut [u8]) -> usize
+    requires { (detail < 10 ^ S.detail_width) × (S.refused_size ≤ length out.old) }
+    ensures { L.Printed (S.refused_line (refusal number detail)) out.old out.new result }
+{
+    let mut sheet = Sheet { out, at: 0 };
+    sheet.text(b"REFUSED");
+    sheet.number(SLIP_WIDTH, usize::from(number));
+    sheet.number(DETAIL_WIDTH, detail as usize);
+    sheet.byte(LF);
+    sheet.at
+}
+
+// The line of a fault, as a refusal.
+pub fn fault_line(fault: Fault, out: &mut [u8]) -> usize
     requires { ((told fault).detail < 10 ^ S.detail_width) × (S.refused_size ≤ length out.old) }
     ensures { L.Printed (S.refused_line (told fault)) out.old out.new result }
 {
     let told = Refusal::from(fault);
-    let mut sheet = Sheet { out, at: 0 };
-    sheet.text(b"REFUSED");
-    sheet.number(SLIP_WIDTH, usize::from(told.number));
-    sheet.number(DETAIL_WIDTH, told.detail as usize);
-    sheet.byte(LF);
-    sheet.at
+    refused_line(told.number, told.detail, out)
 }

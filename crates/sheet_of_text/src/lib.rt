@@ -44,7 +44,7 @@ pub fn text_sheet(
 {
     let counts = match flat_calls::find_flat(letters, ends, text, work, found) {
         Ok(counts) => counts,
-        Err(fault) => return sheet_lines::refused_line(fault, out),
+        Err(fault) => return sheet_lines::fault_line(fault, out),
     };
     let moves = counts.moves as usize;
     let count = counts.count as usize;

@@ -106,7 +106,7 @@ pub fn tray_sheets(
         legend.old legend.new out.old out.new result }
 {
     if let Err(fault) = tray_check::check_sided_tray(letters, ends, sides, 1, BLANK_SIDE) {
-        return sheet_lines::refused_line(fault, out);
+        return sheet_lines::fault_line(fault, out);
     }
     let first = add_sheet(letters, ends, sides, BLANK_SIDE, work, legend, out, 0);
     let second = add_sheet(letters, ends, sides, OBVERSE, work, legend, out, first);

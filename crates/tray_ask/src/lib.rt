@@ -50,7 +50,7 @@ pub fn slip_letters<'a>(letters: &'a [u8], ends: &[u16], slip: u32) -> Result<&'
     Ok(&letters[span.start..span.end])
 }
 
-// The same as numbers of 32 bits.
+// Where that stretch starts and ends, as numbers of 32 bits.
 pub fn slip_place(letters: &[u8], ends: &[u16], slip: u32) -> Result<Location, Fault>
     ensures { located_from result ≡ located_of letters.now ends.now slip }
 {

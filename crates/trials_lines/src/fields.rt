@@ -37,6 +37,7 @@ impl<'a> Fields<'a> {
         ensures { MatchOption result (self.new.rest.now ≡ self.old.rest.now) (λ _. length self.new.rest.now < length self.old.rest.now) }
     {
         let mut value: Option<u32> = None;
+        // kept: how many digits there are is not known before they are read
         while let [digit @ b'0'..=b'9', rest @ ..] = self.rest {
             let before = value.unwrap_or(0);
             value = Some(

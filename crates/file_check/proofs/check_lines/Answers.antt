@@ -1,16 +1,14 @@
 -- The line that `next` hands out is the one at which the reader stands.
-use Rattle.std.proofs.Common.{ap, refl, ◌∙◌}
-use Rattle.std.proofs.lemmas.Result.{err_from_is_err_and}
+use Rattle.std.proofs.Common.{ap, ◌∙◌}
 use Rattle.file_check.proofs.CheckTurns.{goes_on, ends_bad, ends_good}
 use Rattle.file_check.proofs.check_lines.Goals as goal
 
-pub returns-in_err-line : goal.returns-in_err-line
-returns-in_err-line c =
-    let p = err_from_is_err_and c.from_residual.result c.from_residual.ensures.1 in
+pub returns-in-Err : goal.returns-in-Err
+returns-in-Err c =
     let e = rw c.loop-reader.invariant.file_is at c.next-line.ensures.line-is in
-    rw (p.1, p.2)
-    (ends_bad c.args.file.now c.loop-reader.reader.at c.loop-reader.k c.next-line.result c.loop-reader.invariant.passed c.loop-reader-test.true e
-    _ (rw (c.branch-line.ensures, c.in_err-line.is) refl))
+    c.refused_line.ensures
+    ∙ ends_bad c.args.file.now c.loop-reader.reader.at c.loop-reader.k c.next-line.result c.loop-reader.invariant.passed c.loop-reader-test.true e
+    _ c.in-Err.is
 
 pub loop-reader-preserved : goal.loop-reader-preserved
 loop-reader-preserved c =
@@ -20,7 +18,7 @@ loop-reader-preserved c =
       passed =
           rw c.next-line.ensures.at_is
           (goes_on c.args.file.now c.loop-reader.reader.at c.loop-reader.k c.next-line.result c.loop-reader.invariant.passed c.loop-reader-test.true e
-          (rw (c.branch-line.ensures, c.in_ok-line.is) refl));
+          _ c.in_default.is);
     }
 
 pub returns : goal.returns

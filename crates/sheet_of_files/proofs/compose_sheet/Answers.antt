@@ -6,13 +6,13 @@ use Rattle.std.proofs.Common.{refl}
 use native.Mathlib.Omega.{arith}
 use Rattle.sheet_of_files.proofs.compose_sheet.Goals as goal
 
-pub refused_line-requires : goal.refused_line-requires
-refused_line-requires c =
+pub fault_line-requires : goal.fault_line-requires
+fault_line-requires c =
     compose_can _ _ _ _ _ _ _ c.requires _ _ _ _ c.in-Err.ensures (fault_speaks c.in-Err.fault)
 
 pub returns-in-Err : goal.returns-in-Err
 returns-in-Err c =
-    compose_refused _ _ _ _ _ _ _ c.requires _ _ _ _ c.in-Err.ensures (fault_speaks c.in-Err.fault) _ _ c.refused_line.ensures
+    compose_refused _ _ _ _ _ _ _ c.requires _ _ _ _ c.in-Err.ensures (fault_speaks c.in-Err.fault) _ _ c.fault_line.ensures
 
 pub slice_bounds-tray_sheets-end : goal.slice_bounds-tray_sheets-end
 slice_bounds-tray_sheets-end c =

@@ -5,13 +5,13 @@ use Rattle.sheet_sizes.proofs.RefusalsFit.{fault_speaks}
 use Rattle.std.proofs.Common.{refl}
 use Rattle.sheet_of_files.proofs.find_sheet.Goals as goal
 
-pub refused_line-requires : goal.refused_line-requires
-refused_line-requires c =
+pub fault_line-requires : goal.fault_line-requires
+fault_line-requires c =
     find_can _ _ _ _ _ _ _ c.requires _ _ _ _ c.in-Err.ensures (fault_speaks c.in-Err.fault)
 
 pub returns-in-Err : goal.returns-in-Err
 returns-in-Err c =
-    find_refused _ _ _ _ _ _ _ _ c.requires _ _ _ _ c.in-Err.ensures (fault_speaks c.in-Err.fault) _ _ c.refused_line.ensures
+    find_refused _ _ _ _ _ _ _ _ c.requires _ _ _ _ c.in-Err.ensures (fault_speaks c.in-Err.fault) _ _ c.fault_line.ensures
 
 pub slice_bounds-text_sheet-end : goal.slice_bounds-text_sheet-end
 slice_bounds-text_sheet-end c =

@@ -3,11 +3,11 @@ use Rattle.sheet_sizes.proofs.RefusalsFit.{fault_speaks}
 use Rattle.std.proofs.Common.{refl}
 use Rattle.sheet_of_text.proofs.text_sheet.Goals as goal
 
-pub refused_line-requires : goal.refused_line-requires
-refused_line-requires c = refused_can _ _ _ _ _ _ c.requires _ _ _ c.in-Err.ensures (fault_speaks c.in-Err.fault)
+pub fault_line-requires : goal.fault_line-requires
+fault_line-requires c = refused_can _ _ _ _ _ _ c.requires _ _ _ c.in-Err.ensures (fault_speaks c.in-Err.fault)
 
 pub returns-in-Err : goal.returns-in-Err
-returns-in-Err c = text_refused _ _ _ _ _ _ c.requires _ _ _ c.in-Err.ensures (fault_speaks c.in-Err.fault) _ _ c.refused_line.ensures
+returns-in-Err c = text_refused _ _ _ _ _ _ c.requires _ _ _ c.in-Err.ensures (fault_speaks c.in-Err.fault) _ _ c.fault_line.ensures
 
 pub slice_bounds-find_lines-end : goal.slice_bounds-find_lines-end
 slice_bounds-find_lines-end c = found_within _ _ _ _ _ _ c.requires _ _ _ c.in-Ok.ensures refl

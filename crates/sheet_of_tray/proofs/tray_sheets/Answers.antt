@@ -3,11 +3,11 @@ use Rattle.sheet_of_tray.proofs.ShownSheets.{refused_can, tray_refused, first-ro
 use Rattle.sheet_sizes.proofs.RefusalsFit.{fault_speaks}
 use Rattle.sheet_of_tray.proofs.tray_sheets.Goals as goal
 
-pub refused_line-requires : goal.refused_line-requires
-refused_line-requires c = refused_can _ _ _ _ c.in-Err.ensures.fault _ _ _ c.requires (fault_speaks c.in-Err.fault)
+pub fault_line-requires : goal.fault_line-requires
+fault_line-requires c = refused_can _ _ _ _ c.in-Err.ensures.fault _ _ _ c.requires (fault_speaks c.in-Err.fault)
 
 pub returns-in-Err : goal.returns-in-Err
-returns-in-Err c = tray_refused _ _ _ _ c.in-Err.ensures.fault _ _ _ c.requires (fault_speaks c.in-Err.fault) _ _ c.refused_line.ensures
+returns-in-Err c = tray_refused _ _ _ _ c.in-Err.ensures.fault _ _ _ c.requires (fault_speaks c.in-Err.fault) _ _ c.fault_line.ensures
 
 pub add_sheet-first-requires : goal.add_sheet-first-requires
 add_sheet-first-requires c =
