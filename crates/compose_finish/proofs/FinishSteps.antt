@@ -82,7 +82,7 @@ module _ (w : List ℕ) (room : work_need ≤ length w) where
   flat-table zero h = refl
   flat-table (suc n) h =
       let e : 0 + n ≡ n = omega arith in
+      let at : ℕ → ℕ = λ i. get_or w (JOINS + i) 0 in
       table_three w JOINS n (omega arith)
-      ∙ ap (λ (l : List ℕ). l ++ (get_or w (JOINS + join_cells * n) 0 ∷ (get_or w (JOINS + (join_cells * n + 1)) 0 ∷ (get_or w (JOINS + (join_cells * n + 2)) 0 ∷ []))))
-      (flat-table n (omega arith))
+      ∙ ap (λ (l : List ℕ). l ++ (at (join_cells * n) ∷ (at (join_cells * n + 1) ∷ (at (join_cells * n + 2) ∷ [])))) (flat-table n (omega arith))
       ∙ sym (ap flat_joins (joins_more w 0 n) ∙ flat_more (joins_in w n) (join_in w (0 + n)) ∙ rw e)

@@ -174,15 +174,22 @@ module _ (g : Settings) (s es M w : List ℕ) (h : CanCut s es M) (room : work_n
         })
         (λ z. record { room = omega (arith, room, long); few = omega (arith, z.no_joins); slips_within = λ i q. absurd (omega (arith, z.no_joins)) })
 
+    -- what the tray of the chosen slips is answered, and its legend, are those of the chosen slips of the whole tray
+    answered : r ≡ composed_by (first_row (room_rows c (length l) jr pr)) c
+    answered = F.answer-is ∙ sym (answer-same (length l) jr pr)
+
+    legend_written : l' ≡ written (first_row (room_rows c (length l) jr pr)) (legend_of c) l
+    legend_written =
+        F.legend_is
+        ∙ (ap (λ (rs : List Refusal). written (first_row rs) (legend_of d) l) (sym (rows_same (length l) jr pr))
+        ∙ ap (λ (t : List ℕ). written (first_row (room_rows c (length l) jr pr)) t l) (sym A.legend_is))
+
     -- a refusal tells no join and no record
     pub refused_named : (r.number ≡ 0 → ⊥) → SideFinished (among g M (slips_of s es)) b w w₁ l l' jr pr r
     refused_named z =
         record {
-          answer-is = F.answer-is ∙ sym (answer-same (length l) jr pr);
-          legend_is =
-              F.legend_is
-              ∙ (ap (λ (rs : List Refusal). written (first_row rs) (legend_of d) l) (sym (rows_same (length l) jr pr))
-              ∙ ap (λ (t : List ℕ). written (first_row (room_rows c (length l) jr pr)) t l) (sym A.legend_is));
+          answer-is = answered;
+          legend_is = legend_written;
           same = long;
           joins_are = λ e. absurd (z e);
           records_are = λ e. absurd (z e);
@@ -232,11 +239,8 @@ module _ (g : Settings) (s es M w : List ℕ) (h : CanCut s es M) (room : work_n
         pub named_finished : SideFinished (among g M (slips_of s es)) b w w₃ l l' jr pr r
         named_finished =
             record {
-              answer-is = F.answer-is ∙ sym (answer-same (length l) jr pr);
-              legend_is =
-                  F.legend_is
-                  ∙ (ap (λ (rs : List Refusal). written (first_row rs) (legend_of d) l) (sym (rows_same (length l) jr pr))
-                  ∙ ap (λ (t : List ℕ). written (first_row (room_rows c (length l) jr pr)) t l) (sym A.legend_is));
+              answer-is = answered;
+              legend_is = legend_written;
               same = named-same;
               joins_are = λ z.
                   cells-below NAMED (join_cells * r.joins) T.only (omega (arith, joins_count (composed z), joins_few)) ∙ joins_named (composed z);

@@ -61,7 +61,8 @@ module _ (w : List ℕ) (c : Composing) (b : ℕ) (e : table w RECORDS (record_c
   abbrev M : List ℕ
   M = c.members
 
-  record_cell : (i : ℕ) → i < length M → (j at : ℕ) → j < record_cells → at ≡ record_cells * i + j → cell w RECORDS at ≡ get_or (record_numbers c b (get_or M i 0)) j 0
+  record_cell : (i : ℕ) → i < length M → (j at : ℕ) → j < record_cells → at ≡ record_cells * i + j
+      → cell w RECORDS at ≡ get_or (record_numbers c b (get_or M i 0)) j 0
   record_cell i h j at l q = cell_in w RECORDS (record_cells * length M) (flat_records c b) e at (omega arith) ∙ records_at c b i j at h l q
 
   pub sides_fit : b < 256 → SidesFit w (length M)

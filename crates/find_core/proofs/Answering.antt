@@ -1,6 +1,7 @@
 -- The answer, and what is stored, by whether the call is turned back.
 --   answer-..       == the two cases of the answer
 --   core-..         == a call that is turned back; the steps before and behind the rows of place B
+--   checked_clear, checked_says == the lent letters and ends are those of the tray that the check answers, on the way in and out
 --   none_stored, all_stored, answered_after == behind the last store
 use mathlib.Core.Path.{◌≡◌, refl, sym, ap, ◌∙◌}
 use mathlib.Core.List.{List}
@@ -12,7 +13,9 @@ use Rattle.trays.specs.Slips.{slips_of}
 use Rattle.trays.specs.Faults.{accepted}
 use Rattle.trays.specs.declared.fault.Fault.{Fault}
 use Rattle.trays.specs.Told.{told}
-use Rattle.trays.proofs.Told.{told_speaks}
+use Rattle.std.specs.Borrow.{Bor}
+use Rattle.trays.specs.declared.tray.Tray.{Tray}
+use Rattle.trays.proofs.Told.{told_speaks, at_tray, of_tray}
 use Rattle.matching.specs.Occurrences.{occurrences}
 use Rattle.answers.specs.WorkArea.{WorkKept}
 use Rattle.answers.specs.declared.Search.{Search}
@@ -76,3 +79,10 @@ module _ {s es t w w₁ : List ℕ} {room : ℕ} {r : Search} (c : CoreSays s es
           untouched = λ h. l.none (none_stored (rw (fault_before s es t (length w) room h) h)) ∙ c.answered.work_is.untouched h;
         };
       }
+
+module _ (s es : Bor (List ℕ)) (x : Tray) (e : (x.letters ≡ s) × (x.ends ≡ es)) (t w : List ℕ) where
+  pub checked_clear : accepted ≡ find_before s.now es.now t (length w) → Clear x.letters.now x.ends.now t w
+  checked_clear f = at_tray (λ (a b : List ℕ). Clear a b t w) s es x e (core_clear _ _ _ _ f)
+
+  pub checked_says : (w' : List ℕ) (room : ℕ) (r : Search) → CoreSays x.letters.now x.ends.now t w w' room r → CoreSays s.now es.now t w w' room r
+  checked_says w' room r = of_tray (λ (a b : List ℕ). CoreSays a b t w w' room r) s es x e

@@ -1,11 +1,10 @@
-use Rattle.std.proofs.Common.{◌≡◌, ℕ, ◌/◌, List, length, refl, Err, Ok}
+use Rattle.std.proofs.Common.{◌≡◌, ℕ, List, refl}
 use Rattle.std.proofs.lemmas.Result.{err_from_is_err_and}
-use Rattle.trays.proofs.Told.{at_tray, of_tray}
-use Rattle.answers.specs.Told.{search_from}
+use Rattle.trays.proofs.Told.{of_tray}
 use Rattle.words.specs.Lists.{over}
 use Rattle.store_loops.specs.Firsts.{firsts}
-use Rattle.find_core.specs.Steps.Searching.{Clear, CoreSays, found_at, Left}
-use Rattle.find_core.proofs.Answering.{core_before, core_clear}
+use Rattle.find_core.specs.Steps.Searching.{found_at, Left}
+use Rattle.find_core.proofs.Answering.{core_before, checked_clear, checked_says}
 use Rattle.find_slips.proofs.RecordAnswers.{find_says}
 use Rattle.find_slips.proofs.find_slips.Goals as goal
 
@@ -15,20 +14,20 @@ returns-in_err-tray c =
     rw (p.1, p.2) (find_says (core_before _ _ _ _ _ _ c.in_err-tray.ensures.fault) refl (record { same = refl; none = λ z. refl }))
 
 pub begin-requires : goal.begin-requires
-begin-requires c =
-    let P : List ℕ → List ℕ → Type 0 = λ s es. Clear s es c.args.text.now c.args.work.now in
-    at_tray P c.args.letters c.args.ends c.in_ok-tray.tray c.in_ok-tray.ensures.tray (core_clear _ _ _ _ c.in_ok-tray.ensures.fault)
+begin-requires c = checked_clear _ _ c.in_ok-tray.tray c.in_ok-tray.ensures.tray _ _ c.in_ok-tray.ensures.fault
 
 pub returns-in_err-counts : goal.returns-in_err-counts
 returns-in_err-counts c =
-    let e = c.from_residual-in_err-counts in
-    let p = err_from_is_err_and e.result e.ensures.1 in
-    let P : List ℕ → List ℕ → Type 0 = λ s es. CoreSays s es c.args.text.now c.args.work.now c.begin.new.work (length c.args.found.now) (search_from (Err c.in_err-counts.field-0.0)) in
-    rw (p.1, p.2) (find_says (of_tray P c.args.letters c.args.ends c.in_ok-tray.tray c.in_ok-tray.ensures.tray c.in_err-counts.ensures) refl (record { same = refl; none = λ z. refl }))
+    let p = err_from_is_err_and c.from_residual-in_err-counts.result c.from_residual-in_err-counts.ensures.1 in
+    let says = checked_says _ _ c.in_ok-tray.tray c.in_ok-tray.ensures.tray _ _ _ _ _ c.in_err-counts.ensures in
+    rw (p.1, p.2) (find_says says refl (record { same = refl; none = λ z. refl }))
 
 pub returns : goal.returns
 returns c =
     let n : ℕ = c.in_ok-counts.counts.count in
-    let P : List ℕ → List ℕ → Type 0 = λ s es. CoreSays s es c.args.text.now c.args.work.now c.begin.new.work (length c.args.found.now) (search_from (Ok c.in_ok-counts.counts)) × (c.scan_found.new.found ≡ over (firsts (found_at s es c.args.text.now) n) c.args.found.now) × Left s es c.args.text.now n c.begin.new.work c.scan_found.new.work in
-    let all = of_tray P c.args.letters c.args.ends c.in_ok-tray.tray c.in_ok-tray.ensures.tray (c.in_ok-counts.ensures, c.scan_found.ensures.0, c.scan_found.ensures.1) in
-    find_says all.0 all.1 all.2
+    let says = checked_says _ _ c.in_ok-tray.tray c.in_ok-tray.ensures.tray _ _ _ _ _ c.in_ok-counts.ensures in
+    let P : List ℕ → List ℕ → Type 0 = λ s es.
+    (c.scan_found.new.found ≡ over (firsts (found_at s es c.args.text.now) n) c.args.found.now)
+    × Left s es c.args.text.now n c.begin.new.work c.scan_found.new.work in
+    let stored = of_tray P c.args.letters c.args.ends c.in_ok-tray.tray c.in_ok-tray.ensures.tray (c.scan_found.ensures.0, c.scan_found.ensures.1) in
+    find_says says stored.0 stored.1
