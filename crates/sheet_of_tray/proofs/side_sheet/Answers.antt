@@ -22,7 +22,8 @@ slice_bounds-compose_lines-end-4 c =
 
 pub compose_lines-requires : goal.compose_lines-requires
 compose_lines-requires c =
-    lines_can _ _ _ _ _ _ _ _ _ _ _ c.requires.side_room.tray c.requires.side_room.work (rw (← c.from-c.ensures) at c.compose_staged-staged.ensures) _ c.requires.sheet_room_in_bounds
+    lines_can _ _ _ _ _ _ _ _ _ _ _ c.requires.side_room.tray c.requires.side_room.work
+    (rw (← c.from-c.ensures) at c.compose_staged-staged.ensures) _ c.requires.sheet_room_in_bounds
 
 pub returns : goal.returns
 returns c =
