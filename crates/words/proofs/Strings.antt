@@ -13,7 +13,7 @@ use mathlib.Core.List.{List, [], ◌∷◌, ◌++◌}
 use Prim.Native.Nat.{ℕ, zero, suc, ◌+◌, ◌-◌, ◌≤◌, ◌<◌}
 use native.Mathlib.Omega.{arith}
 use lib.Dec.{eqb, leb, ltb}
-use lib.ListN.{length, take, drop, length-append, take-append-drop}
+use lib.ListN.{length, get_or, take, drop, length-append, take-append-drop}
 use lib.Seq.{drop_at, drop-drop}
 use borrow.Author.Tests.{eqb-true, eq-eqb, leb-true, le-leb, ltb-true, lt-ltb}
 use Rattle.words.specs.Lists.{any}
@@ -61,6 +61,12 @@ pub begins-length : (x y : List ℕ) → begins x y ≡ true → length x ≤ le
 begins-length x y e = omega (arith, rw length-append at (ap length (begins-split x y e)))
 
 -- some letter of a prefix passes a test: so does one of the whole
+pub begins-at : (x y : List ℕ) (k : ℕ) → begins x y ≡ true → k < length x → get_or x k 0 ≡ get_or y k 0
+begins-at [] y k e h = absurd (omega arith)
+begins-at (x ∷ xs) [] k e h = absurd (false≢true e)
+begins-at (x ∷ xs) (y ∷ ys) zero e h = (cons_begins x y xs ys e).0
+begins-at (x ∷ xs) (y ∷ ys) (suc k) e h = begins-at xs ys k (cons_begins x y xs ys e).1 (omega arith)
+
 pub begins-any : (t : ℕ → Bool) (x y : List ℕ) → begins x y ≡ true → any t x ≡ true → any t y ≡ true
 begins-any t [] y e h = absurd (false≢true h)
 begins-any t (x ∷ xs) [] e h = absurd (false≢true e)

@@ -22,8 +22,10 @@ pub fn overlap(a: &[u8], b: &[u8]) -> usize
     ensures { result ≡ W.overlap a.now b.now }
 {
     for i in 0..a.len() {
-        if b.starts_with(&a[i..]) {
-            return a.len() - i;
+        let n = a.len() - i;
+        // Most suffixes that are no prefix differ from it in their last letter.
+        if n <= b.len() && b[n - 1] == a[a.len() - 1] && b.starts_with(&a[i..]) {
+            return n;
         }
     }
     0
