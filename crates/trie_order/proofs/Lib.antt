@@ -1,4 +1,5 @@
 -- The order of members: its laws, the loops, and the proofs of the functions.
+pub mod Ordered
 pub mod Comparing
 pub mod Inserting
 pub mod Precedes

@@ -20,7 +20,7 @@ returns-in-Number c = search (rules, below-number, c.in-Equal.ensures)
 pub returns-then-matches : goal.returns-then-matches
 returns-then-matches c =
     elim c.match-matches.branch [
-      | in-Upper-matches w ↦ below-begun _ _ _ _ _ c.cmp.ensures c.in-Greater.is w.in-Upper-matches.is _ c.starts_with.ensures.value
+      | in-Upper-matches w ↦ below-begun _ _ _ _ _ c.order.ensures c.in-Greater.is w.in-Upper-matches.is _ c.starts_with.ensures.value
       | in_default w ↦ absurd (false≢true (sym w.matches-is ∙ c.if-matches.true))
     ]
 
@@ -28,5 +28,5 @@ pub returns-else-matches : goal.returns-else-matches
 returns-else-matches c =
     elim c.match-matches.branch [
       | in-Upper-matches w ↦ absurd (false≢true (sym c.if-matches.false ∙ w.matches-is))
-      | in_default w ↦ rw w.matches-is (below_none _ _ _ _ _ c.cmp.ensures c.in-Greater.is w.in_default.not-Upper)
+      | in_default w ↦ rw w.matches-is (below_none _ _ _ _ _ c.order.ensures c.in-Greater.is w.in_default.not-Upper)
     ]
