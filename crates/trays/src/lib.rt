@@ -97,5 +97,5 @@ pub struct TraySize {
 pub fn not_stops(x: &[u8]) -> bool
     ensures { result ≡ not_stops x.now }
 {
-    x.iter().any(|b| *b != STOP)
+    x.iter().rev().any(|b| *b != STOP)
 }
