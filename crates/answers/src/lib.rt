@@ -3,6 +3,9 @@
 
 use trays::MAX_SHORTEST;
 
+// 12: a text has at most this many letters.
+pub use trays::MAX_TEXT;
+
 mod numbers;
 
 // The counts of what was composed: slips, kept slips, kept letters, saved letters, legend letters, joins.
