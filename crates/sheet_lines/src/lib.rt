@@ -151,12 +151,12 @@ fn find_line(sheet: &mut Sheet, letters: usize, moves: usize, count: usize)
     sheet.byte(LF);
 }
 
-fn found_line(sheet: &mut Sheet, end: usize, slip: usize)
-    requires { (end < 10 ^ S.place_width) × (slip < 10 ^ 4) × Room S.found_size sheet.old }
-    ensures { Writes S.found_size (S.found_line end slip) sheet.old sheet.new }
+fn found_line(sheet: &mut Sheet, end: usize, found: usize)
+    requires { (end < 10 ^ S.place_width) × (found < 10 ^ 4) × Room S.found_size sheet.old }
+    ensures { Writes S.found_size (S.found_line end found) sheet.old sheet.new }
 {
     sheet.number(PLACE_WIDTH, end);
-    sheet.number(SLIP_WIDTH, slip);
+    sheet.number(SLIP_WIDTH, found);
     sheet.byte(LF);
 }
 

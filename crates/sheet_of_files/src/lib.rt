@@ -25,7 +25,7 @@ pub fn compose_sheet(
 {
     let read = match file_read::read_tray(file, letters, ends, sides) {
         Ok(size) => size,
-        Err(fault) => return sheet_lines::fault_line(fault, out),
+        Err(refused) => return sheet_lines::fault_line(refused, out),
     };
     let n = read.letters as usize;
     let k = read.slips as usize;

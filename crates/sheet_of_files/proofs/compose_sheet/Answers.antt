@@ -8,11 +8,11 @@ use Rattle.sheet_of_files.proofs.compose_sheet.Goals as goal
 
 pub fault_line-requires : goal.fault_line-requires
 fault_line-requires c =
-    compose_can _ _ _ _ _ _ _ c.requires _ _ _ _ c.in-Err.ensures (fault_speaks c.in-Err.fault)
+    compose_can _ _ _ _ _ _ _ c.requires _ _ _ _ c.in-Err.ensures (fault_speaks c.in-Err.refused)
 
 pub returns-in-Err : goal.returns-in-Err
 returns-in-Err c =
-    compose_refused _ _ _ _ _ _ _ c.requires _ _ _ _ c.in-Err.ensures (fault_speaks c.in-Err.fault) _ _ c.fault_line.ensures
+    compose_refused _ _ _ _ _ _ _ c.requires _ _ _ _ c.in-Err.ensures (fault_speaks c.in-Err.refused) _ _ c.fault_line.ensures
 
 pub slice_bounds-tray_sheets-end : goal.slice_bounds-tray_sheets-end
 slice_bounds-tray_sheets-end c =
