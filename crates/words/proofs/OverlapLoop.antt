@@ -9,17 +9,16 @@ use lib.Dec.{eqb}
 use lib.ListN.{length, get_or, take, drop, length-drop, drop_of_length-le}
 use lib.Seq.{drop-cons, take_all, get_or-drop}
 use Rattle.std.specs.Cmp.Lexicographic.{pointwise}
-use Rattle.std.specs.List.{starts_with}
 use Rattle.words.specs.Words.{begins, overlap}
 use Rattle.words.proofs.Strings.{begins-length, begins-at}
 use Rattle.words.proofs.Tests.{by_test}
 
 -- the part `&a[i..]` is the suffix from i on
-suffix : (a : List ℕ) (i : ℕ) → take (length a - i) (drop i a) ≡ drop i a
+pub suffix : (a : List ℕ) (i : ℕ) → take (length a - i) (drop i a) ≡ drop i a
 suffix a i = take_all (length a - i) (drop i a) (rw length-drop (omega arith))
 
 -- the library's word for a prefix
-pointwise-begins : (x b : List ℕ) → pointwise eqb x (take (length x) b) ≡ begins x b
+pub pointwise-begins : (x b : List ℕ) → pointwise eqb x (take (length x) b) ≡ begins x b
 pointwise-begins [] b = refl
 pointwise-begins (y ∷ x) [] = refl
 pointwise-begins (y ∷ x) (z ∷ b) = ap (λ t. eqb y z && t) (pointwise-begins x b)
@@ -28,10 +27,10 @@ begins_nonempty : (x b : List ℕ) → 1 ≤ length x → begins x b ≡ true �
 begins_nonempty [] b h e = refl
 begins_nonempty (y ∷ x) b h e = rw (overlap, e)
 
-pub overlap_hit : (a b : List ℕ) (i : ℕ) (r : Bool) → i < length a → r ≡ starts_with eqb b (take (length a - i) (drop i a)) → r ≡ true →
+pub overlap_hit : (a b : List ℕ) (i : ℕ) (r : Bool) → i < length a → r ≡ begins (take (length a - i) (drop i a)) b → r ≡ true →
     overlap a b ≡ overlap (drop i a) b → length a - i ≡ overlap a b
 overlap_hit a b i r h e t o =
-    let s : begins (drop i a) b ≡ true = sym (pointwise-begins (drop i a) b) ∙ (rw suffix at (sym e ∙ t)) in
+    let s : begins (drop i a) b ≡ true = rw suffix at (sym e ∙ t) in
     let n : length (drop i a) ≡ length a - i = length-drop i a in
     let g : overlap (drop i a) b ≡ length (drop i a) = begins_nonempty (drop i a) b (omega arith) s in
     omega arith
@@ -43,9 +42,9 @@ next a b i h s o =
     let g : overlap (drop i a) b ≡ overlap (drop (suc i) a) b = rw (drop-cons a i 0, overlap, rw (drop-cons a i 0) at s) in
     rw add-one (o ∙ g)
 
-pub overlap_miss : (a b : List ℕ) (i : ℕ) (r : Bool) → i < length a → r ≡ starts_with eqb b (take (length a - i) (drop i a)) → r ≡ false →
+pub overlap_miss : (a b : List ℕ) (i : ℕ) (r : Bool) → i < length a → r ≡ begins (take (length a - i) (drop i a)) b → r ≡ false →
     overlap a b ≡ overlap (drop i a) b → overlap a b ≡ overlap (drop (i + 1) a) b
-overlap_miss a b i r h e t o = next a b i h (sym (pointwise-begins (drop i a) b) ∙ (rw suffix at (sym e ∙ t))) o
+overlap_miss a b i r h e t o = next a b i h (rw suffix at (sym e ∙ t)) o
 
 -- b is too short for it
 pub overlap_long : (a b : List ℕ) (i : ℕ) → i < length a → length b < length a - i → overlap a b ≡ overlap (drop i a) b →

@@ -60,13 +60,14 @@ begins_prefix (suc n) (y ∷ ys) = begins_cons y y (take n ys) ys refl (begins_p
 pub begins-length : (x y : List ℕ) → begins x y ≡ true → length x ≤ length y
 begins-length x y e = omega (arith, rw length-append at (ap length (begins-split x y e)))
 
--- some letter of a prefix passes a test: so does one of the whole
+-- the letters of a prefix are those of the whole
 pub begins-at : (x y : List ℕ) (k : ℕ) → begins x y ≡ true → k < length x → get_or x k 0 ≡ get_or y k 0
 begins-at [] y k e h = absurd (omega arith)
 begins-at (x ∷ xs) [] k e h = absurd (false≢true e)
 begins-at (x ∷ xs) (y ∷ ys) zero e h = (cons_begins x y xs ys e).0
 begins-at (x ∷ xs) (y ∷ ys) (suc k) e h = begins-at xs ys k (cons_begins x y xs ys e).1 (omega arith)
 
+-- some letter of a prefix passes a test: so does one of the whole
 pub begins-any : (t : ℕ → Bool) (x y : List ℕ) → begins x y ≡ true → any t x ≡ true → any t y ≡ true
 begins-any t [] y e h = absurd (false≢true h)
 begins-any t (x ∷ xs) [] e h = absurd (false≢true e)
