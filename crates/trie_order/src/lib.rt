@@ -24,9 +24,9 @@ pub enum Bound {
     Number(usize),
 }
 
-// How many letters of two strings are compared one by one: most strings differ before the last of them. The library, which compares in groups, is quicker
-// where they agree for longer.
-const ONE_BY_ONE: usize = 8;
+// How many letters of two strings are compared at once, where both have as many. Where these agree the library compares the rest, in groups. Most strings
+// differ before, and there one letter after the other, from the first on, is quicker.
+const FIRST_LETTERS: usize = 8;
 
 // The order of two strings, a prefix before its longer words.
 #[inline(always)]
@@ -34,15 +34,15 @@ fn order(a: &[u8], b: &[u8]) -> Ordering
     ensures { result ≡ slice_cmp nat_cmp a.now b.now }
 {
     let shorter = a.len().min(b.len());
-    for n in 0..shorter.min(ONE_BY_ONE) {
+    if FIRST_LETTERS <= shorter && b.starts_with(&a[..FIRST_LETTERS]) {
+        return a[FIRST_LETTERS..].cmp(&b[FIRST_LETTERS..]);
+    }
+    for n in 0..shorter {
         if a[n] != b[n] {
             return a[n].cmp(&b[n]);
         }
     }
-    if shorter <= ONE_BY_ONE {
-        return a.len().cmp(&b.len());
-    }
-    a.cmp(b)
+    a.len().cmp(&b.len())
 }
 
 // Whether slip `number` with the letters `slip` stands below a bound of the typed letters.
@@ -72,6 +72,7 @@ pub fn member_below(tray: Tray<'_>, member: usize, typed: &[u8], bound: Bound) -
 
 // How many members of an order stand below a bound of the typed letters: a binary search.
 // kept: `partition_point` would ask its test of any number, and `member_below` may be asked of numbers of slips alone
+#[inline(always)]
 pub fn rank(tray: Tray<'_>, order: &[u16], typed: &[u8], bound: Bound) -> usize
     requires { O.Rankable tray.letters.now tray.ends.now order.now typed.now bound }
     ensures { result ≡ O.rank_of (slips_of tray.entry.letters.now tray.entry.ends.now) order.now typed.now bound }
